@@ -21,16 +21,16 @@ use Rattle.name_flows.specs.declared.flow.Stage.TheVariants.{Reserving, Making, 
 use Rattle.name_flows.specs.declared.flows.Flows.{Flows}
 use Rattle.name_flows.specs.declared.sent.Sent.TheVariants.{Wipe}
 use Rattle.name_flows.specs.declared.sent.SentLine.{SentLine}
-use Rattle.name_flows.specs.Creates.{full, make_no, make_ok, reserve_no, reserve_ok, reserve_refused, reserved_by, serial_in}
-use Rattle.name_flows.specs.Deletes.{closes, deactivate_ok, delete_ok}
+use Rattle.name_flows.specs.Creates.{make_no, make_ok, reserve_no, reserve_ok, reserve_refused, reserved_by, serial_in}
+use Rattle.name_flows.specs.Deletes.{deactivate_ok, delete_ok}
 use Rattle.name_flows.specs.Heard.{behind_first, heard_step, is_same_tag, no_of, ok_of, taken}
 use Rattle.name_flows.specs.Lines.{unasked_line}
 use Rattle.name_flows.specs.Running.{answers_for, done, ended, flow_at, forget, goes_on, has_stage, is_at, is_same_stage}
-use Rattle.name_flows.specs.Steps.{FlowStep, changing, finished, given, silent}
+use Rattle.name_flows.specs.Steps.{FlowStep, silent}
 use Rattle.name_flows.proofs.OneStep.{flow_ended, flow_ended-other, flow_goes_on, flow_goes_on-other}
 use Rattle.name_links.proofs.Sends.{heard_is, step_by}
 use Rattle.name_commands.specs.Moves.{Move, ends, heard_move, heard_move_by, is_sent, reserved_move}
-use Rattle.name_commands.specs.Places.{NamePlace, nowhere, waits, sends, hears, IsAt, flow_line, on_name, stage_line}
+use Rattle.name_commands.specs.Places.{NamePlace, nowhere, waits, sends, hears, FlowsShow, flow_line, on_name, stage_line}
 use Rattle.name_commands.specs.Whose.{Whose, is_own_line, is_own_told, own_flow}
 use Rattle.name_commands.proofs.Own.{all_behind, asked_own, kept, on_itself, on_other, own_here, own_is, unasked_own}
 use Rattle.name_commands.proofs.Steps.{Makes}
@@ -38,35 +38,37 @@ use Rattle.name_commands.proofs.Steps.{Makes}
 -- ---- the first line is its own
 
 -- so it has a flow
-pub record HasTalk (whose : Whose) (flows : Flows) (line : SentLine) (lines : List SentLine) (name : List ℕ) (flow : Flow) : Type 0 where
-  pub at : IsAt whose flows (sends name flow)
+pub record FirstIsIts (whose : Whose) (flows : Flows) (line : SentLine) (lines : List SentLine) (name : List ℕ) (flow : Flow) : Type 0 where
+  pub at : FlowsShow whose flows (sends name flow)
   pub line_is : line ≡ flow_line name flow
   pub rest : filter (is_own_line whose) lines ≡ []
 
 -- whether the line is under way or its response
-pub as_sent : (whose : Whose) (flows : Flows) (name : List ℕ) (flow : Flow) (it : MResponse) → IsAt whose flows (hears name flow it) → IsAt whose flows (sends name flow)
+pub as_sent : (whose : Whose) (flows : Flows) (name : List ℕ) (flow : Flow) (it : MResponse) → FlowsShow whose flows (hears name flow it)
+    → FlowsShow whose flows (sends name flow)
 as_sent whose flows name flow it at = record { waiting = at.waiting; running = at.running; sent = at.sent; numbered = at.numbered }
 
-module _ (whose : Whose) (flows : Flows) (line : SentLine) (lines : List SentLine) (first : flows.sent ≡ line ∷ lines) (own : is_own_line whose line ≡ true) where
+module _ (whose : Whose) (flows : Flows) (line : SentLine) (lines : List SentLine) (first : flows.sent ≡ line ∷ lines)
+    (own : is_own_line whose line ≡ true) where
   first_kept : filter (is_own_line whose) flows.sent ≡ line ∷ filter (is_own_line whose) lines
   first_kept = ap (λ (l : List SentLine). filter (is_own_line whose) l) first ∙ kept (is_own_line whose) line lines own
 
-  pub has_talk : (name : List ℕ) (flow : Flow) → IsAt whose flows (sends name flow) → HasTalk whose flows line lines name flow
-  has_talk name flow at =
+  pub first_is_its : (name : List ℕ) (flow : Flow) → FlowsShow whose flows (sends name flow) → FirstIsIts whose flows line lines name flow
+  first_is_its name flow at =
       let same : line ∷ filter (is_own_line whose) lines ≡ flow_line name flow ∷ [] = sym first_kept ∙ at.sent in
       record { at = at; line_is = cc; rest = cc }
 
   -- wherever it is
-  pub some_talk : (place : NamePlace) → IsAt whose flows place → (name : List ℕ) × (flow : Flow) × HasTalk whose flows line lines name flow
-  some_talk nowhere at = absurd (let no : line ∷ filter (is_own_line whose) lines ≡ [] = sym first_kept ∙ at.sent in cc)
-  some_talk (waits ask) at = absurd (let no : line ∷ filter (is_own_line whose) lines ≡ [] = sym first_kept ∙ at.sent in cc)
-  some_talk (sends name flow) at = (name, flow, has_talk name flow at)
-  some_talk (hears name flow it) at = (name, flow, has_talk name flow (as_sent whose flows name flow it at))
+  pub some_first : (place : NamePlace) → FlowsShow whose flows place → (name : List ℕ) × (flow : Flow) × FirstIsIts whose flows line lines name flow
+  some_first nowhere at = absurd (let no : line ∷ filter (is_own_line whose) lines ≡ [] = sym first_kept ∙ at.sent in cc)
+  some_first (waits ask) at = absurd (let no : line ∷ filter (is_own_line whose) lines ≡ [] = sym first_kept ∙ at.sent in cc)
+  some_first (sends name flow) at = (name, flow, first_is_its name flow at)
+  some_first (hears name flow it) at = (name, flow, first_is_its name flow (as_sent whose flows name flow it at))
 
 -- ---- what the step makes of it
 
 module _ (whose : Whose) (flows : Flows) (held : Names) (order : IsInOrder (slice_cmp nat_cmp) flows.running) (line : SentLine) (lines : List SentLine)
-    (first : flows.sent ≡ line ∷ lines) (name : List ℕ) (flow : Flow) (talk : HasTalk whose flows line lines name flow) where
+    (first : flows.sent ≡ line ∷ lines) (name : List ℕ) (flow : Flow) (talk : FirstIsIts whose flows line lines name flow) where
   there : (flow_at flows name ≡ Some flow) × (whose flow.ask ≡ true)
   there = own_is whose (flow_at flows name) flow ((talk.at).running name ∙ on_itself name flow)
 
@@ -84,7 +86,9 @@ module _ (whose : Whose) (flows : Flows) (held : Names) (order : IsInOrder (slic
   gone other = by (same_or_other (slice_cmp nat_cmp) names_apart name other)
     where
       by : (name ≡ other) ⊎ (name ≢ other) → own_flow whose (flow_at (ended then name) other) ≡ None
-      by (inl same) = subst (λ (n : List ℕ). own_flow whose (flow_at (ended then name) n) ≡ None) same (ap (λ (f : Option Flow). own_flow whose f) (flow_ended then name order))
+      by (inl same) =
+          subst (λ (n : List ℕ). own_flow whose (flow_at (ended then name) n) ≡ None) same
+          (ap (λ (f : Option Flow). own_flow whose f) (flow_ended then name order))
       by (inr ne) = ap (λ (f : Option Flow). own_flow whose f) (flow_ended-other then name other ne order) ∙ elsewhere other ne
 
   abbrev staged : Stage → Flow
@@ -95,7 +99,8 @@ module _ (whose : Whose) (flows : Flows) (held : Names) (order : IsInOrder (slic
     where
       by : (name ≡ other) ⊎ (name ≢ other) → own_flow whose (flow_at (goes_on then name stage) other) ≡ on_name name (staged stage) other
       by (inl same) = subst (λ (n : List ℕ). own_flow whose (flow_at (goes_on then name stage) n) ≡ on_name name (staged stage) n) same
-          (ap (λ (f : Option Flow). own_flow whose f) (flow_goes_on then name stage flow there.0) ∙ own_here whose (staged stage) there.1 ∙ sym (on_itself name (staged stage)))
+          (ap (λ (f : Option Flow). own_flow whose f) (flow_goes_on then name stage flow there.0) ∙ own_here whose (staged stage) there.1
+          ∙ sym (on_itself name (staged stage)))
       by (inr ne) =
           ap (λ (f : Option Flow). own_flow whose f) (flow_goes_on-other then name other stage (λ e. ne (sym e))) ∙ elsewhere other ne
           ∙ sym (on_other name (staged stage) other ne)
@@ -114,7 +119,8 @@ module _ (whose : Whose) (flows : Flows) (held : Names) (order : IsInOrder (slic
 
   -- or goes on
   goes_so : (stage : Stage) (made : Option BackendRecord)
-      → Makes whose held (record { flows = goes_on then name stage; entry = made; sends = flow_line name (staged stage) ∷ []; answers = [] }) (is_sent name (staged stage))
+      → Makes whose held (record { flows = goes_on then name stage; entry = made; sends = flow_line name (staged stage) ∷ []; answers = [] })
+      (is_sent name (staged stage))
   goes_so stage made = record {
     at = record {
       waiting = (talk.at).waiting;
@@ -137,25 +143,28 @@ module _ (whose : Whose) (flows : Flows) (held : Names) (order : IsInOrder (slic
   if_at true step move e makes = makes
   if_at false step move e makes = cc
 
+  as_move : (step : FlowStep) (one other : Move) → one ≡ other → Makes whose held step one → Makes whose held step other
+  as_move step one other same makes = subst (λ (m : Move). Makes whose held step m) same makes
+
   module _ (found : Bool) (text : List ℕ) where
     ok_so : (stage : Stage) → flow.stage ≡ stage → (move : Move) → heard_move_by name flow stage (response.Ok text) ≡ Some move
         → Makes whose held (ok_of then held found (tag_of flow.ask) text (stage_line stage name)) move
     unfolding ok_of reserve_ok make_ok deactivate_ok delete_ok
     ok_so Reserving e move is =
         let same : reserved_move name flow (serial_in text) ≡ move = cc in
-        subst (λ (m : Move). Makes whose held (cond (is_at then name Reserving) (reserved_by then (tag_of flow.ask) name (serial_in text)) (silent then)) m) same
+        as_move _ _ move same
         (if_at (is_at then name Reserving) _ _ (at_stage Reserving e) (reserved_so (serial_in text)))
     ok_so Making e move is =
         let same : ends flow (done nothing) ≡ move = cc in
-        subst (λ (m : Move). Makes whose held (cond (is_at then name Making) (changing (ended then name) (entry.Opened name) (answers_for (done nothing) (flow_at then name))) (silent then)) m) same
+        as_move _ _ move same
         (if_at (is_at then name Making) _ _ (at_stage Making e) (ends_so (done nothing) (Some (entry.Opened name)) [] refl))
     ok_so Deactivating e move is =
         let same : is_sent name (staged Deleting) ≡ move = cc in
-        subst (λ (m : Move). Makes whose held (cond (is_at then name Deactivating) (given (goes_on then name Deleting) (closes (tag_of flow.ask) name)) (silent then)) m) same
+        as_move _ _ move same
         (if_at (is_at then name Deactivating) _ _ (at_stage Deactivating e) (goes_so Deleting (Some (entry.Closing name))))
     ok_so Deleting e move is =
         let same : ends flow (done nothing) ≡ move = cc in
-        subst (λ (m : Move). Makes whose held (cond (is_at then name Deleting) (changing (ended then name) (forget name) (answers_for (done nothing) (flow_at then name))) (silent then)) m) same
+        as_move _ _ move same
         (if_at (is_at then name Deleting) _ _ (at_stage Deleting e) (ends_so (done nothing) (Some (forget name)) [] refl))
 
     no_so : (stage : Stage) → flow.stage ≡ stage → (move : Move) → heard_move_by name flow stage (response.No text) ≡ Some move
@@ -163,13 +172,14 @@ module _ (whose : Whose) (flows : Flows) (held : Names) (order : IsInOrder (slic
     unfolding no_of reserve_no make_no
     no_so Reserving e move is =
         let same : ends flow (reserve_refused text) ≡ move = cc in
-        subst (λ (m : Move). Makes whose held (cond (is_at then name Reserving) (finished then name (reserve_refused text)) (silent then)) m) same
+        as_move _ _ move same
         (if_at (is_at then name Reserving) _ _ (at_stage Reserving e) (ends_so (reserve_refused text) None [] refl))
     no_so Making e move is =
         let same : ends flow (done Limit) ≡ move = cc in
-        subst (λ (m : Move). Makes whose held (cond (is_at then name Making) (full then name) (silent then)) m) same
+        as_move _ _ move same
         (if_at (is_at then name Making) _ _ (at_stage Making e)
-        (ends_so (done Limit) (Some (forget name)) (unasked_line (Wipe name) ∷ []) (ap (λ b. cond b (unasked_line (Wipe name) ∷ []) []) (unasked_own whose (Wipe name)))))
+        (ends_so (done Limit) (Some (forget name)) (unasked_line (Wipe name) ∷ [])
+        (ap (λ b. cond b (unasked_line (Wipe name) ∷ []) []) (unasked_own whose (Wipe name)))))
     no_so Deactivating e move is = cc
     no_so Deleting e move is = cc
 
@@ -180,7 +190,8 @@ module _ (whose : Whose) (flows : Flows) (held : Names) (order : IsInOrder (slic
   bad_as_no text Deactivating = refl
   bad_as_no text Deleting = refl
 
-  told_none : (n : List ℕ) (move : Move) (it : MResponse) → ((stage : Stage) → heard_move_by name flow stage it ≡ None) → heard_move_by name flow flow.stage it ≡ Some move → ⊥
+  told_none : (n : List ℕ) (move : Move) (it : MResponse) → ((stage : Stage) → heard_move_by name flow stage it ≡ None)
+      → heard_move_by name flow flow.stage it ≡ Some move → ⊥
   told_none n move it none is = (let no : None ≡ Some move = sym (none flow.stage) ∙ is in cc)
 
   module _ (tag : Tag) (same : is_same_tag line.tag tag ≡ true) where

@@ -47,11 +47,11 @@ use Rattle.back_links.specs.Written.{response_message}
 use Rattle.back_links.proofs.Queues.{first_of, IsFirst}
 use Rattle.back_links.proofs.StepsSaid.{StepSaid, heard_said}
 use Rattle.back_links.proofs.Texts.{command_is, response_read}
-use Rattle.name_commands.specs.BackSteps.{AnswerMoves, IsHeard, IsLeftOrTested, is_left, is_tested, OtherAnswersLeave}
-use Rattle.name_commands.specs.Moves.{Move, heard_move, heard_move_by, tested_move, IsLeft, IsMoved}
-use Rattle.name_commands.specs.Places.{NamePlace, nowhere, waits, sends, hears, FlowsTell, IsAt, IsPlaced, answer_message, asks_at, downs_at, may_come, stage_line, ups_at}
+use Rattle.name_commands.specs.BackSteps.{AnswerMoves, IsHeard, LeavesOrTests, is_left, is_tested, OtherAnswersLeave}
+use Rattle.name_commands.specs.Moves.{Move, heard_move, heard_move_by, tested_move, LeavesCommand, MovesCommand}
+use Rattle.name_commands.specs.Places.{NamePlace, nowhere, waits, sends, hears, FlowsTell, FlowsShow, TalkShows, answer_message, asks_at, downs_at, may_come, stage_line, ups_at}
 use Rattle.name_commands.specs.Whose.{Whose, is_command, is_own, is_own_line, is_own_message, own_flow}
-use Rattle.name_commands.proofs.AnswerLaw.{as_sent, has_talk, heard_makes, HasTalk as HasLine, some_talk}
+use Rattle.name_commands.proofs.AnswerLaw.{as_sent, first_is_its, heard_makes, FirstIsIts, some_first}
 use Rattle.name_commands.proofs.OtherLaw.{as_many, heard_leaves, IsFree}
 use Rattle.name_commands.proofs.Own.{is_itself, is_only, kept, not_here, on_itself, own_is, passed, same_tag}
 use Rattle.name_commands.proofs.ResyncLaw.{EndsResync, IsTested, list_ends}
@@ -60,7 +60,8 @@ use Rattle.name_commands.proofs.Steps.{Leaves, Makes}
 
 -- ---- a response that may come does something
 
-move_is : (name : List ℕ) (flow : Flow) (stage : Stage) (it : MResponse) → may_come stage it ≡ true → (move : Move) × (heard_move_by name flow stage it ≡ Some move)
+move_is : (name : List ℕ) (flow : Flow) (stage : Stage) (it : MResponse) → may_come stage it ≡ true
+    → (move : Move) × (heard_move_by name flow stage it ≡ Some move)
 move_is name flow Reserving (response.Ok text) e = (_, refl)
 move_is name flow Reserving (response.No text) e = (_, refl)
 move_is name flow Reserving (response.Bad text) e = (_, refl)
@@ -100,7 +101,8 @@ list_end what it e = cc
 -- the tag tells its command
 tag_told : (tag : Tag) → IsTextTag tag → line_ask (mupdate_tag_text tag) ≡ ask_id_of tag
 tag_told tag spelled =
-    sym (command_under tag command.Noop) ∙ command_tells ((command_line exact).text (tag, command.Noop)) (tag, command.Noop) (command_is (tag, command.Noop) (spelled, tt))
+    sym (command_under tag command.Noop)
+    ∙ command_tells ((command_line exact).text (tag, command.Noop)) (tag, command.Noop) (command_is (tag, command.Noop) (spelled, tt))
 
 pub record IsAnswered (node : BackNode) (message : LinkMsg) : Type 0 where
   pub tag : Tag
@@ -131,9 +133,11 @@ module _ (master : Master) (name : List ℕ) (node : BackNode) (up down : List L
   answered_by [] first =
       absurd (none_answers first_response.it first_response.more talk.holds.names.is.tied.left
       (subst (λ ds. AreAnswers [] ds talk.holds.names.is.tied.left) first_response.are
-      (subst (λ (ls : List SentLine). AreAnswers (tagged_by node.flows.found ls) talk.downs talk.holds.names.is.tied.left) first talk.holds.names.is.tied.answers)))
+      (subst (λ (ls : List SentLine). AreAnswers (tagged_by node.flows.found ls) talk.downs talk.holds.names.is.tied.left) first
+      talk.holds.names.is.tied.answers)))
   answered_by (line ∷ lines) first =
-      let spelled : AllByRecursion HasResponseTexts (first_response.it ∷ first_response.more) = subst (AllByRecursion HasResponseTexts) first_response.are talk.written.responses in
+      let spelled : AllByRecursion HasResponseTexts (first_response.it ∷ first_response.more) =
+      subst (AllByRecursion HasResponseTexts) first_response.are talk.written.responses in
       record {
         tag = (first_response.it).0;
         it = (first_response.it).1;
@@ -142,7 +146,9 @@ module _ (master : Master) (name : List ℕ) (node : BackNode) (up down : List L
         line = line;
         lines = lines;
         first = first;
-        under = same_tag line.tag (first_response.it).0 (same link first_response.it first_response.more talk.holds.names.ready talk.holds.names.is first_response.are line lines first);
+        under =
+            same_tag line.tag (first_response.it).0
+            (same link first_response.it first_response.more talk.holds.names.ready talk.holds.names.is first_response.are line lines first);
       }
 
   pub answered : IsAnswered node message
@@ -178,7 +184,7 @@ module _ (master : Master) (name : List ℕ) (node : BackNode) (up down : List L
     -- ---- the response to its line
 
     module _ (mailbox : List ℕ) (flow : Flow) (it : MResponse) (own : is_own_message whose message ≡ true)
-        (placed : IsPlaced whose node up (message ∷ down) (hears mailbox flow it)) where
+        (placed : TalkShows whose node up (message ∷ down) (hears mailbox flow it)) where
       own_line : is_own_line whose answered.line ≡ true
       own_line = sym (message_whose whose) ∙ own
 
@@ -198,8 +204,9 @@ module _ (master : Master) (name : List ℕ) (node : BackNode) (up down : List L
           ap (λ (x : Tag × MResponse). x.1) (just (answered.tag, answered.it) (tag_of flow.ask, it)
           (sym (response_read (answered.tag, answered.it) answered.spelled) ∙ ap (λ (b : List ℕ). response_in b) text_is ∙ (placed.known).read))
 
-      its_line : HasLine whose node.flows answered.line answered.lines mailbox flow
-      its_line = has_talk whose node.flows answered.line answered.lines answered.first own_line mailbox flow (as_sent whose node.flows mailbox flow it placed.at)
+      its_line : FirstIsIts whose node.flows answered.line answered.lines mailbox flow
+      its_line =
+          first_is_its whose node.flows answered.line answered.lines answered.first own_line mailbox flow (as_sent whose node.flows mailbox flow it placed.at)
 
       move_of : (move : Move) × (heard_move mailbox flow it ≡ Some move)
       move_of = move_is mailbox flow flow.stage it (placed.known).fits
@@ -213,13 +220,14 @@ module _ (master : Master) (name : List ℕ) (node : BackNode) (up down : List L
       heard = record {
         move = move_of.0;
         is = move_of.1;
-        moved = subst (λ (next : BackActed). IsMoved whose master.me node next up down move_of.0) (sym takes_is)
+        moved = subst (λ (next : BackActed). MovesCommand whose master.me node next up down move_of.0) (sym takes_is)
             (is_moved whose master name node step talk.each talk.said step_said step_answers up down move_of.0 step_makes placed.up_is none_left);
       }
 
     -- ---- any other
 
-    module _ (place : NamePlace) (tells : FlowsTell node.flows) (other : is_own_message whose message ≡ false) (placed : IsPlaced whose node up (message ∷ down) place) where
+    module _ (place : NamePlace) (tells : FlowsTell node.flows) (other : is_own_message whose message ≡ false)
+        (placed : TalkShows whose node up (message ∷ down) place) where
       other_line : is_own_line whose answered.line ≡ false
       other_line = sym (message_whose whose) ∙ other
 
@@ -241,7 +249,7 @@ module _ (master : Master) (name : List ℕ) (node : BackNode) (up down : List L
       free_of id is =
           let others : whose id ≡ false = ap (λ (i : Option AskId). is_own whose i) (sym is) ∙ other_line in
           let its : is_own_line (is_command id) answered.line ≡ true = ap (λ (i : Option AskId). is_own (is_command id) i) is ∙ is_itself id in
-          let found = some_talk (is_command id) node.flows answered.line answered.lines answered.first its (tells id).0 (tells id).1 in
+          let found = some_first (is_command id) node.flows answered.line answered.lines answered.first its (tells id).0 (tells id).1 in
           let there = own_is (is_command id) (flow_at node.flows found.0) found.1 ((found.2.at).running found.0 ∙ on_itself found.0 found.1) in
           let ask_is : found.1.ask ≡ id = is_only id found.1.ask there.1 in
           let not_own : whose found.1.ask ≡ false = ap (λ (i : AskId). whose i) ask_is ∙ others in
@@ -262,15 +270,16 @@ module _ (master : Master) (name : List ℕ) (node : BackNode) (up down : List L
       free_by (Some id) is = free_of id is
       free_by None is = untagged answered.line.what (subst (λ (i : Option AskId). is_tagged_as (is_some i) answered.line.what) is tagged)
 
-      left_as : Leaves whose node.flows step → IsLeftOrTested whose master.me node message up down place
+      left_as : Leaves whose node.flows step → LeavesOrTests whose master.me node message up down place
       left_as leaves =
-          is_left (subst (λ (next : BackActed). IsLeft whose master.me next up down place) (sym takes_is)
+          is_left (subst (λ (next : BackActed). LeavesCommand whose master.me next up down place) (sym takes_is)
           (leaves_it whose master name node step talk.each talk.said step_said step_answers up down place leaves placed.at placed.up_is down_rest placed.known))
 
-      plain : is_list_end (Some answered.line.what) answered.it ≡ false → IsLeftOrTested whose master.me node message up down place
+      plain : is_list_end (Some answered.line.what) answered.it ≡ false → LeavesOrTests whose master.me node message up down place
       plain e =
-          left_as (heard_leaves whose node.flows node.home.held talk.holds.names.ready.running answered.tag answered.line answered.lines answered.first same_under other_line
-          (free_by (ask_id_of answered.line.tag) refl) answered.it e)
+          left_as
+          (heard_leaves whose node.flows node.home.held talk.holds.names.ready.running answered.tag answered.line answered.lines answered.first same_under
+          other_line (free_by (ask_id_of answered.line.tag) refl) answered.it e)
 
       -- LIST's OK
 
@@ -282,31 +291,33 @@ module _ (master : Master) (name : List ℕ) (node : BackNode) (up down : List L
           (free_by (ask_id_of answered.line.tag) refl))
           text what talk.holds.names.ready.waiting)
 
-      ended_left : EndsResync whose node.flows node.home.held step → asks_at place ≡ [] → IsLeftOrTested whose master.me node message up down place
+      ended_left : EndsResync whose node.flows node.home.held step → asks_at place ≡ [] → LeavesOrTests whose master.me node message up down place
       ended_left ended none =
           let nothing = ended.silent (placed.at.waiting ∙ none) in
-          is_left (subst (λ (next : BackActed). IsLeft whose master.me next up down place) (sym takes_is)
+          is_left (subst (λ (next : BackActed). LeavesCommand whose master.me next up down place) (sym takes_is)
           (left_so whose master name node step talk.each talk.said step_said step_answers up down place (ended.left place none placed.at) nothing.0 nothing.1
           placed.up_is down_rest placed.known))
 
-      ended_tested : (ask : NameAsk) → place ≡ waits ask → IsTested whose node.flows node.home.held step ask → IsLeftOrTested whose master.me node message up down place
+      ended_tested : (ask : NameAsk) → place ≡ waits ask → IsTested whose node.flows node.home.held step ask
+          → LeavesOrTests whose master.me node message up down place
       ended_tested ask is tested =
+          let move : Move = tested_move ask (refusal tested.then node.home.held ask.name ask.kind) in
           is_tested ask tested.then is (ap (λ (next : BackActed). next.state.flows.resync) takes_is ∙ tested.over) tested.up tested.master
-          (subst (λ (next : BackActed). IsMoved whose master.me node next up down (tested_move ask (refusal tested.then node.home.held ask.name ask.kind))) (sym takes_is)
-          (is_moved whose master name node step talk.each talk.said step_said step_answers up down (tested_move ask (refusal tested.then node.home.held ask.name ask.kind)) tested.makes
+          (subst (λ (next : BackActed). MovesCommand whose master.me node next up down move) (sym takes_is)
+          (is_moved whose master name node step talk.each talk.said step_said step_answers up down move tested.makes
           (placed.up_is ∙ ap (λ (p : NamePlace). ups_at node.flows.me p) is) (down_rest ∙ ap (λ (p : NamePlace). downs_at p) is)))
 
-      ended_by : EndsResync whose node.flows node.home.held step → (p : NamePlace) → place ≡ p → IsLeftOrTested whose master.me node message up down place
+      ended_by : EndsResync whose node.flows node.home.held step → (p : NamePlace) → place ≡ p → LeavesOrTests whose master.me node message up down place
       ended_by ended nowhere is = ended_left ended (ap (λ (p : NamePlace). asks_at p) is)
-      ended_by ended (waits ask) is = ended_tested ask is (ended.tested ask (subst (λ (p : NamePlace). IsAt whose node.flows p) is placed.at))
+      ended_by ended (waits ask) is = ended_tested ask is (ended.tested ask (subst (λ (p : NamePlace). FlowsShow whose node.flows p) is placed.at))
       ended_by ended (sends n f) is = ended_left ended (ap (λ (p : NamePlace). asks_at p) is)
       ended_by ended (hears n f r) is = ended_left ended (ap (λ (p : NamePlace). asks_at p) is)
 
-      by_end : (end : Bool) → is_list_end (Some answered.line.what) answered.it ≡ end → IsLeftOrTested whose master.me node message up down place
+      by_end : (end : Bool) → is_list_end (Some answered.line.what) answered.it ≡ end → LeavesOrTests whose master.me node message up down place
       by_end false e = plain e
       by_end true e = let parts = list_end answered.line.what answered.it e in ended_by (ends_so parts.1 parts.0 parts.2) place refl
 
-      heard_other : IsLeftOrTested whose master.me node message up down place
+      heard_other : LeavesOrTests whose master.me node message up down place
       heard_other = by_end (is_list_end (Some answered.line.what) answered.it) refl
 
 pub answer_moves : AnswerMoves

@@ -19,7 +19,7 @@ use Rattle.name_flows.specs.Link.{waiting_in}
 use Rattle.name_flows.specs.Running.{flow_at}
 use Rattle.name_links.proofs.Rounds.{carried_out}
 use Rattle.name_commands.specs.Moves.{asked_move, asked_move_by, tested_move}
-use Rattle.name_commands.specs.Places.{nowhere, IsAt, IsNumbered, flow_line, on_name, stage_line}
+use Rattle.name_commands.specs.Places.{nowhere, FlowsShow, IsNumbered, flow_line, on_name, stage_line}
 use Rattle.name_commands.specs.Whose.{Whose, is_own_ask, is_own_line, is_own_told, own_flow}
 use Rattle.name_commands.proofs.Own.{asked_own, kept, kept_behind, not_here, on_itself, on_other, own_here, passed, passed_behind}
 use Rattle.name_commands.proofs.Steps.{Leaves, Makes}
@@ -74,16 +74,22 @@ begun_others whose flows held ask other granted name = by (same_or_other (slice_
 
     by : (ask.name ≡ name) ⊎ (ask.name ≢ name) → own_flow whose (flow_at (begun_flow flows ask) name) ≡ own_flow whose (flow_at flows name)
     by (inl same) = subst (λ (n : List ℕ). own_flow whose (flow_at (begun_flow flows ask) n) ≡ own_flow whose (flow_at flows n)) same
-        (ap (λ (f : Option Flow). own_flow whose f) (found_at flows ask) ∙ not_here whose (flow_for ask) other ∙ ap (λ (f : Option Flow). own_flow whose f) (sym none))
+        (ap (λ (f : Option Flow). own_flow whose f) (found_at flows ask) ∙ not_here whose (flow_for ask) other
+        ∙ ap (λ (f : Option Flow). own_flow whose f) (sym none))
     by (inr ne) = ap (λ (f : Option Flow). own_flow whose f) (found_other flows ask name (λ e. ne (sym e)))
 
 module _ (whose : Whose) (flows : Flows) (held : Names) (ask : NameAsk) (fit : IsNumbered ask.id) where
   -- ---- its own
 
-  module _ (own : whose ask.id ≡ true) (at : IsAt whose flows nowhere) where
+  module _ (own : whose ask.id ≡ true) (at : FlowsShow whose flows nowhere) where
     tested_makes : (body : Option AnswerBody) → Makes whose held (tested_by flows ask body) (tested_move ask body)
     tested_makes (Some body) = record {
-      at = record { waiting = at.waiting; running = at.running; sent = ap (λ (l : List SentLine). filter (is_own_line whose) l) (append-nil flows.sent) ∙ at.sent; numbered = tt };
+      at = record {
+        waiting = at.waiting;
+        running = at.running;
+        sent = ap (λ (l : List SentLine). filter (is_own_line whose) l) (append-nil flows.sent) ∙ at.sent;
+        numbered = tt;
+      };
       lines = refl;
       answers = kept (is_own_told whose) _ [] own;
     }
@@ -91,7 +97,9 @@ module _ (whose : Whose) (flows : Flows) (held : Names) (ask : NameAsk) (fit : I
       at = record {
         waiting = at.waiting;
         running = begun_running whose flows ask own at.running;
-        sent = kept_behind (is_own_line whose) flows.sent (begun_line ask) (begun_own whose ask true fit own) at.sent ∙ ap (λ (line : SentLine). line ∷ []) (begun_is ask);
+        sent =
+            kept_behind (is_own_line whose) flows.sent (begun_line ask) (begun_own whose ask true fit own) at.sent
+            ∙ ap (λ (line : SentLine). line ∷ []) (begun_is ask);
         numbered = fit;
       };
       lines = begun_sent whose ask fit own;

@@ -32,8 +32,8 @@ use Rattle.back_links.proofs.Queues.{owed_sends}
 use Rattle.back_links.proofs.StepsSaid.{StepSaid, asked_said}
 use Rattle.back_links.proofs.Texts.{ask_spelled}
 use Rattle.name_commands.specs.BackSteps.{AskMoves, MessagesLeave, NoneAtFirst, OtherAsksLeave}
-use Rattle.name_commands.specs.Moves.{asked_move, IsLeft, IsMoved}
-use Rattle.name_commands.specs.Places.{NamePlace, nowhere, IsPlaced}
+use Rattle.name_commands.specs.Moves.{asked_move, LeavesCommand, MovesCommand}
+use Rattle.name_commands.specs.Places.{NamePlace, nowhere, TalkShows}
 use Rattle.name_commands.specs.Whose.{Whose, asks_for, is_own_message, is_own_out}
 use Rattle.name_commands.proofs.AskLaw.{asked_leaves, asked_makes}
 use Rattle.name_commands.proofs.Own.{passed}
@@ -56,21 +56,21 @@ module _ (whose : Whose) (master : Master) (name : List ℕ) (node : BackNode) (
     named_answers : AnswersOnly (λ front. front ≢ master.me) node.flows (asked_step node.flows node.home.held it)
     named_answers = ask_answers (λ front. front ≢ master.me) node.flows node.home.held it ne talk.each.owes
 
-    own_named : whose ask.id ≡ true → IsPlaced whose node up down nowhere
-        → IsMoved whose master.me node (done_by (talks node (asked_step node.flows node.home.held it))) up down (asked_move node.flows node.home.held it)
+    own_named : whose ask.id ≡ true → TalkShows whose node up down nowhere
+        → MovesCommand whose master.me node (done_by (talks node (asked_step node.flows node.home.held it))) up down (asked_move node.flows node.home.held it)
     own_named own placed =
         is_moved whose master name node (asked_step node.flows node.home.held it) talk.each talk.said named_said named_answers up down
         (asked_move node.flows node.home.held it) (asked_makes whose node.flows node.home.held it (fits.0, fits.1) own placed.at) placed.up_is placed.down_is
 
-    other_named : (place : NamePlace) → whose ask.id ≡ false → IsPlaced whose node up down place
-        → IsLeft whose master.me (done_by (talks node (asked_step node.flows node.home.held it))) up down place
+    other_named : (place : NamePlace) → whose ask.id ≡ false → TalkShows whose node up down place
+        → LeavesCommand whose master.me (done_by (talks node (asked_step node.flows node.home.held it))) up down place
     other_named place other placed =
         leaves_it whose master name node (asked_step node.flows node.home.held it) talk.each talk.said named_said named_answers up down place
         (asked_leaves whose node.flows node.home.held it (fits.0, fits.1) other) placed.at placed.up_is placed.down_is placed.known
 
   -- ---- anything else
 
-  nothing_comes : (place : NamePlace) → IsPlaced whose node up down place → IsLeft whose master.me (done_by (passed_over node)) up down place
+  nothing_comes : (place : NamePlace) → TalkShows whose node up down place → LeavesCommand whose master.me (done_by (passed_over node)) up down place
   nothing_comes place placed = record {
     placed = record {
       at = placed.at;
@@ -84,16 +84,18 @@ module _ (whose : Whose) (master : Master) (name : List ℕ) (node : BackNode) (
   not_its_master : is_my_master node from ≡ false
   not_its_master = other_name from node.flows.master (λ e. ne (e ∙ talk.each.its_master))
 
-  passed_by : (place : NamePlace) → IsPlaced whose node up down place → (it : UpToEntry)
-      → IsLeft whose master.me (done_by (cond (is_my_master node from) it (passed_over node))) up down place
+  passed_by : (place : NamePlace) → TalkShows whose node up down place → (it : UpToEntry)
+      → LeavesCommand whose master.me (done_by (cond (is_my_master node from) it (passed_over node))) up down place
   passed_by place placed it =
-      subst (λ (mine : Bool). IsLeft whose master.me (done_by (cond mine it (passed_over node))) up down place) (sym not_its_master) (nothing_comes place placed)
+      subst (λ (mine : Bool). LeavesCommand whose master.me (done_by (cond mine it (passed_over node))) up down place) (sym not_its_master)
+      (nothing_comes place placed)
 
   module _ (ask : FrontAsk) where
     abbrev served : BackActed
     served = done_by (serves node (back_plan node.home (FromFront from ask)))
 
-    messages_placed : (place : NamePlace) → IsPlaced whose node up down place → IsPlaced whose served.state (up ++ messages_to master.me served.outs) down place
+    messages_placed : (place : NamePlace) → TalkShows whose node up down place
+        → TalkShows whose served.state (up ++ messages_to master.me served.outs) down place
     messages_placed place placed =
         let silent : messages_to master.me served.outs ≡ [] = owed_sends master.me from ask.id served.state.home (ask_plan node.home ask) ne in
         record {
@@ -112,17 +114,17 @@ module _ (whose : Whose) (master : Master) (name : List ℕ) (node : BackNode) (
         (Mark ask.id (told_after home plan.telling).counts ∷ []) other
         ∙ passed (is_own_out whose) (Mark ask.id (told_after home plan.telling).counts) [] other
 
-    messages_left : (place : NamePlace) → whose ask.id ≡ false → IsPlaced whose node up down place → IsLeft whose master.me served up down place
+    messages_left : (place : NamePlace) → whose ask.id ≡ false → TalkShows whose node up down place → LeavesCommand whose master.me served up down place
     messages_left place other placed =
         record { placed = messages_placed place placed; outs = others_owed other served.state.home (ask_plan node.home ask) }
 
-    other_asked : (place : NamePlace) → whose ask.id ≡ false → IsPlaced whose node up down place → (kind : Option AskKind) → fits_by kind ask
-        → IsLeft whose master.me (done_by (ask_by node from ask kind)) up down place
+    other_asked : (place : NamePlace) → whose ask.id ≡ false → TalkShows whose node up down place → (kind : Option AskKind) → fits_by kind ask
+        → LeavesCommand whose master.me (done_by (ask_by node from ask kind)) up down place
     other_asked place other placed (Some kind) fits = other_named ask kind fits place other placed
     other_asked place other placed None fits = messages_left place other placed
 
-  other_comes : (message : LinkMsg) (place : NamePlace) → IsFitting message → asks_for whose message ≡ false → IsPlaced whose node up down place
-      → IsLeft whose master.me (node_takes node from message) up down place
+  other_comes : (message : LinkMsg) (place : NamePlace) → IsFitting message → asks_for whose message ≡ false → TalkShows whose node up down place
+      → LeavesCommand whose master.me (node_takes node from message) up down place
   unfolding taken_up
   other_comes Up place fits other placed = passed_by place placed (talks node (up_step node.flows))
   other_comes End place fits other placed = passed_by place placed (talks node (end_step node.flows))
@@ -137,7 +139,7 @@ named_is node from ask kind is = ap (λ (k : Option AskKind). done_by (ask_by no
 
 pub ask_moves : AskMoves
 ask_moves whose master name node up down given from ask kind talk ne fits is own placed =
-    subst (λ (next : BackActed). IsMoved whose master.me node next up down (asked_move node.flows node.home.held (name_ask from ask kind)))
+    subst (λ (next : BackActed). MovesCommand whose master.me node next up down (asked_move node.flows node.home.held (name_ask from ask kind)))
     (sym (named_is node from ask (Some kind) is))
     (own_named whose master name node up down given from talk ne ask kind (subst (λ (k : Option AskKind). fits_by k ask) is fits) own placed)
 
@@ -147,5 +149,5 @@ other_asks_leave whose master name node up down given from message place talk ne
 
 pub messages_leave : MessagesLeave
 messages_leave whose master name node up down given from ask place talk ne is placed =
-    subst (λ (next : BackActed). IsPlaced whose next.state (up ++ messages_to master.me next.outs) down place) (sym (named_is node from ask None is))
+    subst (λ (next : BackActed). TalkShows whose next.state (up ++ messages_to master.me next.outs) down place) (sym (named_is node from ask None is))
     (messages_placed whose master name node up down given from talk ne ask place placed)

@@ -47,7 +47,8 @@ unfolding see mine_of is_active_mine
 active_here b None e = cc
 active_here b (Some it) e = by (is_same_server (it.place).server b) refl e
   where
-    by : (here : Bool) → is_same_server (it.place).server b ≡ here → is_active_mine (mine_of (cond here (own (kind_of it.state)) other)) ≡ true → IsActiveHere b (Some it)
+    by : (here : Bool) → is_same_server (it.place).server b ≡ here → is_active_mine (mine_of (cond here (own (kind_of it.state)) other)) ≡ true
+        → IsActiveHere b (Some it)
     by true h f = record { here = record { it = it; there = refl; at = is_the_same (it.place).server b h }; active = active_state it.state f }
     by false h f = cc
 
@@ -74,7 +75,8 @@ kept_here b (Some it) e = by (is_same_server (it.place).server b) refl e
 pub at_server : (b server : Server) → server ≡ b → pointwise nat_eq b server ≡ true
 at_server b server e = subst (λ (s : Server). pointwise nat_eq b s ≡ true) (sym e) (is_itself b)
 
-deactivate_granted : (b : Server) (found : Option Record) (place : Location) → place.server ≡ b → IsActiveHere b found → deactivate_refusal (Backend b) found place ≡ None
+deactivate_granted : (b : Server) (found : Option Record) (place : Location) → place.server ≡ b → IsActiveHere b found
+    → deactivate_refusal (Backend b) found place ≡ None
 unfolding deactivate_refusal
 deactivate_granted b found place here active =
     let there = active.here.there in
@@ -104,10 +106,13 @@ module _ (link : OneLink) (is : LinkIs link) (m : List ℕ) (tag : Tag) (more : 
       ∙ ap (λ (t : Bool). items_if m (cond t (Some (sent_deactivate m)) None) ++ rest) (is_itself b)
       ∙ ap (λ (t : Bool). cond t (deactivate ∷ []) [] ++ rest) (is_itself m)
 
-  pub deactivate_goes : link.ups ≡ (tag, command.Deactivate m link.flows.me) ∷ more → deactivate_refusal (Backend b) (record_at link.table m) link.flows.me ≡ None
+  pub deactivate_goes : link.ups ≡ (tag, command.Deactivate m link.flows.me) ∷ more
+      → deactivate_refusal (Backend b) (record_at link.table m) link.flows.me ≡ None
   unfolding FirstItem first_line_ok back_of
   deactivate_goes e =
-      let first = subst (λ (u : List Item). FirstItem (λ x. first_line_ok (mine_of (see (known link.table m) b)) (ctl_of true link.held link.flows m) x ≡ true) u) (deactivate_first e) (is.named m).up_first in
+      let first =
+      subst (λ (u : List Item). FirstItem (λ x. first_line_ok (mine_of (see (known link.table m) b)) (ctl_of true link.held link.flows m) x ≡ true) u)
+      (deactivate_first e) (is.named m).up_first in
       deactivate_granted b (record_at link.table m) link.flows.me refl (active_here b (record_at link.table m) first)
 
   make_first : (acl : List ℕ) → is_asked tag ≡ true → link.ups ≡ (tag, command.Activate m link.flows.me acl) ∷ more → (back_of link m).up ≡ make ∷ rest
@@ -122,7 +127,9 @@ module _ (link : OneLink) (is : LinkIs link) (m : List ℕ) (tag : Tag) (more : 
   pub make_finds : (acl : List ℕ) → is_asked tag ≡ true → link.ups ≡ (tag, command.Activate m link.flows.me acl) ∷ more → IsHere b (record_at link.table m)
   unfolding EachItem line_ok back_of
   make_finds acl asked e =
-      let fits = subst (λ (u : List Item). EachItem (λ x. line_ok (mine_of (see (known link.table m) b)) (ctl_of true link.held link.flows m) x ≡ true) u) (make_first acl asked e) (is.named m).ups in
+      let fits =
+      subst (λ (u : List Item). EachItem (λ x. line_ok (mine_of (see (known link.table m) b)) (ctl_of true link.held link.flows m) x ≡ true) u)
+      (make_first acl asked e) (is.named m).ups in
       bare_here b (record_at link.table m)
       (and_right _ (is_bare (mine_of (see (known link.table m) b))) (and_left _ _ (and_left _ _ fits.0)))
 
@@ -136,6 +143,8 @@ module _ (link : OneLink) (is : LinkIs link) (m : List ℕ) (tag : Tag) (more : 
   pub delete_goes : is_asked tag ≡ true → link.ups ≡ (tag, command.Delete m) ∷ more → delete_refusal (Backend b) (record_at link.table m) ≡ None
   unfolding EachItem line_ok back_of
   delete_goes asked e =
-      let fits = subst (λ (u : List Item). EachItem (λ x. line_ok (mine_of (see (known link.table m) b)) (ctl_of true link.held link.flows m) x ≡ true) u) (delete_first asked e) (is.named m).ups in
+      let fits =
+      subst (λ (u : List Item). EachItem (λ x. line_ok (mine_of (see (known link.table m) b)) (ctl_of true link.held link.flows m) x ≡ true) u)
+      (delete_first asked e) (is.named m).ups in
       delete_granted b (record_at link.table m) (kept_here b (record_at link.table m)
       (and_right _ (is_kept (mine_of (see (known link.table m) b))) (and_left _ _ (and_left _ _ fits.0))))

@@ -64,7 +64,8 @@ module _ (whose : Whose) where
   watchers_unmarked [] line = All-nil IsUnmarked
   watchers_unmarked (w ∷ watchers) line = All-cons IsUnmarked (watcher_told line w) (map (watcher_told line) watchers) tt (watchers_unmarked watchers line)
 
-  changes_unmarked : (streams : List (List ℕ × Tag)) (watchers : List (ℕ × Tag)) (change : Option MasterRecord) → All IsUnmarked (change_outs streams watchers change)
+  changes_unmarked : (streams : List (List ℕ × Tag)) (watchers : List (ℕ × Tag)) (change : Option MasterRecord)
+      → All IsUnmarked (change_outs streams watchers change)
   unfolding change_outs
   changes_unmarked streams watchers None = All-nil IsUnmarked
   changes_unmarked streams watchers (Some change) =
@@ -103,7 +104,8 @@ module _ (whose : Whose) where
       (All-append IsUnmarked (change_outs master.streams master.watchers reply.entry) (mark_outs from tag reply.counts)
       (changes_unmarked master.streams master.watchers reply.entry) marks)
 
-  settled_unmarked : (planned : Planned) (from : Sender) (tag : Tag) (step : StreamStep) → All IsUnmarked planned.outs → All IsUnmarked (settled planned from tag step).outs
+  settled_unmarked : (planned : Planned) (from : Sender) (tag : Tag) (step : StreamStep) → All IsUnmarked planned.outs
+      → All IsUnmarked (settled planned from tag step).outs
   unfolding settled
   settled_unmarked planned from tag stream.Stays are = are
   settled_unmarked planned from tag stream.Begins are = are
@@ -113,12 +115,14 @@ module _ (whose : Whose) where
   unfolding bad_reply
   bad_unmarked master from tag = replied_unmarked master from tag bad_reply (none_counted from tag)
 
-  command_unmarked : (master : Master) (from : Sender) (tag : Tag) (it : MCommand) → is_own whose (ask_id_of tag) ≡ false → All IsUnmarked (command_step master from tag it).outs
+  command_unmarked : (master : Master) (from : Sender) (tag : Tag) (it : MCommand) → is_own whose (ask_id_of tag) ≡ false
+      → All IsUnmarked (command_step master from tag it).outs
   unfolding command_step bad_step
   command_unmarked master from tag it other = by (is_stream master from && not (may_follow_update it))
     where
       by : (bad : Bool)
-          → All IsUnmarked (cond bad (replied master from tag bad_reply) (settled (replied master from tag (reply_to master.table from it)) from tag (stream_step it))).outs
+          → All IsUnmarked
+          (cond bad (replied master from tag bad_reply) (settled (replied master from tag (reply_to master.table from it)) from tag (stream_step it))).outs
       by true = bad_unmarked master from tag
       by false =
           settled_unmarked (replied master from tag (reply_to master.table from it)) from tag (stream_step it)
@@ -135,7 +139,8 @@ module _ (whose : Whose) where
   unfolding line_step
   line_unmarked master from line other = line_unmarked_by master from line (command_in line) refl other
 
-  says_unmarked : (master : Master) (node : List ℕ) (message : LinkMsg) → is_own_message whose message ≡ false → All IsUnmarked (node_says master node message).outs
+  says_unmarked : (master : Master) (node : List ℕ) (message : LinkMsg) → is_own_message whose message ≡ false
+      → All IsUnmarked (node_says master node message).outs
   unfolding node_says
   says_unmarked master node (Line bytes) other = line_unmarked master (sender_of master node) bytes other
   says_unmarked master node Up other = All-nil IsUnmarked
@@ -145,7 +150,8 @@ module _ (whose : Whose) where
 
   -- ---- and messages
 
-  others_line : (ask : Option AskId) (bytes : List ℕ) → is_own whose ask ≡ false → (line_ask bytes ≡ ask) ⊎ (line_ask bytes ≡ None) → is_own whose (line_ask bytes) ≡ false
+  others_line : (ask : Option AskId) (bytes : List ℕ) → is_own whose ask ≡ false → (line_ask bytes ≡ ask) ⊎ (line_ask bytes ≡ None)
+      → is_own whose (line_ask bytes) ≡ false
   others_line ask bytes other (inl is) = ap (λ (i : Option AskId). is_own whose i) is ∙ other
   others_line ask bytes other (inr none) = ap (λ (i : Option AskId). is_own whose i) none
 
@@ -160,7 +166,8 @@ module _ (whose : Whose) where
   others_out ask (Mark id counts) other of unmarked = unmarked
   others_out ask (tell id how) other of unmarked = unmarked
 
-  others_outs : (ask : Option AskId) (outs : List Out) → is_own whose ask ≡ false → All (IsOf ask) outs → All IsUnmarked outs → filter (is_own_out whose) outs ≡ []
+  others_outs : (ask : Option AskId) (outs : List Out) → is_own whose ask ≡ false → All (IsOf ask) outs → All IsUnmarked outs
+      → filter (is_own_out whose) outs ≡ []
   others_outs ask [] other of unmarked = refl
   others_outs ask (out ∷ outs) other of unmarked =
       passed (is_own_out whose) out outs (others_out ask out other (All-head (IsOf ask) out outs of) (All-head IsUnmarked out outs unmarked))
@@ -181,7 +188,8 @@ module _ (whose : Whose) where
       (says_unmarked master node message other)
 
   -- so it sends nobody a message of theirs
-  sent_by : (to node : List ℕ) (message : LinkMsg) (rest : List LinkMsg) (here : Bool) → is_own_message whose message ≡ false → filter (is_own_message whose) rest ≡ []
+  sent_by : (to node : List ℕ) (message : LinkMsg) (rest : List LinkMsg) (here : Bool) → is_own_message whose message ≡ false
+      → filter (is_own_message whose) rest ≡ []
       → filter (is_own_message whose) (cond here (message ∷ []) [] ++ rest) ≡ []
   sent_by to node message rest true other none = passed (is_own_message whose) message rest other ∙ none
   sent_by to node message rest false other none = none
@@ -198,7 +206,8 @@ module _ (whose : Whose) where
 
   -- what of theirs is sent a node is what of theirs goes out to it
   sent_same : (here own : Bool) (message : LinkMsg) (rest : List LinkMsg) → is_own_message whose message ≡ own
-      → filter (is_own_message whose) (cond here (message ∷ []) [] ++ rest) ≡ cond own (cond here (message ∷ []) [] ++ filter (is_own_message whose) rest) (filter (is_own_message whose) rest)
+      → filter (is_own_message whose) (cond here (message ∷ []) [] ++ rest) ≡ cond own (cond here (message ∷ []) [] ++ filter (is_own_message whose) rest)
+      (filter (is_own_message whose) rest)
   sent_same true true message rest e = kept (is_own_message whose) message rest e
   sent_same true false message rest e = passed (is_own_message whose) message rest e
   sent_same false true message rest e = refl
@@ -209,7 +218,8 @@ module _ (whose : Whose) where
       → filter (is_own_message whose) (messages_to node (Link to message ∷ outs))
       ≡ messages_to node (cond own (Link to message ∷ filter (is_own_out whose) outs) (filter (is_own_out whose) outs))
   out_same node to message outs true e more =
-      sent_same (pointwise nat_eq to node) true message (messages_to node outs) e ∙ ap (λ (l : List LinkMsg). cond (pointwise nat_eq to node) (message ∷ []) [] ++ l) more
+      sent_same (pointwise nat_eq to node) true message (messages_to node outs) e
+      ∙ ap (λ (l : List LinkMsg). cond (pointwise nat_eq to node) (message ∷ []) [] ++ l) more
   out_same node to message outs false e more = sent_same (pointwise nat_eq to node) false message (messages_to node outs) e ∙ more
 
   mark_same : (node : List ℕ) (out : Out) (outs : List Out) (own : Bool) → message_to node out ≡ []
@@ -217,7 +227,8 @@ module _ (whose : Whose) where
   mark_same node out outs true e = sym (ap (λ (l : List LinkMsg). l ++ messages_to node outs) e)
   mark_same node out outs false e = refl
 
-  pub sent_of_outs : (node : List ℕ) (outs : List Out) → filter (is_own_message whose) (messages_to node outs) ≡ messages_to node (filter (is_own_out whose) outs)
+  pub sent_of_outs : (node : List ℕ) (outs : List Out)
+      → filter (is_own_message whose) (messages_to node outs) ≡ messages_to node (filter (is_own_out whose) outs)
   sent_of_outs node [] = refl
   sent_of_outs node (Client conn bytes ∷ outs) = sent_of_outs node outs
   sent_of_outs node (Close conn ∷ outs) = sent_of_outs node outs
@@ -244,7 +255,8 @@ module _ (whose : Whose) where
   changes_none streams watchers None none = refl
   changes_none streams watchers (Some change) none =
       filter-append (is_own_out whose) (map (node_told (change_line change)) streams) (map (watcher_told (change_line change)) watchers)
-      ∙ ap (λ (l : List Out). l ++ filter (is_own_out whose) (map (watcher_told (change_line change)) watchers)) (streams_none streams (change_line change) none)
+      ∙ ap (λ (l : List Out). l ++ filter (is_own_out whose) (map (watcher_told (change_line change)) watchers))
+      (streams_none streams (change_line change) none)
       ∙ watchers_none watchers (change_line change)
 
   pub its_mark : (id : AskId) (counts : Option Counts) → whose id ≡ true → filter (is_own_out whose) (mark_of (Some id) counts) ≡ mark_of (Some id) counts

@@ -1,10 +1,10 @@
 -- The master takes a line: a command's own, or another.
-use Rattle.std.proofs.Common.{◌≡◌, ℕ, Bool, true, false, cond, is_some, List, [], ◌∷◌, ◌++◌, map, filter, Option, None, Some, refl, sym, ap, subst, ◌∙◌}
+use Rattle.std.proofs.Common.{◌≡◌, ℕ, Bool, true, cond, is_some, List, [], ◌∷◌, ◌++◌, map, filter, Option, None, Some, refl, sym, ap, subst, ◌∙◌}
 use Rattle.std.specs.List.{AllByRecursion}
 use Rattle.link_msg.specs.declared.counts.Counts.{Counts}
 use Rattle.link_msg.specs.declared.message.LinkMsg.{LinkMsg}
 use Rattle.link_msg.specs.declared.out.Out.{Out}
-use Rattle.link_msg.specs.declared.out.Out.TheVariants.{Link}
+use Rattle.link_msg.specs.declared.out.Out.TheVariants.{Client, Close, Link, Mark, Told as tell}
 use Rattle.mail_message.specs.FirstAcl.{first_acl}
 use Rattle.master_core.specs.declared.master.Master.{Master}
 use Rattle.master_core.specs.declared.refusal.Refusal.{Refusal}
@@ -12,7 +12,8 @@ use Rattle.master_core.specs.declared.reply.Reply.{Reply}
 use Rattle.master_core.specs.declared.sender.Sender.TheVariants.{Backend}
 use Rattle.master_core.specs.Changes.{change_outs}
 use Rattle.master_core.specs.Linked.{let_out, node_says}
-use Rattle.master_core.specs.Outside.{Stepped}
+use Rattle.master_core.specs.Outside.{bytes_in, connect, Stepped}
+use Rattle.master_core.proofs.OutsideAlone.{AreItsOwn, bytes_alone, connects_alone}
 use Rattle.master_core.specs.Refusals.{activate_refusal, deactivate_refusal, delete_refusal, reserve_refusal}
 use Rattle.master_core.specs.Replies.{activate_by, activate_reply, deactivate_by, deactivate_reply, delete_by, delete_reply, reply_to, reserve_by, reserve_reply}
 use Rattle.master_core.specs.Step.{answered, mark_of, mark_outs, replied}
@@ -46,8 +47,8 @@ use Rattle.back_links.proofs.FirstLine.{IsItsLine, its_line, next, own_messages,
 use Rattle.back_links.proofs.Queues.{first_of, IsFirst}
 use Rattle.back_links.proofs.StepsSaid.{sends_spelled}
 use Rattle.back_links.proofs.Texts.{command_read, response_read}
-use Rattle.name_commands.specs.MasterSteps.{flow_reply, IsPassed, IsTaken, LineTaken, LineTakenAlone, OtherLinesPass, OtherNodesPass}
-use Rattle.name_commands.specs.Places.{NamePlace, sends, IsPlaced, answer_message, flow_line, flow_message, may_come, stage_command}
+use Rattle.name_commands.specs.MasterSteps.{ClientsPass, flow_reply, IsPassed, IsTaken, LineTaken, LineTakenAlone, OtherLinesPass, OtherNodesPass}
+use Rattle.name_commands.specs.Places.{NamePlace, sends, TalkShows, answer_message, flow_line, flow_message, may_come, stage_command}
 use Rattle.name_commands.specs.Replied.{IsReplied}
 use Rattle.name_commands.specs.Whose.{Whose, is_own, is_own_line, is_own_message, is_own_out}
 use Rattle.name_commands.proofs.GrantedLaw.{deactivate_goes, delete_goes, IsHere, make_finds}
@@ -86,7 +87,7 @@ just one other e = cc
 
 module _ (whose : Whose) (master : Master) (name : List ℕ) (node : BackNode) (up down : List LinkMsg) (given : Given) (message : LinkMsg)
     (mailbox : List ℕ) (flow : Flow) (talk : HasTalk master name node (message ∷ up) down given) (tells : TellNobody master.streams)
-    (own : is_own_message whose message ≡ true) (placed : IsPlaced whose node (message ∷ up) down (sends mailbox flow)) where
+    (own : is_own_message whose message ≡ true) (placed : TalkShows whose node (message ∷ up) down (sends mailbox flow)) where
   abbrev me : Location
   me = node.flows.me
 
@@ -153,7 +154,8 @@ module _ (whose : Whose) (master : Master) (name : List ℕ) (node : BackNode) (
   at_name : server_of link ≡ name
   at_name = talk.each.named
 
-  one_by : (stage : Stage) → talk.ups ≡ (tag, stage_command me mailbox stage) ∷ first.more → HasOneAnswer stage (reply_to master.table (Backend name) (stage_command me mailbox stage))
+  one_by : (stage : Stage) → talk.ups ≡ (tag, stage_command me mailbox stage) ∷ first.more
+      → HasOneAnswer stage (reply_to master.table (Backend name) (stage_command me mailbox stage))
   unfolding reply_to reserve_reply activate_reply deactivate_reply delete_reply
   one_by Reserving e = reserve_one master.table mailbox me (reserve_refusal master.table (Backend name) (record_at master.table mailbox) me)
   one_by Making e = activate_one name mailbox me (first_acl mailbox) (activate_refusal master.table (Backend name) (record_at master.table mailbox) me)
@@ -195,7 +197,8 @@ module _ (whose : Whose) (master : Master) (name : List ℕ) (node : BackNode) (
 
   responses_spelled : AllByRecursion HasResponseTexts (map (under tag) reply.answers)
   responses_spelled =
-      under_spelled tag reply.answers spelled.0 (answers_told master.table talk.told it_its.low name tag (stage_command me mailbox flow.stage) it_its.line it_its.meant)
+      under_spelled tag reply.answers spelled.0
+      (answers_told master.table talk.told it_its.low name tag (stage_command me mailbox flow.stage) it_its.line it_its.meant)
 
   answer_spelled : HasResponseTexts (tag, response_of)
   answer_spelled = let all : AllByRecursion HasResponseTexts (map (under tag) (response_of ∷ [])) =
@@ -228,7 +231,8 @@ module _ (whose : Whose) (master : Master) (name : List ℕ) (node : BackNode) (
     placed = record {
       at = record { waiting = placed.at.waiting; running = placed.at.running; sent = placed.at.sent; numbered = placed.at.numbered };
       up_is = none_left;
-      down_is = all_behind (is_own_message whose) down (messages_to name (node_says master name message).outs) (answer_message flow response_of ∷ []) placed.down_is
+      down_is =
+          all_behind (is_own_message whose) down (messages_to name (node_says master name message).outs) (answer_message flow response_of ∷ []) placed.down_is
           (ap (λ (l : List LinkMsg). filter (is_own_message whose) l) sent_are ∙ kept (is_own_message whose) (answer_message flow response_of) [] own_answer);
       known = record { fits = one.fits; read = response_read (tag, response_of) answer_spelled };
     };
@@ -249,7 +253,8 @@ line_taken_alone whose master name other node another up down its_up its_down gi
     let counts = (flow_reply master.table name node.flows.me mailbox flow).counts in
     let none : filter (is_own_message whose) (messages_to other (node_says master name message).outs) ≡ [] =
     sent_of_outs whose other (node_says master name message).outs ∙ ap (λ (l : List Out). messages_to other l) it.outs
-    ∙ ap (λ (b : Bool). cond b (answer_message flow it.it ∷ []) [] ++ messages_to other (mark_of (Some flow.ask) counts)) (other_name name other (λ e. ne (sym e)))
+    ∙ ap (λ (b : Bool). cond b (answer_message flow it.it ∷ []) [] ++ messages_to other (mark_of (Some flow.ask) counts))
+    (other_name name other (λ e. ne (sym e)))
     ∙ no_mark_sent other flow.ask counts in
     record {
       at = nothing.at;
@@ -258,35 +263,46 @@ line_taken_alone whose master name other node another up down its_up its_down gi
       known = tt;
     }
 
--- ---- another is
+-- ---- a step that lets out nothing about it
 
-module _ (whose : Whose) (master : Master) (name other : List ℕ) (node : BackNode) (up down : List LinkMsg) (message : LinkMsg) (place : NamePlace)
-    (tells : TellNobody master.streams) (others : is_own_message whose message ≡ false) where
-  nothing : filter (is_own_out whose) (node_says master other message).outs ≡ []
-  nothing = says_others whose master other message tells others
-
-  passes : IsPlaced whose node up down place → IsPassed whose name (node_says master other message) node up down place
-  passes placed = record {
-    placed = record {
-      at = placed.at;
-      up_is = placed.up_is;
-      down_is = none_behind (is_own_message whose) down (messages_to name (node_says master other message).outs)
-          (none_sent whose name (node_says master other message).outs nothing) ∙ placed.down_is;
-      known = placed.known;
-    };
-    outs = nothing;
-  }
+passes : (whose : Whose) (name : List ℕ) (next : Stepped) (node : BackNode) (up down : List LinkMsg) (place : NamePlace)
+    → filter (is_own_out whose) next.outs ≡ [] → TalkShows whose node up down place → IsPassed whose name next node up down place
+passes whose name next node up down place nothing placed = record {
+  placed = record {
+    at = placed.at;
+    up_is = placed.up_is;
+    down_is = none_behind (is_own_message whose) down (messages_to name next.outs) (none_sent whose name next.outs nothing) ∙ placed.down_is;
+    known = placed.known;
+  };
+  outs = nothing;
+}
 
 pub other_nodes_pass : OtherNodesPass
 other_nodes_pass whose master name other node up down message place tells others placed =
-    passes whose master name other node up down message place tells others placed
+    passes whose name (node_says master other message) node up down place (says_others whose master other message tells others) placed
 
 pub other_lines_pass : OtherLinesPass
 other_lines_pass whose master name node up down message place tells others placed =
-    passes whose master name name node up down message place tells others
+    passes whose name (node_says master name message) node up down place (says_others whose master name message tells others)
     (record {
       at = placed.at;
       up_is = sym (passed (is_own_message whose) message up others) ∙ placed.up_is;
       down_is = placed.down_is;
       known = placed.known;
     })
+
+clients_outs : (whose : Whose) (conn : ℕ) (outs : List Out) → AreItsOwn conn outs → filter (is_own_out whose) outs ≡ []
+unfolding AreItsOwn
+clients_outs whose conn [] own = refl
+clients_outs whose conn (Client other bytes ∷ outs) own = clients_outs whose conn outs own.1
+clients_outs whose conn (Close other ∷ outs) own = clients_outs whose conn outs own.1
+clients_outs whose conn (Link node message ∷ outs) own = absurd own.0
+clients_outs whose conn (Mark id counts ∷ outs) own = absurd own.0
+clients_outs whose conn (tell id how ∷ outs) own = absurd own.0
+
+pub clients_pass : ClientsPass
+clients_pass whose master name node up down place conn placed = (
+  passes whose name (connect master conn) node up down place (clients_outs whose conn (connect master conn).outs (connects_alone master conn).own) placed,
+  λ bytes. passes whose name (bytes_in master conn bytes) node up down place
+      (clients_outs whose conn (bytes_in master conn bytes).outs (bytes_alone master conn bytes).own) placed,
+)

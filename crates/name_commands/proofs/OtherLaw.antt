@@ -90,7 +90,9 @@ module _ (whose : Whose) (flows : Flows) (held : Names) (order : IsInOrder (slic
           ∙ not_here whose (record flow { stage = stage }) (is_not whose flow (ap (λ (f : Option Flow). own_flow whose f) (sym e) ∙ free)) ∙ sym free
 
       by : (name ≡ other) ⊎ (name ≢ other) → own_flow whose (flow_at (goes_on flows name stage) other) ≡ own_flow whose (flow_at flows other)
-      by (inl same) = subst (λ (n : List ℕ). own_flow whose (flow_at (goes_on flows name stage) n) ≡ own_flow whose (flow_at flows n)) same (by_flow (flow_at flows name) refl)
+      by (inl same) =
+          subst (λ (n : List ℕ). own_flow whose (flow_at (goes_on flows name stage) n) ≡ own_flow whose (flow_at flows n)) same
+          (by_flow (flow_at flows name) refl)
       by (inr ne) = ap (λ (f : Option Flow). own_flow whose f) (flow_goes_on-other flows name other stage (λ e. ne (sym e)))
 
   ends_leaves : (name : List ℕ) (body : AnswerBody) (made : Option BackendRecord) (sends : List SentLine) → own_flow whose (flow_at flows name) ≡ None
@@ -142,7 +144,8 @@ module _ (whose : Whose) (flows : Flows) (held : Names) (order : IsInOrder (slic
   no_leaves text (Reserve name) free = if_leaves (is_at flows name Reserving) _ (ends_leaves name (reserve_refused text) None [] free refl)
   no_leaves text (Make name) free =
       if_leaves (is_at flows name Making) _
-      (ends_leaves name (done Limit) (Some (forget name)) (unasked_line (Wipe name) ∷ []) free (passed (is_own_line whose) (unasked_line (Wipe name)) [] (unasked_own whose (Wipe name))))
+      (ends_leaves name (done Limit) (Some (forget name)) (unasked_line (Wipe name) ∷ []) free
+      (passed (is_own_line whose) (unasked_line (Wipe name)) [] (unasked_own whose (Wipe name))))
   no_leaves text List_line free = silent_leaves
   no_leaves text (Again name) free = silent_leaves
   no_leaves text (Deactivate name) free = silent_leaves
@@ -184,7 +187,8 @@ module _ (whose : Whose) (flows : Flows) (held : Names) (order : IsInOrder (slic
   found_leaves name server true = record { waiting = refl; running = λ name. refl; sent = refl; lines = refl; answers = refl }
   found_leaves name server false = record { waiting = refl; running = λ name. refl; sent = refl; lines = refl; answers = refl }
 
-  record_leaves : (name : List ℕ) (place : Location) (is_active : Bool) (what : Sent) → Leaves whose flows (record_of flows held name place is_active (Some what))
+  record_leaves : (name : List ℕ) (place : Location) (is_active : Bool) (what : Sent)
+      → Leaves whose flows (record_of flows held name place is_active (Some what))
   record_leaves name place is_active List_line = listed_leaves name is_active
   record_leaves name place is_active (Find sought) = found_leaves sought place.server (is_closing (held_at held sought))
   record_leaves name place is_active (Reserve m) = silent_leaves
@@ -196,7 +200,8 @@ module _ (whose : Whose) (flows : Flows) (held : Names) (order : IsInOrder (slic
 
   -- the link comes up
   pub up_leaves : Leaves whose flows (up_step flows)
-  up_leaves = record { waiting = refl; running = λ name. refl; sent = refl; lines = passed (is_own_line whose) resync_line [] (resync_own whose); answers = refl }
+  up_leaves =
+      record { waiting = refl; running = λ name. refl; sent = refl; lines = passed (is_own_line whose) resync_line [] (resync_own whose); answers = refl }
 
 -- ---- a response to the first line
 

@@ -145,6 +145,7 @@ pub on_other : (name : List ℕ) (flow : Flow) (other : List ℕ) → name ≢ o
 on_other name flow other ne = ap (λ b. cond b (Some flow) None) (not_equal (slice_cmp nat_cmp) names_apart name other ne)
 
 -- the answer to another's flow is another's
-pub answers_none : (whose : Whose) (body : AnswerBody) (found : Option Flow) → own_flow whose found ≡ None → filter (is_own_told whose) (answers_for body found) ≡ []
+pub answers_none : (whose : Whose) (body : AnswerBody) (found : Option Flow) → own_flow whose found ≡ None
+    → filter (is_own_told whose) (answers_for body found) ≡ []
 answers_none whose body None none = refl
 answers_none whose body (Some flow) none = passed (is_own_told whose) _ [] (is_not whose flow none)

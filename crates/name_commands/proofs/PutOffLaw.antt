@@ -29,7 +29,8 @@ delete_by master true down = not_now refl
 delete_by master false true = unreached refl
 delete_by master false false = tt
 
-delete_in : (flows : Flows) (held : Names) (name : List ℕ) (pointer : Option (List ℕ)) → IfPutOff flows.master Delete (delete_refusal_in flows held name pointer)
+delete_in : (flows : Flows) (held : Names) (name : List ℕ) (pointer : Option (List ℕ))
+    → IfPutOff flows.master Delete (delete_refusal_in flows held name pointer)
 unfolding delete_refusal_in
 delete_in flows held name (Some server) = moved server refl refl
 delete_in flows held name None = delete_by flows.master (not (is_open (held_at held name)) || has_flow flows name) (not flows.up)

@@ -47,7 +47,8 @@ spent_told = refl
 
 module _ (table : MailboxTable) (b : List ℕ) (me : Location) (mailbox : List ℕ) (flow : Flow) (it : MResponse) (here : me.server ≡ b) where
   -- the response to a line of the stage does this
-  does : (stage : Stage) (told : MResponse) (move : Move) → flow.stage ≡ stage → it ≡ told → heard_move_by mailbox flow stage told ≡ Some move → heard_move mailbox flow it ≡ Some move
+  does : (stage : Stage) (told : MResponse) (move : Move) → flow.stage ≡ stage → it ≡ told → heard_move_by mailbox flow stage told ≡ Some move
+      → heard_move mailbox flow it ≡ Some move
   does stage told move at is by = ap (λ (r : MResponse). heard_move mailbox flow r) is ∙ ap (λ (s : Stage). heard_move_by mailbox flow s told) at ∙ by
 
   abbrev Replied : Reply → Type 0
@@ -57,7 +58,8 @@ module _ (table : MailboxTable) (b : List ℕ) (me : Location) (mailbox : List �
 
   reserve_tests : Bool → Bool → Bool → Bool → Option Refusal
   reserve_tests at active reserved spent =
-      first_of ((false, refusal.NotYours) ∷ (not at, refusal.NotYours) ∷ (active, refusal.Exists) ∷ (reserved, refusal.Reserved) ∷ (spent, refusal.SerialsSpent) ∷ [])
+      first_of
+      ((false, refusal.NotYours) ∷ (not at, refusal.NotYours) ∷ (active, refusal.Exists) ∷ (reserved, refusal.Reserved) ∷ (spent, refusal.SerialsSpent) ∷ [])
 
   tests_are : reserve_refusal table (Backend b) (record_at table mailbox) me
       ≡ reserve_tests true (is_active (record_at table mailbox)) (is_reserved (record_at table mailbox)) (table.serial == 4294967295)
@@ -82,13 +84,15 @@ module _ (table : MailboxTable) (b : List ℕ) (me : Location) (mailbox : List �
       (does Reserving (response.No (codes "2 reserved")) (ends flow NotNow) at (only_one _ it answers) (ap (λ body. Some (ends flow body)) reserved_told))
   reserved_by at low false false true a r s answers =
       serials_spent at (no_record (record_at table mailbox) a r) (eqb-true table.serial 4294967295 s) refl
-      (does Reserving (response.No (codes "7 serials spent")) (ends flow (done Limit)) at (only_one _ it answers) (ap (λ body. Some (ends flow body)) spent_told))
+      (does Reserving (response.No (codes "7 serials spent")) (ends flow (done Limit)) at (only_one _ it answers)
+      (ap (λ body. Some (ends flow body)) spent_told))
   reserved_by at low false false false a r s answers =
       name_reserved at (no_record (record_at table mailbox) a r) refl
       (does Reserving (response.Ok (decimal_text (table.serial + 1))) (is_sent mailbox (record flow { stage = Making })) at (only_one _ it answers)
       (ap (λ (serial : Option ℕ). Some (reserved_move mailbox flow serial)) (serial_again (table.serial + 1) (next_serial table.serial low s))))
 
-  pub reserve_replied : flow.stage ≡ Reserving → table.serial < 2 ^ 32 → Replied (reserve_by table mailbox me (reserve_refusal table (Backend b) (record_at table mailbox) me))
+  pub reserve_replied : flow.stage ≡ Reserving → table.serial < 2 ^ 32
+      → Replied (reserve_by table mailbox me (reserve_refusal table (Backend b) (record_at table mailbox) me))
   reserve_replied at low =
       subst (λ (why : Option Refusal). Replied (reserve_by table mailbox me why)) (sym tests_are)
       (reserved_by at low (is_active (record_at table mailbox)) (is_reserved (record_at table mailbox)) (table.serial == 4294967295) refl refl refl)
@@ -98,7 +102,8 @@ module _ (table : MailboxTable) (b : List ℕ) (me : Location) (mailbox : List �
   activate_tests : Bool → Bool → Option Refusal
   activate_tests at full = first_of ((false, refusal.NotYours) ∷ (not at, refusal.NotYours) ∷ (full, refusal.Full) ∷ [])
 
-  activate_are : IsHere b (record_at table mailbox) → activate_refusal table (Backend b) (record_at table mailbox) me ≡ activate_tests true (is_full table (record_at table mailbox))
+  activate_are : IsHere b (record_at table mailbox)
+      → activate_refusal table (Backend b) (record_at table mailbox) me ≡ activate_tests true (is_full table (record_at table mailbox))
   unfolding activate_refusal activate_tests
   activate_are found =
       ap (λ (r : Option Record). activate_tests (is_server (Backend b) (place_in r me)) (is_full table (record_at table mailbox))) found.there

@@ -31,7 +31,7 @@ use Rattle.name_links.proofs.ResyncEnd.{find_about, finds_each, finds_none}
 use Rattle.name_links.proofs.Rounds.{carried_out, IsRound, round_is, rounds_are}
 use Rattle.name_links.proofs.Sends.{heard_is, step_ok}
 use Rattle.name_commands.specs.Moves.{Move, answers_of, lines_of, place_after, tested_move}
-use Rattle.name_commands.specs.Places.{NamePlace, nowhere, waits, IsAt, IsNumbered, asks_at, flow_line, flows_at}
+use Rattle.name_commands.specs.Places.{NamePlace, nowhere, waits, FlowsShow, IsNumbered, asks_at, flow_line, flows_at}
 use Rattle.name_commands.specs.Whose.{Whose, is_own_ask, is_own_line, is_own_told, own_flow}
 use Rattle.name_commands.proofs.AskLaw.{begun_is, begun_others, begun_own, begun_running}
 use Rattle.name_commands.proofs.Own.{all_behind, find_own, kept, kept_behind, none_behind, passed, passed_behind}
@@ -88,7 +88,8 @@ module _ (whose : Whose) (name : List ℕ) (line : SentLine) where
       passed (is_own_line whose) first.1 (map line_in (with_line lines name line)) parts.0 ∙ more parts.1
 
   -- its own is there, alone
-  pub put_own : is_own_line whose line ≡ true → (lines : LinesByName) → IsNew lines → own_lines whose lines ≡ [] → own_lines whose (with_line lines name line) ≡ line ∷ []
+  pub put_own : is_own_line whose line ≡ true → (lines : LinesByName) → IsNew lines → own_lines whose lines ≡ []
+      → own_lines whose (with_line lines name line) ≡ line ∷ []
   put_own own [] new none = kept (is_own_line whose) line [] own
   put_own own (first ∷ lines) new none =
       own_by own first lines new none (put_own own lines (is_new first lines new).1) (slice_cmp nat_cmp name first.0) refl
@@ -126,7 +127,8 @@ module _ (whose : Whose) (start : Flows) (held : Names) where
     new_line : refusal it.flows held ask.name ask.kind ≡ None → value_at (slice_cmp nat_cmp) it.lines ask.name ≡ None
     new_line granted = let free = carried_out it.flows held ask.name ask.kind granted in is.others_none ask.name free.0 free.1
 
-    module _ (running : List ℕ → Option Flow) (lines : List SentLine) (answers : List Told) (other : whose ask.id ≡ false) (has : Has whose it running lines answers) where
+    module _ (running : List ℕ → Option Flow) (lines : List SentLine) (answers : List Told) (other : whose ask.id ≡ false)
+        (has : Has whose it running lines answers) where
       other_round_by : (body : Option AnswerBody) → refusal it.flows held ask.name ask.kind ≡ body → Has whose (round_by it ask body) running lines answers
       other_round_by (Some body) e = record {
         running_is = has.running_is;
@@ -161,7 +163,8 @@ module _ (whose : Whose) (start : Flows) (held : Names) where
 
   -- others' leave what there is
   others_have : (running : List ℕ → Option Flow) (lines : List SentLine) (answers : List Told) (asks : List NameAsk) (it : Round) → AreNumbered asks
-      → IsRound start held it → filter (is_own_ask whose) asks ≡ [] → Has whose it running lines answers → Has whose (fold (round held) it asks) running lines answers
+      → IsRound start held it → filter (is_own_ask whose) asks ≡ [] → Has whose it running lines answers
+      → Has whose (fold (round held) it asks) running lines answers
   others_have running lines answers [] it fit is none has = has
   others_have running lines answers (ask ∷ asks) it fit is none has =
       let parts = none_kept (whose ask.id) ask (filter (is_own_ask whose) asks) none in
@@ -175,7 +178,8 @@ module _ (whose : Whose) (start : Flows) (held : Names) where
     master : then.master ≡ start.master
     has : HasMove whose it (tested_move ask (refusal then held ask.name ask.kind))
 
-  one_has_by : (own : NameAsk) (ask : NameAsk) (asks : List NameAsk) (it : Round) → AreNumbered (ask ∷ asks) → IsRound start held it → IsSameLink start it → HasNone whose it
+  one_has_by : (own : NameAsk) (ask : NameAsk) (asks : List NameAsk) (it : Round) → AreNumbered (ask ∷ asks) → IsRound start held it → IsSameLink start it
+      → HasNone whose it
       → ((next : Round) → IsRound start held next → IsSameLink start next → HasNone whose next → filter (is_own_ask whose) asks ≡ own ∷ []
       → IsTestedThen (fold (round held) next asks) own)
       → (here : Bool) → whose ask.id ≡ here → cond here (ask ∷ filter (is_own_ask whose) asks) (filter (is_own_ask whose) asks) ≡ own ∷ []
@@ -213,9 +217,10 @@ pub record IsTested (whose : Whose) (flows : Flows) (held : Names) (step : FlowS
 
 -- and to all
 pub record EndsResync (whose : Whose) (flows : Flows) (held : Names) (step : FlowStep) : Type 0 where
-  pub left : (place : NamePlace) → asks_at place ≡ [] → IsAt whose flows place → IsAt whose (handed held step).flows place
-  pub silent : filter (is_own_ask whose) (waiting_in flows.resync) ≡ [] → (filter (is_own_line whose) step.sends ≡ []) × (filter (is_own_told whose) step.answers ≡ [])
-  pub tested : (ask : NameAsk) → IsAt whose flows (waits ask) → IsTested whose flows held step ask
+  pub left : (place : NamePlace) → asks_at place ≡ [] → FlowsShow whose flows place → FlowsShow whose (handed held step).flows place
+  pub silent : filter (is_own_ask whose) (waiting_in flows.resync) ≡ []
+      → (filter (is_own_line whose) step.sends ≡ []) × (filter (is_own_told whose) step.answers ≡ [])
+  pub tested : (ask : NameAsk) → FlowsShow whose flows (waits ask) → IsTested whose flows held step ask
 
 module _ (whose : Whose) (flows : Flows) (held : Names) (held_order : IsInOrder (slice_cmp nat_cmp) held) (tag : Tag) (line : SentLine) (lines : List SentLine)
     (first : flows.sent ≡ line ∷ lines) (same : is_same_tag line.tag tag ≡ true) (other : is_own_line whose line ≡ false)
@@ -254,7 +259,9 @@ module _ (whose : Whose) (flows : Flows) (held : Names) (held_order : IsInOrder 
       me_is = refl;
       about = finds_each IsAboutIt find_about (filter (is_lost w.listed) held) [] tt;
       tagged = finds_each (λ e. IsTagged e.1) (λ e. tt) (filter (is_lost w.listed) held) [] tt;
-      others_none = λ k f c. finds_none k (filter (is_lost w.listed) held) [] (is_in_passing (is_lost w.listed) k held held_order ∙ not_lost w.listed k (held_at held k) c);
+      others_none =
+          λ k f c. finds_none k (filter (is_lost w.listed) held) []
+          (is_in_passing (is_lost w.listed) k held held_order ∙ not_lost w.listed k (held_at held k) c);
     }
 
     ended_round : IsRound over held ended
@@ -277,9 +284,10 @@ module _ (whose : Whose) (flows : Flows) (held : Names) (held_order : IsInOrder 
     has_left : (running : List ℕ → Option Flow) → ((name : List ℕ) → own_flow whose (flow_at flows name) ≡ running name)
         → filter (is_own_ask whose) (waiting_in flows.resync) ≡ [] → Has whose ended running [] []
     has_left running are none =
-        others_have whose over held running [] [] w.waiting begun fit begun_round (waited [] none) (record { running_is = are; lines_are = begun_lines; answers_are = refl })
+        others_have whose over held running [] [] w.waiting begun fit begun_round (waited [] none)
+        (record { running_is = are; lines_are = begun_lines; answers_are = refl })
 
-    left_so : (place : NamePlace) → asks_at place ≡ [] → IsAt whose flows place → IsAt whose (handed held step).flows place
+    left_so : (place : NamePlace) → asks_at place ≡ [] → FlowsShow whose flows place → FlowsShow whose (handed held step).flows place
     left_so place none at =
         let has = has_left (flows_at place) at.running (at.waiting ∙ none) in
         record {
@@ -289,21 +297,23 @@ module _ (whose : Whose) (flows : Flows) (held : Names) (held_order : IsInOrder 
           numbered = at.numbered;
         }
 
-    silent_so : filter (is_own_ask whose) (waiting_in flows.resync) ≡ [] → (filter (is_own_line whose) step.sends ≡ []) × (filter (is_own_told whose) step.answers ≡ [])
+    silent_so : filter (is_own_ask whose) (waiting_in flows.resync) ≡ []
+        → (filter (is_own_line whose) step.sends ≡ []) × (filter (is_own_told whose) step.answers ≡ [])
     silent_so none = let has = has_left (λ name. own_flow whose (flow_at flows name)) (λ name. refl) none in (has.lines_are, has.answers_are)
 
     -- one of them did
-    tested_has : (ask : NameAsk) → IsAt whose flows (waits ask) → IsTestedThen whose over held ended ask
+    tested_has : (ask : NameAsk) → FlowsShow whose flows (waits ask) → IsTestedThen whose over held ended ask
     tested_has ask at =
         one_has whose over held ask w.waiting begun fit begun_round (record { up = refl; master = refl })
         (record { running_is = at.running; lines_are = begun_lines; answers_are = refl }) (waited (ask ∷ []) at.waiting)
 
-    tested_numbers : (ask : NameAsk) (body : Option AnswerBody) → IsNumbered ask.id → (move : Move) → tested_move ask body ≡ move → IsAt whose flows (waits ask)
-        → HasMove whose ended move → IsAt whose (handed held step).flows (place_after move)
+    tested_numbers : (ask : NameAsk) (body : Option AnswerBody) → IsNumbered ask.id → (move : Move) → tested_move ask body ≡ move
+        → FlowsShow whose flows (waits ask)
+        → HasMove whose ended move → FlowsShow whose (handed held step).flows (place_after move)
     tested_numbers ask body fit_id move is at has =
-        subst (λ (m : Move). HasMove whose ended m → IsAt whose (handed held step).flows (place_after m)) is (by body) has
+        subst (λ (m : Move). HasMove whose ended m → FlowsShow whose (handed held step).flows (place_after m)) is (by body) has
       where
-        by : (b : Option AnswerBody) → HasMove whose ended (tested_move ask b) → IsAt whose (handed held step).flows (place_after (tested_move ask b))
+        by : (b : Option AnswerBody) → HasMove whose ended (tested_move ask b) → FlowsShow whose (handed held step).flows (place_after (tested_move ask b))
         by (Some b) h = record {
           waiting = none_waits;
           running = h.running_is;
@@ -313,11 +323,13 @@ module _ (whose : Whose) (flows : Flows) (held : Names) (held_order : IsInOrder 
         by None h = record {
           waiting = none_waits;
           running = h.running_is;
-          sent = all_behind (is_own_line whose) ended.flows.sent (map line_in ended.lines) (flow_line ask.name (flow_for ask) ∷ []) (sent_then ∙ at.sent) h.lines_are;
+          sent =
+              all_behind (is_own_line whose) ended.flows.sent (map line_in ended.lines) (flow_line ask.name (flow_for ask) ∷ []) (sent_then ∙ at.sent)
+              h.lines_are;
           numbered = fit_id;
         }
 
-    tested_so : (ask : NameAsk) → IsAt whose flows (waits ask) → IsTested whose flows held step ask
+    tested_so : (ask : NameAsk) → FlowsShow whose flows (waits ask) → IsTested whose flows held step ask
     tested_so ask at =
         let tested = tested_has ask at in
         let body = refusal tested.then held ask.name ask.kind in

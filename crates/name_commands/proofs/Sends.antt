@@ -32,8 +32,8 @@ use Rattle.back_links.specs.Written.{command_message}
 use Rattle.back_links.proofs.Queues.{step_sends}
 use Rattle.back_links.proofs.StepsSaid.{StepSaid, sends_spelled}
 use Rattle.back_links.proofs.Texts.{command_is}
-use Rattle.name_commands.specs.Moves.{Move, is_answered, is_kept, is_sent, answers_of, lines_of, outs_of, place_after, IsLeft, IsMoved}
-use Rattle.name_commands.specs.Places.{NamePlace, IsAt, IsKnown, flow_line, flow_message, stage_command, stage_line, ups_at, downs_at}
+use Rattle.name_commands.specs.Moves.{Move, is_answered, is_kept, is_sent, answers_of, lines_of, outs_of, place_after, LeavesCommand, MovesCommand}
+use Rattle.name_commands.specs.Places.{NamePlace, FlowsShow, IsKnown, flow_line, flow_message, stage_command, stage_line, ups_at, downs_at}
 use Rattle.name_commands.specs.Whose.{Whose, is_own, is_own_line, is_own_message, is_own_out, is_own_told}
 use Rattle.name_commands.proofs.Own.{all_behind, none_behind}
 use Rattle.name_commands.proofs.Steps.{Leaves, Makes, left_at}
@@ -67,7 +67,8 @@ module _ (whose : Whose) (me : Location) (held : Names) where
   -- the line that can be read again tells what its tag tells
   line_same : (line : SentLine) → HasCommandTexts (message_of me held line) → is_own_message whose (line_message line) ≡ is_own_line whose line
   line_same line spelled =
-      ap (λ (i : Option AskId). is_own whose i) (command_tells (line_text me held line) (message_of me held line) (command_is (message_of me held line) spelled))
+      ap (λ (i : Option AskId). is_own whose i)
+      (command_tells (line_text me held line) (message_of me held line) (command_is (message_of me held line) spelled))
 
   lines_same : (lines : List SentLine) → AllByRecursion HasCommandTexts (map (message_of me held) lines)
       → AllByRecursion (λ line. is_own_message whose (line_message line) ≡ is_own_line whose line) lines
@@ -114,9 +115,11 @@ module _ (whose : Whose) (me : Location) (held : Names) where
   move_ups (is_kept ask) = refl
   move_ups (is_sent name flow) = ap (λ (m : LinkMsg). m ∷ []) (flow_same name flow)
 
-own_answers_out : (whose : Whose) (answers : List Told) → filter (is_own_out whose) (map answer_out answers) ≡ map answer_out (filter (is_own_told whose) answers)
+own_answers_out : (whose : Whose) (answers : List Told)
+    → filter (is_own_out whose) (map answer_out answers) ≡ map answer_out (filter (is_own_told whose) answers)
 own_answers_out whose answers =
-    filter_made answer_out (is_own_out whose) (is_own_told whose) answers (every (λ told. is_own_out whose (answer_out told) ≡ is_own_told whose told) (λ told. refl) answers)
+    filter_made answer_out (is_own_out whose) (is_own_told whose) answers
+    (every (λ told. is_own_out whose (answer_out told) ≡ is_own_told whose told) (λ told. refl) answers)
 
 -- after a move nothing comes from the master
 none_down : (move : Move) → downs_at (place_after move) ≡ []
@@ -144,21 +147,26 @@ module _ (whose : Whose) (master : Master) (name : List ℕ) (node : BackNode) (
   spelled = sends_spelled step.flows.me held step.sends so.can.place said.mailboxes so.sends
 
   outs_are : filter (is_own_out whose) then.outs
-      ≡ map (line_to whose step.flows.me held step.flows.master) (filter (is_own_line whose) step.sends) ++ map answer_out (filter (is_own_told whose) step.answers)
+      ≡ map (line_to whose step.flows.me held step.flows.master) (filter (is_own_line whose) step.sends) ++ map answer_out
+      (filter (is_own_told whose) step.answers)
   outs_are =
       let lines : List Out = map (line_out step.flows.master) (map (line_text step.flows.me held) step.sends) in
       filter-append (is_own_out whose) lines (map answer_out step.answers)
-      ∙ ap (λ (l : List Out). l ++ filter (is_own_out whose) (map answer_out step.answers)) (own_lines_out whose step.flows.me held step.flows.master step.sends spelled)
-      ∙ ap (λ (l : List Out). map (line_to whose step.flows.me held step.flows.master) (filter (is_own_line whose) step.sends) ++ l) (own_answers_out whose step.answers)
+      ∙ ap (λ (l : List Out). l ++ filter (is_own_out whose) (map answer_out step.answers))
+      (own_lines_out whose step.flows.me held step.flows.master step.sends spelled)
+      ∙ ap (λ (l : List Out). map (line_to whose step.flows.me held step.flows.master) (filter (is_own_line whose) step.sends) ++ l)
+      (own_answers_out whose step.answers)
 
-  sent_are : filter (is_own_message whose) (messages_to master.me then.outs) ≡ map (line_message whose step.flows.me held) (filter (is_own_line whose) step.sends)
+  sent_are : filter (is_own_message whose) (messages_to master.me then.outs)
+      ≡ map (line_message whose step.flows.me held) (filter (is_own_line whose) step.sends)
   sent_are =
       ap (λ (l : List LinkMsg). filter (is_own_message whose) l) (step_sends master.me held step (only.master ∙ each.its_master) only.answers)
       ∙ own_lines_sent whose step.flows.me held step.sends spelled
 
   -- it makes this of theirs
-  pub is_moved : (up down : List LinkMsg) (move : Move) → Makes whose held step move → filter (is_own_message whose) up ≡ [] → filter (is_own_message whose) down ≡ []
-      → IsMoved whose master.me node then up down move
+  pub is_moved : (up down : List LinkMsg) (move : Move) → Makes whose held step move → filter (is_own_message whose) up ≡ []
+      → filter (is_own_message whose) down ≡ []
+      → MovesCommand whose master.me node then up down move
   is_moved up down move makes none_up none_here = record {
     placed = record {
       at = makes.at;
@@ -168,7 +176,8 @@ module _ (whose : Whose) (master : Master) (name : List ℕ) (node : BackNode) (
       known = move_known move;
     };
     outs = outs_are
-        ∙ ap (λ (l : List SentLine). map (line_to whose step.flows.me held step.flows.master) l ++ map answer_out (filter (is_own_told whose) step.answers)) makes.lines
+        ∙ ap (λ (l : List SentLine). map (line_to whose step.flows.me held step.flows.master) l ++ map answer_out (filter (is_own_told whose) step.answers))
+        makes.lines
         ∙ ap (λ (l : List Told). map (line_to whose step.flows.me held step.flows.master) (lines_of move) ++ map answer_out l) makes.answers
         ∙ move_outs whose step.flows.me held step.flows.master move
         ∙ ap (λ (me : Location). outs_of step.flows.master me move) so.me_is
@@ -176,9 +185,9 @@ module _ (whose : Whose) (master : Master) (name : List ℕ) (node : BackNode) (
   }
 
   -- or leaves it
-  pub is_left : (up down : List LinkMsg) (place : NamePlace) → IsAt whose (handed held step).flows place → filter (is_own_line whose) step.sends ≡ []
+  pub is_left : (up down : List LinkMsg) (place : NamePlace) → FlowsShow whose (handed held step).flows place → filter (is_own_line whose) step.sends ≡ []
       → filter (is_own_told whose) step.answers ≡ [] → filter (is_own_message whose) up ≡ ups_at node.flows.me place
-      → filter (is_own_message whose) down ≡ downs_at place → IsKnown place → IsLeft whose master.me then up down place
+      → filter (is_own_message whose) down ≡ downs_at place → IsKnown place → LeavesCommand whose master.me then up down place
   is_left up down place at no_lines no_answers up_is down_is known = record {
     placed = record {
       at = at;
@@ -189,12 +198,13 @@ module _ (whose : Whose) (master : Master) (name : List ℕ) (node : BackNode) (
       known = known;
     };
     outs = outs_are
-        ∙ ap (λ (l : List SentLine). map (line_to whose step.flows.me held step.flows.master) l ++ map answer_out (filter (is_own_told whose) step.answers)) no_lines
+        ∙ ap (λ (l : List SentLine). map (line_to whose step.flows.me held step.flows.master) l ++ map answer_out (filter (is_own_told whose) step.answers))
+        no_lines
         ∙ ap (λ (l : List Told). map answer_out l) no_answers;
   }
 
-  pub leaves_it : (up down : List LinkMsg) (place : NamePlace) → Leaves whose node.flows step → IsAt whose node.flows place
+  pub leaves_it : (up down : List LinkMsg) (place : NamePlace) → Leaves whose node.flows step → FlowsShow whose node.flows place
       → filter (is_own_message whose) up ≡ ups_at node.flows.me place → filter (is_own_message whose) down ≡ downs_at place → IsKnown place
-      → IsLeft whose master.me then up down place
+      → LeavesCommand whose master.me then up down place
   leaves_it up down place leaves at up_is down_is known =
       is_left up down place (left_at whose node.flows held step place leaves at) leaves.lines leaves.answers up_is down_is known

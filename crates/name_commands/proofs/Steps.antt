@@ -6,12 +6,12 @@ use Rattle.name_flows.specs.Link.{waiting_in}
 use Rattle.name_flows.specs.Running.{flow_at}
 use Rattle.name_flows.specs.Steps.{FlowStep, handed}
 use Rattle.name_commands.specs.Moves.{Move, answers_of, lines_of, place_after}
-use Rattle.name_commands.specs.Places.{NamePlace, IsAt}
+use Rattle.name_commands.specs.Places.{NamePlace, FlowsShow}
 use Rattle.name_commands.specs.Whose.{Whose, is_own_ask, is_own_line, is_own_told, own_flow}
 use Rattle.name_commands.proofs.Own.{none_behind}
 
 pub record Makes (whose : Whose) (held : Names) (step : FlowStep) (move : Move) : Type 0 where
-  pub at : IsAt whose (handed held step).flows (place_after move)
+  pub at : FlowsShow whose (handed held step).flows (place_after move)
   pub lines : filter (is_own_line whose) step.sends ≡ lines_of move
   pub answers : filter (is_own_told whose) step.answers ≡ answers_of move
 
@@ -23,8 +23,8 @@ pub record Leaves (whose : Whose) (flows : Flows) (step : FlowStep) : Type 0 whe
   pub answers : filter (is_own_told whose) step.answers ≡ []
 
 -- what is left stays where it is
-pub left_at : (whose : Whose) (flows : Flows) (held : Names) (step : FlowStep) (place : NamePlace) → Leaves whose flows step → IsAt whose flows place
-    → IsAt whose (handed held step).flows place
+pub left_at : (whose : Whose) (flows : Flows) (held : Names) (step : FlowStep) (place : NamePlace) → Leaves whose flows step → FlowsShow whose flows place
+    → FlowsShow whose (handed held step).flows place
 left_at whose flows held step place leaves at = record {
   waiting = leaves.waiting ∙ at.waiting;
   running = λ name. leaves.running name ∙ at.running name;

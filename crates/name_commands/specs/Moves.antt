@@ -26,7 +26,7 @@ use Rattle.name_flows.specs.Running.{answer_to, done}
 use Rattle.back_node.specs.declared.node.BackNode.{BackNode}
 use Rattle.back_node.specs.Acted.{BackActed}
 use Rattle.feed_links.specs.Lines.{messages_to}
-use Rattle.name_commands.specs.Places.{NamePlace, nowhere, waits, sends, IsPlaced, flow_line, flow_message}
+use Rattle.name_commands.specs.Places.{NamePlace, nowhere, waits, sends, TalkShows, flow_line, flow_message}
 use Rattle.name_commands.specs.Whose.{Whose, is_own_out}
 
 -- it is answered, waits for the end of a resync, or the line of its flow is sent
@@ -97,11 +97,11 @@ heard_move name flow it = heard_move_by name flow flow.stage it
 -- ---- a step that does so
 
 -- a step of the backend; what it sends the master comes behind what is on its way
-pub record IsMoved (whose : Whose) (master : List ℕ) (node : BackNode) (next : BackActed) (up down : List LinkMsg) (move : Move) : Type 0 where
-  pub placed : IsPlaced whose next.state (up ++ messages_to master next.outs) down (place_after move)
+pub record MovesCommand (whose : Whose) (master : List ℕ) (node : BackNode) (next : BackActed) (up down : List LinkMsg) (move : Move) : Type 0 where
+  pub placed : TalkShows whose next.state (up ++ messages_to master next.outs) down (place_after move)
   pub outs : filter (is_own_out whose) next.outs ≡ outs_of master node.flows.me move
 
 -- a step for something else: wherever it is, it stays there, and nothing goes out about it
-pub record IsLeft (whose : Whose) (master : List ℕ) (next : BackActed) (up down : List LinkMsg) (place : NamePlace) : Type 0 where
-  pub placed : IsPlaced whose next.state (up ++ messages_to master next.outs) down place
+pub record LeavesCommand (whose : Whose) (master : List ℕ) (next : BackActed) (up down : List LinkMsg) (place : NamePlace) : Type 0 where
+  pub placed : TalkShows whose next.state (up ++ messages_to master next.outs) down place
   pub outs : filter (is_own_out whose) next.outs ≡ []

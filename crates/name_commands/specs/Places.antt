@@ -109,7 +109,7 @@ HasNumbers (sends name flow) = IsNumbered flow.ask
 HasNumbers (hears name flow it) = IsNumbered flow.ask
 
 -- Of all asks that wait, all flows by their names, and all lines whose last answer hasn't come, just these are theirs.
-pub record IsAt (whose : Whose) (flows : Flows) (place : NamePlace) : Type 0 where
+pub record FlowsShow (whose : Whose) (flows : Flows) (place : NamePlace) : Type 0 where
   pub waiting : filter (is_own_ask whose) (waiting_in flows.resync) ≡ asks_at place
   pub running : (name : List ℕ) → own_flow whose (flow_at flows name) ≡ flows_at place name
   pub sent : filter (is_own_line whose) flows.sent ≡ lines_at place
@@ -118,7 +118,7 @@ pub record IsAt (whose : Whose) (flows : Flows) (place : NamePlace) : Type 0 whe
 -- Each command is in one place: so each flow has one line whose last answer hasn't come, that of its stage under its command's tag, each line under a
 -- command's tag has such a flow, and no two flows or waiting asks are of one command.
 abbrev pub FlowsTell : Flows → Type 0
-FlowsTell flows = (id : AskId) → (place : NamePlace) × IsAt (is_command id) flows place
+FlowsTell flows = (id : AskId) → (place : NamePlace) × FlowsShow (is_command id) flows place
 
 -- ---- with the messages between the backend and the master
 
@@ -146,12 +146,12 @@ IsKnown (sends name flow) = Unit {0}
 IsKnown (hears name flow it) = IsResponse flow it
 
 -- and of all these messages just this one is about it
-pub record IsPlaced (whose : Whose) (node : BackNode) (up down : List LinkMsg) (place : NamePlace) : Type 0 where
-  pub at : IsAt whose node.flows place
+pub record TalkShows (whose : Whose) (node : BackNode) (up down : List LinkMsg) (place : NamePlace) : Type 0 where
+  pub at : FlowsShow whose node.flows place
   pub up_is : filter (is_own_message whose) up ≡ ups_at node.flows.me place
   pub down_is : filter (is_own_message whose) down ≡ downs_at place
   pub known : IsKnown place
 
 -- each command is in one place
 abbrev pub TalkTells : BackNode → List LinkMsg → List LinkMsg → Type 0
-TalkTells node up down = (id : AskId) → (place : NamePlace) × IsPlaced (is_command id) node up down place
+TalkTells node up down = (id : AskId) → (place : NamePlace) × TalkShows (is_command id) node up down place

@@ -1,7 +1,7 @@
 // Where a CREATE or DELETE is after each step of its backend and of the master.
-ghost use Rattle.name_commands.specs.AllCommands.{AnswersTell, AsksTell, LinesTell, TellsFirst, TellsOneToOne};
+ghost use Rattle.name_commands.specs.AllCommands.{AnswersTell, AsksTell, ClientsTell, LinesTell, OthersTell, TellsFirst, TellsOneToOne, UpsTell};
 ghost use Rattle.name_commands.specs.BackSteps.{AnswerMoves, AskMoves, MessagesLeave, NoneAtFirst, NoneBegins, OtherAnswersLeave, OtherAsksLeave};
-ghost use Rattle.name_commands.specs.MasterSteps.{LineTaken, LineTakenAlone, OtherLinesPass, OtherNodesPass};
+ghost use Rattle.name_commands.specs.MasterSteps.{ClientsPass, LineTaken, LineTakenAlone, OtherLinesPass, OtherNodesPass};
 ghost use Rattle.name_commands.specs.PutOff.{AskedMoves, TestedMoves};
 
 /// The backend takes the ask of a command that is nowhere: it is answered, by what its refusal tells, it waits for the end of the resync, or the line of
@@ -30,8 +30,8 @@ pub fn a_line_has_one_response()
 {}
 
 /// No command is at a new backend, nor when its link comes up. A step for something else leaves a command where it is, and lets out nothing about it:
-/// the backend takes what another node than the master sends, or an ask for messages; the master takes another message of the backend, or anything of
-/// another node.
+/// the backend takes what another node than the master sends, or an ask for messages; the master takes another message of the backend, anything of
+/// another node, or what a client from outside does.
 pub fn any_other_step_leaves_a_command()
     ensures first { NoneAtFirst }
     ensures begins { NoneBegins }
@@ -39,6 +39,7 @@ pub fn any_other_step_leaves_a_command()
     ensures messages { MessagesLeave }
     ensures lines { OtherLinesPass }
     ensures nodes { OtherNodesPass }
+    ensures clients { ClientsPass }
 {}
 
 /// Each command is in one place when the link comes up first, and stays so in each step of the backend and of the master. So flows and lines belong to
@@ -48,5 +49,8 @@ pub fn each_command_is_in_one_place()
     ensures asks { AsksTell }
     ensures hears { AnswersTell }
     ensures takes { LinesTell }
+    ensures others { OthersTell }
+    ensures ups { UpsTell }
+    ensures clients { ClientsTell }
     ensures flows { TellsOneToOne }
 {}

@@ -3,7 +3,7 @@
 //! | What | Definition |
 //! |---|---|
 //! | whose an ask, a line, a flow, a message or an output is | `specs/Whose.antt` |
-//! | where a command is: in the resync, in a line to the master, in the response to it; and that of all that is there just this is about it | `specs/Places.antt` |
+//! | where a command is, and that of all that is there just this is about it | `specs/Places.antt` |
 //! | what becomes of it in a step of its backend | `specs/Moves.antt` |
 //! | what an ask that is refused is answered | `specs/PutOff.antt` |
 //! | the steps of the backend: its ask, the response to its line, anything else | `specs/BackSteps.antt` |

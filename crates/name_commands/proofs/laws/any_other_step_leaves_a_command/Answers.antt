@@ -1,6 +1,6 @@
 use Rattle.name_commands.proofs.AllLaw.{none_begins}
 use Rattle.name_commands.proofs.AskSteps.{messages_leave, none_at_first, other_asks_leave}
-use Rattle.name_commands.proofs.MasterLaw.{other_lines_pass, other_nodes_pass}
+use Rattle.name_commands.proofs.MasterLaw.{clients_pass, other_lines_pass, other_nodes_pass}
 use Rattle.name_commands.proofs.laws.any_other_step_leaves_a_command.Goals as goal
 
 pub returns-clause-first : goal.returns-clause-first
@@ -20,3 +20,6 @@ returns-clause-lines c = other_lines_pass
 
 pub returns-clause-nodes : goal.returns-clause-nodes
 returns-clause-nodes c = other_nodes_pass
+
+pub returns-clause-clients : goal.returns-clause-clients
+returns-clause-clients c = clients_pass
