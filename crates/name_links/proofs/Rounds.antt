@@ -64,7 +64,7 @@ deleted_free flows held name None e =
     let a = rest_none (not (is_open (held_at held name)) || has_flow flows name) NotNow (first_of ((not flows.up, Unreached flows.master) ∷ [])) e in
     let b = neither (is_open (held_at held name)) (has_flow flows name) a.0 in (b.1, open_not_closing (held_at held name) b.0)
 
-carried_out : (flows : Flows) (held : Names) (name : Mailbox) (k : AskKind) → refusal flows held name k ≡ None
+pub carried_out : (flows : Flows) (held : Names) (name : Mailbox) (k : AskKind) → refusal flows held name k ≡ None
     → (has_flow flows name ≡ false) × (is_closing (held_at held name) ≡ false)
 unfolding create_refusal delete_refusal
 carried_out flows held name Create e =

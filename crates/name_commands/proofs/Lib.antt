@@ -1,0 +1,15 @@
+pub mod Own
+pub mod Steps
+pub mod AskLaw
+pub mod AnswerLaw
+pub mod OtherLaw
+pub mod ResyncLaw
+pub mod Sends
+pub mod AskSteps
+pub mod AnswerSteps
+pub mod GrantedLaw
+pub mod Marks
+pub mod ReplyLaw
+pub mod MasterLaw
+pub mod AllLaw
+pub mod PutOffLaw
