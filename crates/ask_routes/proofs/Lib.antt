@@ -1,0 +1,2 @@
+pub mod WayLaw
+pub mod BarrierLaw
