@@ -1,16 +1,14 @@
 // What holds of commands and barriers whatever records there are.
 ghost use Rattle.ask_routes.specs.Barrier.{OkTellsItsCommand};
-ghost use Rattle.ask_routes.specs.WayLaws.{FirstWhy, GoesOn, OnlyListsList, MissingIsMailbox, RefusedIsReserved, NotNowWaits};
+ghost use Rattle.ask_routes.specs.WayLaws.{EachFirst, EachAnswered, EachBehind};
 
-/// A command waits for the master at the reason that its moment has, and behind the OK it goes on: a list lists, only a name without a record is missing,
-/// and only a reserved one, whose home couldn't serve it, is refused.
-pub fn the_master_is_asked_once()
-    ensures first { FirstWhy }
-    ensures answered { NotNowWaits }
-    ensures goes_on { GoesOn }
-    ensures lists { OnlyListsList }
-    ensures missing { MissingIsMailbox }
-    ensures refused { RefusedIsReserved }
+/// Nothing is told of a mailbox at first, nor behind the answer of a home that hasn't it: a server is asked, or there is a barrier. Behind its OK the command
+/// doesn't wait again: only the names are listed that are to be, only a name without a record is missing, and only a reserved one, which a home couldn't
+/// serve, is refused.
+pub fn nothing_is_told_before_the_ok()
+    ensures first { EachFirst }
+    ensures answered { EachAnswered }
+    ensures behind { EachBehind }
 {}
 
 /// The OK of a barrier is a line of its command, by its tag.

@@ -20,6 +20,6 @@ mod ways;
 
 pub use ask_for::AskFor;
 pub use barrier::{barrier_answered, noop_line};
-pub use laws::{an_ok_tells_its_command, the_master_is_asked_once};
+pub use laws::{an_ok_tells_its_command, nothing_is_told_before_the_ok};
 pub use next::{Next, Why};
 pub use ways::{behind_answer, behind_ok, first_step};
