@@ -4,12 +4,26 @@ use Rattle.feed_core.specs.declared.rec.Rec.{Rec}
 use Rattle.feed_core.specs.declared.rec.Rec.TheVariants.{Active, Reserved}
 use Rattle.feed_core.specs.Feed.{Recs, rec_at}
 use Rattle.feed_core.specs.Routes.{home_for, server_by}
+use Rattle.imap_types.specs.declared.op.Op.TheVariants as op
 use Rattle.link_msg.specs.declared.answer.AnswerBody.TheVariants as answer
 use Rattle.ask_routes.specs.declared.ask_for.AskFor.TheVariants as about
 use Rattle.ask_routes.specs.declared.next.Why.{Why}
 use Rattle.ask_routes.specs.declared.next.Why.TheVariants as why
 use Rattle.ask_routes.specs.Ways.{create_behind, mailbox_behind, mailbox_first}
-use Rattle.ask_routes.specs.WayLaws.{IsFirst, EachFirst, EachAnswered, RecordAsks, CreateAsks, is_reserved_if, IsBehind, EachBehind}
+use Rattle.ask_routes.specs.WayLaws.{EachAbout, IsFirst, EachFirst, EachAnswered, RecordAsks, CreateAsks, is_reserved_if, IsBehind, EachBehind}
+
+-- what an operation is about
+
+pub each_about : EachAbout
+each_about name op.Create = (refl, refl)
+each_about name op.Look = (refl, λ e. cc)
+each_about name (op.Read uids peeks) = (refl, λ e. cc)
+each_about name (op.Summaries uids) = (refl, λ e. cc)
+each_about name (op.Flags uids mode flags) = (refl, λ e. cc)
+each_about name (op.Expunge uids) = (refl, λ e. cc)
+each_about name (op.Append messages) = (refl, λ e. cc)
+each_about name op.Delete = (refl, λ e. cc)
+each_about name (op.Xfer server partition) = (refl, λ e. cc)
 
 -- before anything
 

@@ -4,6 +4,8 @@ use Rattle.feed_core.specs.declared.rec.Rec.{Rec}
 use Rattle.feed_core.specs.declared.rec.Rec.TheVariants.{Active, Reserved}
 use Rattle.feed_core.specs.Feed.{Recs, rec_at}
 use Rattle.feed_core.specs.Routes.{home_for, server_at}
+use Rattle.imap_types.specs.declared.op.Op.{Op}
+use Rattle.imap_types.specs.declared.op.Op.TheVariants as op
 use Rattle.link_msg.specs.declared.answer.AnswerBody.{AnswerBody}
 use Rattle.link_msg.specs.declared.answer.AnswerBody.TheVariants as answer
 use Rattle.ask_routes.specs.declared.ask_for.AskFor.{AskFor}
@@ -12,7 +14,17 @@ use Rattle.ask_routes.specs.declared.next.Next.{Next}
 use Rattle.ask_routes.specs.declared.next.Next.TheVariants as next
 use Rattle.ask_routes.specs.declared.next.Why.{Why}
 use Rattle.ask_routes.specs.declared.next.Why.TheVariants as why
-use Rattle.ask_routes.specs.Ways.{behind_answer, behind_ok, first_step}
+use Rattle.ask_routes.specs.Ways.{ask_for, behind_answer, behind_ok, first_step}
+
+-- ---- what an operation is about: CREATE alone is about a new mailbox
+
+abbrev pub IsAbout : List ℕ → Op → AskFor → Type 0
+IsAbout name it (about.Mailbox own) = (own ≡ name) × (it ≢ op.Create)
+IsAbout name it (about.Create own) = (own ≡ name) × (it ≡ op.Create)
+IsAbout name it about.List = ⊥
+
+abbrev pub EachAbout : Type 0
+EachAbout = (name : List ℕ) (it : Op) → IsAbout name it (ask_for name it)
 
 -- ---- before anything
 
