@@ -2,7 +2,8 @@
 //! that doesn't.
 //!
 //! The kinds of cases: `command` and `response` take bytes, `ask` takes a tag, `tag` takes a command, `cut` takes the bytes of a connection;
-//! `long command` and `long cut` take bytes between which a text is repeated; `master` takes entries and steps, `replica` and `backend` take steps.
+//! `long command` and `long cut` take bytes between which a text is repeated; `master` takes entries and steps, `replica`, `route` and `backend` take steps;
+//! `noop` takes a command, `answered` bytes.
 //! The first lines of each file say more.
 #![tactic(auto)]
 
@@ -13,6 +14,7 @@ mod master;
 mod outs;
 mod repeated;
 mod replica;
+mod routes;
 
 use anyhow::Result;
 use case_base::{Cases, Fault, tell_all};
@@ -35,6 +37,9 @@ impl Cases for Kinds {
             ["backend", steps @ ..] => backends::put(alloc, steps, out),
             ["master", steps @ ..] => master::put(alloc, steps, out),
             ["replica", steps @ ..] => replica::put(alloc, steps, out),
+            ["route", steps @ ..] => routes::put(alloc, steps, out),
+            ["noop", conn, command] => routes::put_noop(alloc, conn, command, out),
+            ["answered", bytes] => routes::put_answered(alloc, bytes, out),
             _ => Err(Fault::Unreadable("no such kind of case")),
         }
     }

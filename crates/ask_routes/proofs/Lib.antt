@@ -1,0 +1,3 @@
+pub mod WayLaw
+pub mod BarrierLaw
+pub mod FirstByte

@@ -1,0 +1,122 @@
+// Whom a frontend asks for a command, and its barriers.
+use ask_routes::{
+    AskFor, Next, Why, barrier_answered, behind_answer, behind_ok, first_step, noop_line,
+};
+use case_base::{Fault, Steps, bytes_of, put_steps, wide_number_of};
+use feed_core::Replica;
+use link_msg::{AnswerBody, Op};
+use mur_base::{AskId, Bytes, MailName, Memory, NodeName, mail_name, node_name, put_number};
+use schedule_text::put_text;
+use std::alloc::Global;
+
+/// A frontend's replica, and the first backend.
+#[derive(Drop)]
+struct Stage {
+    replica: Replica,
+    first: NodeName,
+}
+
+/// Takes steps of a frontend whose replica was told nothing, and prints what each gives.
+pub fn put(alloc: Global, steps: &[&str], out: &mut Bytes) -> Result<(), Fault> {
+    let mut stage = Stage {
+        replica: Replica::new(alloc),
+        first: node_name(alloc, b"b1")?,
+    };
+    put_steps(alloc, &mut stage, steps, out)
+}
+
+impl Steps for Stage {
+    fn take_step(&mut self, alloc: Global, step: &str, out: &mut Bytes) -> Result<(), Fault> {
+        let (word, rest) = step.split_once(' ').unwrap_or((step, ""));
+        match word {
+            "hear" => Ok(self.replica.hear(alloc, bytes_of(alloc, rest)?.as_slice())?),
+            "first" => {
+                let what = about(alloc, rest)?;
+                let next = first_step(alloc, &self.replica, &self.first, &what)?;
+                Ok(put_next(&next, out)?)
+            }
+            "home" => put_behind_answer(alloc, rest, out),
+            "ok" => put_behind_ok(alloc, self, rest, out),
+            _ => Err(Fault::Unreadable("no such step")),
+        }
+    }
+}
+
+/// Prints what is done behind an answer of a home.
+fn put_behind_answer(alloc: Global, text: &str, out: &mut Bytes) -> Result<(), Fault> {
+    let body = match text.split_once(' ') {
+        Some(("moved", server)) => AnswerBody::Moved(node_name(alloc, server.as_bytes())?),
+        Some(("unreached", node)) => AnswerBody::Unreached(node_name(alloc, node.as_bytes())?),
+        Some(_) => return Err(Fault::Unreadable("no such answer")),
+        None if text == "lost" => AnswerBody::Lost,
+        None => AnswerBody::NotNow,
+    };
+    match behind_answer(alloc, &body)? {
+        Some(next) => Ok(put_next(&next, out)?),
+        None => Ok(out.extend_from_slice(b"nothing")?),
+    }
+}
+
+/// Prints what is done behind the OK of a barrier.
+fn put_behind_ok(alloc: Global, stage: &Stage, text: &str, out: &mut Bytes) -> Result<(), Fault> {
+    let (why, rest) = text.split_once(' ').unwrap_or((text, ""));
+    let why = match why {
+        "list" => Why::List,
+        "missing" => Why::Missing,
+        "notnow" => Why::NotNow,
+        _ => return Err(Fault::Unreadable("no such reason")),
+    };
+    let what = about(alloc, rest)?;
+    let next = behind_ok(alloc, &stage.replica, &stage.first, &what, why)?;
+    Ok(put_next(&next, out)?)
+}
+
+/// What a command is about.
+fn about(alloc: Global, text: &str) -> Result<AskFor, Fault> {
+    match text.split_once(' ') {
+        Some(("look", name)) => Ok(AskFor::at(named(alloc, name)?, &Op::Look)),
+        Some(("delete", name)) => Ok(AskFor::at(named(alloc, name)?, &Op::Delete)),
+        Some(("create", name)) => Ok(AskFor::at(named(alloc, name)?, &Op::Create)),
+        Some(_) => Err(Fault::Unreadable("no such command")),
+        None => Ok(AskFor::List),
+    }
+}
+
+fn named(alloc: Global, name: &str) -> Result<MailName, Fault> {
+    Ok(mail_name(alloc, name.as_bytes())?)
+}
+
+fn put_next(next: &Next, out: &mut Bytes) -> Result<(), Memory> {
+    match next {
+        Next::Ask(server) => {
+            out.extend_from_slice(b"ask ")?;
+            out.extend_from_slice(server.as_bytes())
+        }
+        Next::Barrier(Why::List) => out.extend_from_slice(b"wait to list"),
+        Next::Barrier(Why::Missing) => out.extend_from_slice(b"wait, no record"),
+        Next::Barrier(Why::NotNow) => out.extend_from_slice(b"wait, not now"),
+        Next::Missing => out.extend_from_slice(b"missing"),
+        Next::Refused => out.extend_from_slice(b"refused"),
+        Next::List => out.extend_from_slice(b"list"),
+    }
+}
+
+/// Prints the NOOP of a command.
+pub fn put_noop(alloc: Global, conn: &str, command: &str, out: &mut Bytes) -> Result<(), Fault> {
+    let (conn, command) = (wide_number_of(conn)?, wide_number_of(command)?);
+    let line = noop_line(alloc, &AskId { conn, command })?;
+    Ok(put_text(line.as_slice(), out)?)
+}
+
+/// Prints the command whose barrier's OK the bytes are.
+pub fn put_answered(alloc: Global, given: &str, out: &mut Bytes) -> Result<(), Fault> {
+    let bytes = bytes_of(alloc, given)?;
+    match barrier_answered(alloc, bytes.as_slice())? {
+        Some(ask) => {
+            put_number(ask.conn, out)?;
+            out.push(b'.')?;
+            Ok(put_number(ask.command, out)?)
+        }
+        None => Ok(out.extend_from_slice(b"none")?),
+    }
+}

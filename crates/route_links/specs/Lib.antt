@@ -1,0 +1,5 @@
+pub mod Answered
+pub mod Barriers
+pub mod Events
+pub mod Decided
+pub mod AsTheStore
