@@ -1,0 +1,4 @@
+pub mod Begins
+pub mod Answered
+pub mod Cleared
+pub mod Laws
