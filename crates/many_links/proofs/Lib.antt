@@ -5,3 +5,9 @@ pub mod ShownLater
 pub mod HomeStays
 pub mod BegunLaw
 pub mod HomeLaw
+pub mod FrontTable
+pub mod MasterLaw
+pub mod TakesLaw
+pub mod FrontLaw
+pub mod OpenLaw
+pub mod BoxesLaw
