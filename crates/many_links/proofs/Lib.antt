@@ -7,6 +7,8 @@ pub mod BegunLaw
 pub mod HomeLaw
 pub mod FrontTable
 pub mod MasterLaw
+pub mod Marked
+pub mod Carrying
 pub mod TakesLaw
 pub mod FrontLaw
 pub mod OpenLaw

@@ -1,10 +1,14 @@
 -- It holds after each step of the master.
 use Rattle.std.specs.Prelude.{◌≡◌, ℕ, nat_eq, true, false, List, [], ◌∷◌, ◌++◌, Some, None}
-use Rattle.std.specs.List.{list_any}
+use Rattle.std.specs.List.{list_any, flat_map, AllByRecursion}
 use Rattle.std.specs.Cmp.Lexicographic.{pointwise}
 use Rattle.mail_message.specs.Boxes.{Content}
+use Rattle.link_msg.specs.declared.counts.Counts.{Counts}
+use Rattle.link_msg.specs.declared.counts.Counts.TheVariants.{Always, IfAnswered}
 use Rattle.link_msg.specs.declared.message.LinkMsg.{LinkMsg}
 use Rattle.link_msg.specs.declared.message.LinkMsg.TheVariants.{Up, Line}
+use Rattle.link_msg.specs.declared.out.Out.{Out}
+use Rattle.link_msg.specs.declared.out.Out.TheVariants.{Mark}
 use Rattle.link_queue.specs.Links.{on_link}
 use Rattle.master_core.specs.declared.master.Master.{Master}
 use Rattle.master_core.specs.declared.sender.Sender.TheVariants.{Outside}
@@ -12,15 +16,16 @@ use Rattle.master_core.specs.Linked.{node_says}
 use Rattle.master_core.specs.Outside.{bytes_in, connect, still}
 use Rattle.master_core.specs.Streams.{without}
 use Rattle.mur_base.specs.declared.home.Location.{Location}
+use Rattle.mur_base.specs.declared.point.AskId.{AskId}
 use Rattle.mur_model.specs.declared.store.Store.{Store}
 use Rattle.mur_model.specs.Store.{box_at, IsFree}
 use Rattle.mupdate_codec.specs.declared.command.MCommand.{MCommand}
 use Rattle.mupdate_codec.specs.declared.command.MCommand.TheVariants as command
 use Rattle.mupdate_codec.specs.declared.tag.Tag.{Tag}
+use Rattle.mupdate_codec.specs.Asks.{ask_id_of}
 use Rattle.mupdate_codec.specs.Whole.{command_in}
 use Rattle.back_node.specs.declared.node.BackNode.{BackNode}
 use Rattle.home_law.specs.ManyNames.{Mailbox}
-use Rattle.name_links.specs.Lines.{is_asked}
 use Rattle.name_links.specs.Serials.{Given}
 use Rattle.back_links.specs.MasterEvents.{given_in}
 use Rattle.store_links.specs.TableEntries.{store_with, without_box}
@@ -29,27 +34,40 @@ use Rattle.many_links.specs.ManyHold.{ManyHold}
 
 -- ---- the first message of a backend
 
--- a message is this command, and a client waits for it
-pub record IsAskedLine (message : LinkMsg) (it : MCommand) : Type 0 where
+-- the commands of clients for which outputs of a step count, and when each counts
+
+abbrev pub mark_in : Out → List (AskId × Counts)
+mark_in (Mark ask counts) = (ask, counts) ∷ []
+mark_in out = []
+
+abbrev pub marks_in : List Out → List (AskId × Counts)
+marks_in outs = flat_map mark_in outs
+
+-- nothing was carried out for the command
+abbrev pub IsOnlyTold : AskId × Counts → Type 0
+IsOnlyTold mark = mark.1 ≡ IfAnswered
+
+-- a message is this line, for the answer to which this command of a client waits, and the command is carried out in this step
+pub record IsDoneFor (ask : AskId) (message : LinkMsg) (it : MCommand) (outs : List Out) : Type 0 where
   pub bytes : List ℕ
   pub tag : Tag
   pub is : message ≡ Line bytes
   pub read : command_in bytes ≡ Some (tag, it)
-  pub asked : is_asked tag ≡ true
+  pub asked : ask_id_of tag ≡ Some ask
+  pub marked : marks_in outs ≡ (ask, Always) ∷ []
 
--- What the store does where the master takes it: a client's CREATE, whose mailbox is new and has a UIDVALIDITY that is free; a client's DELETE of a
--- mailbox; or nothing.
-pub data StoreTakes (message : LinkMsg) (gives : Given) (store : Store) : Store → Type 0 where
-  nothing : gives ≡ [] → StoreTakes message gives store store
-  created : (n : Mailbox) (place : Location) (acl : List ℕ) (serial : ℕ) → IsAskedLine message (command.Activate n place acl)
-      → box_at store n ≡ None → IsFree store n serial → gives ≡ (n, serial) ∷ []
-      → StoreTakes message gives store (store_with store n serial)
-  removed : (n : Mailbox) (box : Content) → IsAskedLine message (command.Delete n) → box_at store n ≡ Some box → gives ≡ []
-      → StoreTakes message gives store (without_box store n)
+-- What the store does where the master takes a message, lets these outputs out and gives these UIDVALIDITYs: a client's CREATE, whose mailbox is new and
+-- has a UIDVALIDITY that is free; a client's DELETE of a mailbox; or nothing, and then no command is carried out.
+pub data StoreTakes (message : LinkMsg) (outs : List Out) (gives : Given) (store : Store) : Store → Type 0 where
+  nothing : gives ≡ [] → AllByRecursion IsOnlyTold (marks_in outs) → StoreTakes message outs gives store store
+  created : (ask : AskId) (n : Mailbox) (place : Location) (acl : List ℕ) (serial : ℕ) → IsDoneFor ask message (command.Activate n place acl) outs
+      → box_at store n ≡ None → IsFree store n serial → gives ≡ (n, serial) ∷ [] → StoreTakes message outs gives store (store_with store n serial)
+  removed : (ask : AskId) (n : Mailbox) (box : Content) → IsDoneFor ask message (command.Delete n) outs → box_at store n ≡ Some box → gives ≡ []
+      → StoreTakes message outs gives store (without_box store n)
 
 pub record IsOneCommand (murder : Murder) (given : Given) (store : Store) (name : List ℕ) (message : LinkMsg) : Type 0 where
   pub later : Store
-  pub does : StoreTakes message (given_in murder.master.table name message) store later
+  pub does : StoreTakes message (node_says murder.master name message).outs (given_in murder.master.table name message) store later
   pub hold : ManyHold (master_takes murder name message) (given ++ given_in murder.master.table name message) later
 
 abbrev pub TakesKeepsMany : Type 0
