@@ -6,6 +6,7 @@ use Rattle.link_msg.specs.declared.counts.Counts.{Counts}
 use Rattle.link_msg.specs.declared.counts.Counts.TheVariants.{Always, IfAnswered}
 use Rattle.master_core.specs.declared.refusal.Refusal.{Refusal}
 use Rattle.master_core.specs.declared.refusal.Refusal.TheVariants as refusal
+use Rattle.master_core.specs.declared.sender.Sender.{Sender}
 use Rattle.master_core.specs.declared.sender.Sender.TheVariants.{Backend}
 use Rattle.master_core.specs.Refusals.{reserve_refusal, activate_refusal, deactivate_refusal, delete_refusal}
 use Rattle.master_core.specs.Replies.{reserve_counts, reserve_by, activate_by, deactivate_by, delete_by, reserve_reply, activate_reply, deactivate_reply, delete_reply}
@@ -36,7 +37,7 @@ use Rattle.name_links.specs.Serials.{gives, given_by}
 use Rattle.name_links.proofs.HearParts.{and_left, and_right}
 use Rattle.name_links.proofs.PhaseFacts.{kept_state}
 use Rattle.store_links.specs.TableEntries.{acl_at}
-use Rattle.many_links.specs.MasterEvents.{IsOnlyTold, marks_in}
+use Rattle.many_links.specs.Marks.{IsOnlyTold, marks_in, CarryNoneOut}
 
 -- ---- marks
 
@@ -49,10 +50,10 @@ asked_for tag asked = by_ask (ask_id_of tag) refl
 
 -- unless a command counts whatever becomes of it
 pub only_told : (tag : Tag) (counts : Option Counts) → (is_asked tag ≡ true → counts ≡ Some Always → ⊥)
-    → AllByRecursion IsOnlyTold (marks_in (mark_of (ask_id_of tag) counts))
+    → CarryNoneOut (mark_of (ask_id_of tag) counts)
 only_told tag counts none = by_both (ask_id_of tag) counts refl refl
   where
-    by_both : (found : Option AskId) (c : Option Counts) → ask_id_of tag ≡ found → counts ≡ c → AllByRecursion IsOnlyTold (marks_in (mark_of found c))
+    by_both : (found : Option AskId) (c : Option Counts) → ask_id_of tag ≡ found → counts ≡ c → CarryNoneOut (mark_of found c)
     by_both None None e f = tt
     by_both None (Some c) e f = tt
     by_both (Some ask) None e f = tt
@@ -138,39 +139,39 @@ module _ (link : OneLink) (it : Tag × MCommand) (ups : List (Tag × MCommand)) 
 
 -- ---- each line that counts whatever becomes of its command
 
-pub data Carries (table : MailboxTable) (b : Server) : MCommand → Type 0 where
-  activates : (n : Mailbox) (place : Location) (acl : List ℕ) → (reply_to table (Backend b) (command.Activate n place acl)).entry ≡ Some (entry.Active n place acl)
-      → Carries table b (command.Activate n place acl)
-  deletes : (n : Mailbox) → table_by table b (command.Delete n) ≡ table_after table (entry.Deleted n) → Carries table b (command.Delete n)
+pub data Carries (table : MailboxTable) (from : Sender) : MCommand → Type 0 where
+  activates : (n : Mailbox) (place : Location) (acl : List ℕ) → (reply_to table from (command.Activate n place acl)).entry ≡ Some (entry.Active n place acl)
+      → Carries table from (command.Activate n place acl)
+  deletes : (n : Mailbox) → (reply_to table from (command.Delete n)).entry ≡ Some (entry.Deleted n) → Carries table from (command.Delete n)
 
-pub carries : (table : MailboxTable) (b : Server) (it : MCommand) → counts_of table b it ≡ Some Always → Carries table b it
+pub carries : (table : MailboxTable) (from : Sender) (it : MCommand) → (reply_to table from it).counts ≡ Some Always → Carries table from it
 unfolding reply_to reserve_reply activate_reply deactivate_reply delete_reply find_reply list_reply update_reply noop_reply logout_reply
-carries table b (command.Reserve n place) e = absurd (by_refusal (reserve_refusal table (Backend b) (record_at table n) place) e)
+carries table from (command.Reserve n place) e = absurd (by_refusal (reserve_refusal table from (record_at table n) place) e)
   where
     by_refusal : (why : Option Refusal) → (reserve_by table n place why).counts ≡ Some Always → ⊥
     by_refusal (Some refusal.Exists) e = cc
     by_refusal (Some refusal.SerialsSpent) e = cc
     by_refusal (Some why) e = cc
     by_refusal None e = cc
-carries table b (command.Activate n place acl) e = by_refusal (activate_refusal table (Backend b) (record_at table n) place) refl e
+carries table from (command.Activate n place acl) e = by_refusal (activate_refusal table from (record_at table n) place) refl e
   where
-    by_refusal : (why : Option Refusal) → activate_refusal table (Backend b) (record_at table n) place ≡ why
-        → (activate_by (Backend b) n place acl why).counts ≡ Some Always → Carries table b (command.Activate n place acl)
+    by_refusal : (why : Option Refusal) → activate_refusal table from (record_at table n) place ≡ why
+        → (activate_by from n place acl why).counts ≡ Some Always → Carries table from (command.Activate n place acl)
     by_refusal (Some why) f e = cc
-    by_refusal None f e = activates n place acl (ap (λ (why : Option Refusal). (activate_by (Backend b) n place acl why).entry) f)
-carries table b (command.Deactivate n place) e = absurd (by_refusal (deactivate_refusal (Backend b) (record_at table n) place) e)
+    by_refusal None f e = activates n place acl (ap (λ (why : Option Refusal). (activate_by from n place acl why).entry) f)
+carries table from (command.Deactivate n place) e = absurd (by_refusal (deactivate_refusal from (record_at table n) place) e)
   where
     by_refusal : (why : Option Refusal) → (deactivate_by n place why).counts ≡ Some Always → ⊥
     by_refusal (Some why) e = cc
     by_refusal None e = cc
-carries table b (command.Delete n) e = by_refusal (delete_refusal (Backend b) (record_at table n)) refl e
+carries table from (command.Delete n) e = by_refusal (delete_refusal from (record_at table n)) refl e
   where
-    by_refusal : (why : Option Refusal) → delete_refusal (Backend b) (record_at table n) ≡ why → (delete_by n why).counts ≡ Some Always
-        → Carries table b (command.Delete n)
+    by_refusal : (why : Option Refusal) → delete_refusal from (record_at table n) ≡ why → (delete_by n why).counts ≡ Some Always
+        → Carries table from (command.Delete n)
     by_refusal (Some why) f e = cc
-    by_refusal None f e = deletes n (ap (λ (why : Option Refusal). table_with table (delete_by n why).entry) f)
-carries table b (command.Find n) e = cc
-carries table b (command.List prefix) e = cc
-carries table b command.Update e = cc
-carries table b command.Noop e = cc
-carries table b command.Logout e = cc
+    by_refusal None f e = deletes n (ap (λ (why : Option Refusal). (delete_by n why).entry) f)
+carries table from (command.Find n) e = cc
+carries table from (command.List prefix) e = cc
+carries table from command.Update e = cc
+carries table from command.Noop e = cc
+carries table from command.Logout e = cc

@@ -18,13 +18,13 @@ use Rattle.node_record.specs.declared.master.MasterRecord.{MasterRecord}
 use Rattle.feed_links.proofs.Steps.{StepIs, is_bad, is_taken, settled_table, step_is}
 
 -- it writes no entry
-none_written : (master : Master) (front line : List ℕ) (made : Option MasterRecord) → (line_step master (Frontend front) line).entry ≡ made → made ≡ None
+pub none_written : (master : Master) (front line : List ℕ) (made : Option MasterRecord) → (line_step master (Frontend front) line).entry ≡ made → made ≡ None
 none_written master front line None e = refl
 none_written master front line (Some it) e =
     let by = by_line master (Frontend front) it line e in
     let no : Frontend front ≡ Backend by.node = by.is in cc
 
-settled_entry : (planned : Planned) (front : List ℕ) (tag : Tag) (step : StreamStep) → (settled planned (Frontend front) tag step).entry ≡ planned.entry
+pub settled_entry : (planned : Planned) (front : List ℕ) (tag : Tag) (step : StreamStep) → (settled planned (Frontend front) tag step).entry ≡ planned.entry
 unfolding settled
 settled_entry planned front tag stream.Stays = refl
 settled_entry planned front tag stream.Begins = refl

@@ -1,5 +1,5 @@
 -- It holds after a step of a backend.
-use Rattle.std.proofs.Common.{◌≡◌, ◌≢◌, inl, inr, ◌&&◌, ℕ, Bool, true, false, List, ◌∷◌, ◌++◌, map, Option, None, Some, refl, sym, ap, subst, ◌∙◌}
+use Rattle.std.proofs.Common.{◌≡◌, ◌≢◌, inl, inr, ◌&&◌, ℕ, Bool, true, false, cond, List, ◌∷◌, ◌++◌, map, Option, None, Some, refl, sym, ap, subst, ◌∙◌}
 use Rattle.link_msg.specs.declared.ask.FrontAsk.{FrontAsk}
 use Rattle.link_msg.specs.declared.message.LinkMsg.{LinkMsg}
 use Rattle.link_msg.specs.declared.message.LinkMsg.TheVariants.{Ask}
@@ -8,7 +8,7 @@ use Rattle.mur_base.specs.declared.home.Phase.{Phase}
 use Rattle.mur_base.specs.declared.home.Phase.TheVariants.{Creating, Open, Closing, Receiving, Ready, Pointer}
 use Rattle.mur_model.specs.declared.store.Store.{Store}
 use Rattle.node_record.specs.declared.held.Held.{Held}
-use Rattle.node_record.specs.Held.{IsOpen, Names, held_at}
+use Rattle.node_record.specs.Held.{IsOpen, Names, has_content, held_at}
 use Rattle.backend_core.specs.HomeLaws.{is_open, is_open_here}
 use Rattle.home_law.specs.Items.{Server}
 use Rattle.home_law.specs.ManyNames.{Mailbox}
@@ -28,13 +28,14 @@ use Rattle.back_links.specs.OneHome.{IsNamedAt}
 use Rattle.back_links.specs.OneTalk.{HasTalk}
 use Rattle.back_links.proofs.BackLaw.{asks_keep_talk, hears_keeps_talk}
 use Rattle.back_links.proofs.OneHome.{open_is_named}
-use Rattle.store_links.specs.Given.{HasGiven, given_pair}
+use Rattle.serve_law.specs.AsTheStore.HaveAlike.{neither, both as both_have}
+use Rattle.store_links.specs.Given.{given_pair}
 use Rattle.store_links.specs.Shown.{Homes, Shows}
 use Rattle.store_links.specs.TableEntries.{acl_at}
 use Rattle.store_links.proofs.HeldLaw.{contents_stay}
 use Rattle.many_links.specs.Murder.{Murder, held_in, homes_of, with_node, after_home}
 use Rattle.many_links.specs.ManyHold.{AreRising, HasTalkIn, IsLinked, ManyHold}
-use Rattle.many_links.specs.HomeEvents.{HearsKeepsMany, AsksKeepMany, ServesKeepsMany, IsStoreWith}
+use Rattle.many_links.specs.HomeEvents.{HearsKeepsMany, AsksKeepMany, ServesKeepsMany, IsStoreWith, AlikeHasIt}
 use Rattle.many_links.proofs.Carried.{taken_else, taken_first, puts_own, puts_else}
 use Rattle.many_links.proofs.NodesLaw.{each_node, home_own, home_else}
 use Rattle.many_links.proofs.Rising.{step_rising}
@@ -239,3 +240,8 @@ serves_keeps_many murder given store later name node from ask hold there ne serv
     let none : name_kind ask.op ≡ None = no_kind ask.op is_so.0 in
     let fits : IsFitting (Ask ask) = subst (λ (kind : Option AskKind). fits_by kind ask) (sym none) tt in
     served murder given store hold name node there from ne (Ask ask) fits later ask.name is_so.1 (λ m apart. others_left node from ask m none apart) is
+
+pub alike_has_it : AlikeHasIt
+alike_has_it later home n (neither none absent) = none ∙ sym (ap content_in absent)
+alike_has_it later home n (both_have it here is there) =
+    there ∙ sym (ap (λ (p : Phase). cond (has_content p) (Some it.content) None) is) ∙ sym (ap content_in here)

@@ -71,7 +71,7 @@ others_left node from ask n none ne =
 
 -- ---- what isn't such an ask, of another node than the master: all names
 
-no_plan : (home : Backend) (ask : FrontAsk) (op : Op) → is_of_messages op ≡ false → name_kind op ≡ None → op_plan home ask op ≡ None
+pub no_plan : (home : Backend) (ask : FrontAsk) (op : Op) → is_of_messages op ≡ false → name_kind op ≡ None → op_plan home ask op ≡ None
 unfolding op_plan
 no_plan home ask Look of none = cc
 no_plan home ask (Read uids sees) of none = cc

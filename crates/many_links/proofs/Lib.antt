@@ -11,5 +11,6 @@ pub mod Marked
 pub mod Carrying
 pub mod TakesLaw
 pub mod FrontLaw
+pub mod NoneCarried
 pub mod OpenLaw
 pub mod BoxesLaw

@@ -55,7 +55,8 @@ use Rattle.store_links.proofs.LineLaw.{each_is_one}
 use Rattle.store_links.proofs.TableLaw.{delete_is_one}
 use Rattle.many_links.specs.Murder.{Murder, held_in, homes_of, after_master}
 use Rattle.many_links.specs.ManyHold.{IsLinked, ManyHold}
-use Rattle.many_links.specs.MasterEvents.{IsDoneFor, IsOnlyTold, IsOneCommand, marks_in, nothing, created, removed, TakesKeepsMany}
+use Rattle.many_links.specs.MasterEvents.{IsDoneFor, IsOneCommand, nothing, created, removed, TakesKeepsMany}
+use Rattle.many_links.specs.Marks.{IsOnlyTold, marks_in}
 use Rattle.many_links.proofs.Carried.{taken_else, taken_first}
 use Rattle.many_links.proofs.Carrying.{Carries, activates, deletes, activate_counts, asked_for, at_backend, carries, delete_counts, of_mailbox, only_told}
 use Rattle.many_links.proofs.Marked.{reply_marks}
@@ -183,7 +184,7 @@ module _ (murder : Murder) (given : Given) (store : Store) (hold : ManyHold murd
     unfolding replied
     marks_are =
         ap (λ (s : Stepped). marks_in s.outs) (says_reply murder.master name message it its)
-        ∙ reply_marks murder.master name it.0 (reply_to table (Backend name) it.1)
+        ∙ reply_marks murder.master (Backend name) it.0 (reply_to table (Backend name) it.1)
         ∙ ap (λ (q : Server). marks_in (mark_of (ask_id_of it.0) (reply_to table (Backend q) it.1).counts)) (sym talk.each.named)
 
     done_for : (asked : is_asked it.0 ≡ true) (command : MCommand) → it.1 ≡ command → reply.counts ≡ Some Always
@@ -202,20 +203,20 @@ module _ (murder : Murder) (given : Given) (store : Store) (hold : ManyHold murd
 
     -- where nothing is carried out, no command counts whatever becomes of it
     nothing_done : Shows (table_by table b it.1) homes store → gives table b it.1 ≡ [] → is_asked it.0 ≡ true → reply.counts ≡ Some Always → ⊥
-    nothing_done shows none asked counts = by_line it.1 refl (carries table b it.1 counts)
+    nothing_done shows none asked counts = by_line it.1 refl (carries table (Backend b) it.1 counts)
       where
-        by_line : (command : MCommand) → it.1 ≡ command → Carries table b command → ⊥
+        by_line : (command : MCommand) → it.1 ≡ command → Carries table (Backend b) command → ⊥
         by_line _ same (activates n place acl made) =
             let new = create_makes_one link given it line.more n place acl talk.holds.names talk.holds.contents talk.holds.serials line.are asked
             (subst (λ (c : MCommand). (reply_to table (Backend b) c).entry ≡ Some (entry.Active n place acl)) (sym same) made) in
             let no : (n, new.serial) ∷ [] ≡ [] = sym new.gives_it ∙ none in cc
-        by_line _ same (deletes n after) =
+        by_line _ same (deletes n made) =
             let at = of_mailbox link it line.more n talk.holds.names line.are same asked in
             let box = box_is_there table homes store b n at.0 hold.shows at.1 in
             let was : is_mailbox_if (record_at table n) ≡ true = each_is_a_box table homes store hold.shows n ∙ ap is_some box.2 in
             let gone = delete_is_one table homes store n hold.shows was in
             let then_shows : Shows (table_after table (entry.Deleted n)) homes store =
-            subst (λ (t : MailboxTable). Shows t homes store) (ap (λ (c : MCommand). table_by table b c) same ∙ after) shows in
+            subst (λ (t : MailboxTable). Shows t homes store) (ap (λ (c : MCommand). table_by table b c) same ∙ ap (λ (m : Option MasterRecord). table_with table m) made) shows in
             let no : true ≡ false = sym (each_is_a_box (table_after table (entry.Deleted n)) homes store then_shows n ∙ ap is_some box.2)
             ∙ each_is_a_box (table_after table (entry.Deleted n)) homes (without_box store n) gone.shows n ∙ ap is_some gone.gone in cc
 

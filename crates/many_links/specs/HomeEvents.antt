@@ -19,6 +19,7 @@ use Rattle.home_law.specs.ManyNames.{Mailbox}
 use Rattle.name_links.specs.Contents.{content_in}
 use Rattle.name_links.specs.Serials.{Given}
 use Rattle.back_links.specs.BackEvents.{IsFitting}
+use Rattle.serve_law.specs.AsTheStore.{HaveAlike}
 use Rattle.store_links.specs.TableEntries.{OthersStay}
 use Rattle.many_links.specs.Murder.{Murder, home_takes}
 use Rattle.many_links.specs.ManyHold.{ManyHold}
@@ -53,3 +54,7 @@ ServesKeepsMany = (murder : Murder) (given : Given) (store later : Store) (name 
     → ManyHold murder given store → murder.nodes name ≡ Some node → from ≢ murder.master.me → is_served node (Ask ask) ≡ true
     → IsStoreWith store later (node_takes node from (Ask ask)).state.home ask.name
     → ManyHold (home_takes murder name node from (Ask ask)) given later
+
+-- as one that is alike there, which is what `serve_law` says of the store's own step
+abbrev pub AlikeHasIt : Type 0
+AlikeHasIt = (later : Store) (home : Backend) (n : Mailbox) → HaveAlike later home n → box_at later n ≡ content_in (held_at home n)

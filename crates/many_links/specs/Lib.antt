@@ -1,7 +1,9 @@
 pub mod Murder
 pub mod ManyHold
+pub mod Marks
 pub mod FirstMurder
 pub mod HomeEvents
 pub mod MasterEvents
 pub mod FrontEvents
+pub mod OtherSteps
 pub mod OpenNames

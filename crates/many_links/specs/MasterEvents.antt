@@ -1,14 +1,12 @@
 -- It holds after each step of the master.
 use Rattle.std.specs.Prelude.{◌≡◌, ℕ, nat_eq, true, false, List, [], ◌∷◌, ◌++◌, Some, None}
-use Rattle.std.specs.List.{list_any, flat_map, AllByRecursion}
+use Rattle.std.specs.List.{list_any}
 use Rattle.std.specs.Cmp.Lexicographic.{pointwise}
 use Rattle.mail_message.specs.Boxes.{Content}
-use Rattle.link_msg.specs.declared.counts.Counts.{Counts}
-use Rattle.link_msg.specs.declared.counts.Counts.TheVariants.{Always, IfAnswered}
+use Rattle.link_msg.specs.declared.counts.Counts.TheVariants.{Always}
 use Rattle.link_msg.specs.declared.message.LinkMsg.{LinkMsg}
 use Rattle.link_msg.specs.declared.message.LinkMsg.TheVariants.{Up, Line}
 use Rattle.link_msg.specs.declared.out.Out.{Out}
-use Rattle.link_msg.specs.declared.out.Out.TheVariants.{Mark}
 use Rattle.link_queue.specs.Links.{on_link}
 use Rattle.master_core.specs.declared.master.Master.{Master}
 use Rattle.master_core.specs.declared.sender.Sender.TheVariants.{Outside}
@@ -31,21 +29,9 @@ use Rattle.back_links.specs.MasterEvents.{given_in}
 use Rattle.store_links.specs.TableEntries.{store_with, without_box}
 use Rattle.many_links.specs.Murder.{Murder, master_takes, master_does}
 use Rattle.many_links.specs.ManyHold.{ManyHold}
+use Rattle.many_links.specs.Marks.{marks_in, CarryNoneOut}
 
 -- ---- the first message of a backend
-
--- the commands of clients for which outputs of a step count, and when each counts
-
-abbrev pub mark_in : Out → List (AskId × Counts)
-mark_in (Mark ask counts) = (ask, counts) ∷ []
-mark_in out = []
-
-abbrev pub marks_in : List Out → List (AskId × Counts)
-marks_in outs = flat_map mark_in outs
-
--- nothing was carried out for the command
-abbrev pub IsOnlyTold : AskId × Counts → Type 0
-IsOnlyTold mark = mark.1 ≡ IfAnswered
 
 -- a message is this line, for the answer to which this command of a client waits, and the command is carried out in this step
 pub record IsDoneFor (ask : AskId) (message : LinkMsg) (it : MCommand) (outs : List Out) : Type 0 where
@@ -59,7 +45,7 @@ pub record IsDoneFor (ask : AskId) (message : LinkMsg) (it : MCommand) (outs : L
 -- What the store does where the master takes a message, lets these outputs out and gives these UIDVALIDITYs: a client's CREATE, whose mailbox is new and
 -- has a UIDVALIDITY that is free; a client's DELETE of a mailbox; or nothing, and then no command is carried out.
 pub data StoreTakes (message : LinkMsg) (outs : List Out) (gives : Given) (store : Store) : Store → Type 0 where
-  nothing : gives ≡ [] → AllByRecursion IsOnlyTold (marks_in outs) → StoreTakes message outs gives store store
+  nothing : gives ≡ [] → CarryNoneOut outs → StoreTakes message outs gives store store
   created : (ask : AskId) (n : Mailbox) (place : Location) (acl : List ℕ) (serial : ℕ) → IsDoneFor ask message (command.Activate n place acl) outs
       → box_at store n ≡ None → IsFree store n serial → gives ≡ (n, serial) ∷ [] → StoreTakes message outs gives store (store_with store n serial)
   removed : (ask : AskId) (n : Mailbox) (box : Content) → IsDoneFor ask message (command.Delete n) outs → box_at store n ≡ Some box → gives ≡ []

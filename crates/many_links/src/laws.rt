@@ -1,8 +1,9 @@
 // What holds of the master, all backends, the links between all nodes, and the one store.
 ghost use Rattle.many_links.specs.FirstMurder.{ManyBegin};
 ghost use Rattle.many_links.specs.FrontEvents.{OutsKeepMany, PassingKeepsMany, AlikeHold};
-ghost use Rattle.many_links.specs.HomeEvents.{HearsKeepsMany, AsksKeepMany, ServesKeepsMany};
+ghost use Rattle.many_links.specs.HomeEvents.{HearsKeepsMany, AsksKeepMany, ServesKeepsMany, AlikeHasIt};
 ghost use Rattle.many_links.specs.MasterEvents.{TakesKeepsMany, FrontendsKeepMany, UpsKeepMany, ClientsKeepMany};
+ghost use Rattle.many_links.specs.OtherSteps.{OthersCarryNone, MasterAsksNothing, FrontendsCarryNone, ClientsCarryNone};
 ghost use Rattle.many_links.specs.OpenNames.{OpenIsTheStores, OneHasItOpen, NoMailboxIsNowhere, MailboxesAreBoxes, BoxesDiffer};
 
 /// It holds where all nodes are new, and the link of each backend with the master just came up. The store is empty then.
@@ -16,6 +17,7 @@ pub fn each_step_of_a_backend_keeps_it()
     ensures hears { HearsKeepsMany }
     ensures asks { AsksKeepMany }
     ensures serves { ServesKeepsMany }
+    ensures alike { AlikeHasIt }
 {}
 
 /// It holds after the master took the first message of a backend, for which the store makes one mailbox for a client's CREATE, removes one for a
@@ -34,6 +36,14 @@ pub fn frontends_keep_it()
     ensures outs { OutsKeepMany }
     ensures passing { PassingKeepsMany }
     ensures alike { AlikeHold }
+{}
+
+/// In no step for which the store does nothing a command of a client is carried out: it is answered at most, if the step counts for it at all.
+pub fn no_other_step_carries_a_command_out()
+    ensures others { OthersCarryNone }
+    ensures lines { MasterAsksNothing }
+    ensures frontends { FrontendsCarryNone }
+    ensures clients { ClientsCarryNone }
 {}
 
 /// A name that is open at a backend is there as the store has it, its record names the backend, and asks for its messages are carried out there. It is

@@ -5,9 +5,11 @@
 //! | the master, the backends and the links; what a step of one makes of it | `specs/Murder.antt` |
 //! | what holds of it, and of the store | `specs/ManyHold.antt` |
 //! | the start | `specs/FirstMurder.antt` |
+//! | for which commands a step counts | `specs/Marks.antt` |
 //! | a step of a backend | `specs/HomeEvents.antt` |
 //! | a step of the master, and what it is to the store | `specs/MasterEvents.antt` |
 //! | what a frontend lets out or takes | `specs/FrontEvents.antt` |
+//! | steps that carry no command out | `specs/OtherSteps.antt` |
 //! | names that are open, and mailboxes | `specs/OpenNames.antt` |
 //!
 //! What `back_links` says of one backend holds of each, and with it the store is that of `store_links`. It holds at the start and after each step
@@ -21,5 +23,6 @@ mod laws;
 
 pub use laws::{
     an_open_name_is_the_stores, each_step_of_a_backend_keeps_it, each_step_of_the_master_keeps_it,
-    frontends_keep_it, many_hold_at_the_start, the_boxes_are_the_mailboxes,
+    frontends_keep_it, many_hold_at_the_start, no_other_step_carries_a_command_out,
+    the_boxes_are_the_mailboxes,
 };
