@@ -64,7 +64,8 @@ module _ (murder : Murder) (me : List ℕ) (backends : List (List ℕ)) (first :
 pub many_begin : ManyBegin
 many_begin murder me backends first = record {
   each = λ name node there. begun_linked murder me backends first name node (first.begun name node there);
-  shows = subst (λ (t : MailboxTable). Shows t (homes_of murder.nodes) empty_store) (sym (table_is murder me backends first)) (none_shown (homes_of murder.nodes));
+  shows = subst (λ (t : MailboxTable). Shows t (homes_of murder.nodes) empty_store) (sym (table_is murder me backends first))
+      (none_shown (homes_of murder.nodes));
   gave = refl;
   serials = subst (λ (t : MailboxTable). SerialsHold t []) (sym (table_is murder me backends first)) first_serials;
   counted = subst IsCounted (sym (table_is murder me backends first)) refl;

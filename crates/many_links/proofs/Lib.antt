@@ -4,6 +4,7 @@ pub mod Rising
 pub mod ShownLater
 pub mod HomeStays
 pub mod BegunLaw
+pub mod StartLaw
 pub mod HomeLaw
 pub mod FrontTable
 pub mod MasterLaw

@@ -9,10 +9,10 @@ use Rattle.back_node.specs.declared.node.BackNode.{BackNode}
 use Rattle.many_links.specs.Murder.{Nodes, held_in, homes_of, with_node}
 
 module _ (nodes : Nodes) (name : List ℕ) (node : BackNode) where
-  node_own : with_node nodes name node name ≡ Some node
+  pub node_own : with_node nodes name node name ≡ Some node
   node_own = ap (λ (s : Bool). cond s (Some node) (nodes name)) (names_apart.itself name)
 
-  node_else : (q : List ℕ) → q ≢ name → with_node nodes name node q ≡ nodes q
+  pub node_else : (q : List ℕ) → q ≢ name → with_node nodes name node q ≡ nodes q
   node_else q ne = ap (λ (s : Bool). cond s (Some node) (nodes q)) (not_equal (slice_cmp nat_cmp) names_apart q name ne)
 
   pub home_own : homes_of (with_node nodes name node) name ≡ node.home.held

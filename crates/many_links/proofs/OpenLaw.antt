@@ -68,7 +68,8 @@ open_has_box murder given store name node n hold there is_here =
 pub no_mailbox_is_nowhere : NoMailboxIsNowhere
 no_mailbox_is_nowhere murder given store n hold none = record {
   missing = missing;
-  closed = λ name node there. by_test (is_open_here (held_at node.home.held n)) (is_open_here (held_at node.home.held n)) refl (λ e. open_has_box murder given store name node n hold there e);
+  closed = λ name node there. by_test (is_open_here (held_at node.home.held n)) (is_open_here (held_at node.home.held n)) refl
+      (λ e. open_has_box murder given store name node n hold there e);
 }
   where
     missing : box_at store n ≡ None

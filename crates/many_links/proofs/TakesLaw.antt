@@ -215,8 +215,9 @@ module _ (murder : Murder) (given : Given) (store : Store) (hold : ManyHold murd
             let box = box_is_there table homes store b n at.0 hold.shows at.1 in
             let was : is_mailbox_if (record_at table n) ≡ true = each_is_a_box table homes store hold.shows n ∙ ap is_some box.2 in
             let gone = delete_is_one table homes store n hold.shows was in
-            let then_shows : Shows (table_after table (entry.Deleted n)) homes store =
-            subst (λ (t : MailboxTable). Shows t homes store) (ap (λ (c : MCommand). table_by table b c) same ∙ ap (λ (m : Option MasterRecord). table_with table m) made) shows in
+            let after : table_by table b it.1 ≡ table_after table (entry.Deleted n) =
+            ap (λ (c : MCommand). table_by table b c) same ∙ ap (λ (m : Option MasterRecord). table_with table m) made in
+            let then_shows = subst (λ (t : MailboxTable). Shows t homes store) after shows in
             let no : true ≡ false = sym (each_is_a_box (table_after table (entry.Deleted n)) homes store then_shows n ∙ ap is_some box.2)
             ∙ each_is_a_box (table_after table (entry.Deleted n)) homes (without_box store n) gone.shows n ∙ ap is_some gone.gone in cc
 

@@ -1,7 +1,7 @@
 -- The start: no node has anything, and the link of each backend with the master just came up, so that the backend's LIST is on its way. Whatever
 -- frontends sent is on links of theirs.
-use Rattle.std.specs.Prelude.{◌≡◌, ◌≢◌, ℕ, nat_eq, true, List, [], Some}
-use Rattle.std.specs.List.{list_any}
+use Rattle.std.specs.Prelude.{◌≡◌, ◌≢◌, ℕ, nat_eq, true, is_some, List, [], ◌∷◌, map, None, Some}
+use Rattle.std.specs.List.{list_any, AllByRecursion}
 use Rattle.std.specs.Cmp.Lexicographic.{pointwise}
 use Rattle.link_msg.specs.declared.message.LinkMsg.TheVariants.{Up}
 use Rattle.link_queue.specs.Links.{on_link}
@@ -15,7 +15,7 @@ use Rattle.back_node.specs.Node.{new_node}
 use Rattle.back_node.specs.Takes.{node_takes}
 use Rattle.feed_links.specs.Lines.{messages_to}
 use Rattle.name_links.specs.Spelled.{IsPlaceText}
-use Rattle.many_links.specs.Murder.{Murder}
+use Rattle.many_links.specs.Murder.{Murder, after_home}
 use Rattle.many_links.specs.ManyHold.{ManyHold}
 
 -- a new backend is told that its link with the master is up
@@ -39,3 +39,31 @@ pub record IsFirst (murder : Murder) (me : List ℕ) (backends : List (List ℕ)
 -- it holds then, and the store is empty
 abbrev pub ManyBegin : Type 0
 ManyBegin = (murder : Murder) (me : List ℕ) (backends : List (List ℕ)) → IsFirst murder me backends → ManyHold murder [] empty_store
+
+-- ---- there is one: the backends of these places are told, one after another, that their link with the master is up
+
+abbrev pub no_murder : List ℕ → List (List ℕ) → Murder
+no_murder me backends = record { master = booted me backends empty_table; nodes = λ name. None; links = [] }
+
+abbrev pub tell_one : List ℕ → Murder → Location → Murder
+tell_one me murder place = after_home murder murder.links place.server (told_up place me)
+
+unfoldable pub tell_all : List ℕ → Murder → List Location → Murder
+tell_all me murder [] = murder
+tell_all me murder (place ∷ places) = tell_all me (tell_one me murder place) places
+
+abbrev pub servers_of : List Location → List (List ℕ)
+servers_of places = map (λ (place : Location). place.server) places
+
+-- each can be told, none is the master's, and no two are at one server
+abbrev pub AreServers : List ℕ → List Location → Type 0
+AreServers me [] = Unit {0}
+AreServers me (place ∷ places) =
+    IsPlaceText place × (place.server ≢ me) × AllByRecursion (λ (other : Location). other.server ≢ place.server) places × AreServers me places
+
+pub record AreTold (me : List ℕ) (places : List Location) (murder : Murder) : Type 0 where
+  pub first : IsFirst murder me (servers_of places)
+  pub each : AllByRecursion (λ (place : Location). is_some (murder.nodes place.server) ≡ true) places
+
+abbrev pub ThereIsAFirst : Type 0
+ThereIsAFirst = (me : List ℕ) (places : List Location) → AreServers me places → AreTold me places (tell_all me (no_murder me (servers_of places)) places)

@@ -1,14 +1,16 @@
 // What holds of the master, all backends, the links between all nodes, and the one store.
-ghost use Rattle.many_links.specs.FirstMurder.{ManyBegin};
+ghost use Rattle.many_links.specs.FirstMurder.{ManyBegin, ThereIsAFirst};
 ghost use Rattle.many_links.specs.FrontEvents.{OutsKeepMany, PassingKeepsMany, AlikeHold};
 ghost use Rattle.many_links.specs.HomeEvents.{HearsKeepsMany, AsksKeepMany, ServesKeepsMany, AlikeHasIt};
 ghost use Rattle.many_links.specs.MasterEvents.{TakesKeepsMany, FrontendsKeepMany, UpsKeepMany, ClientsKeepMany};
 ghost use Rattle.many_links.specs.OtherSteps.{OthersCarryNone, MasterAsksNothing, FrontendsCarryNone, ClientsCarryNone};
 ghost use Rattle.many_links.specs.OpenNames.{OpenIsTheStores, OneHasItOpen, NoMailboxIsNowhere, MailboxesAreBoxes, BoxesDiffer};
 
-/// It holds where all nodes are new, and the link of each backend with the master just came up. The store is empty then.
+/// It holds where all nodes are new, and the link of each backend with the master just came up. The store is empty then. There is such a start, with a
+/// backend at each of some places.
 pub fn many_hold_at_the_start()
-    ensures { ManyBegin }
+    ensures begin { ManyBegin }
+    ensures there { ThereIsAFirst }
 {}
 
 /// It holds after a backend took the first message of the master, or any message of another node. The store stays, unless an ask for messages comes
