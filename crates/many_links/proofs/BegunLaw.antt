@@ -1,5 +1,5 @@
 -- It holds at the start.
-use Rattle.std.proofs.Common.{◌≡◌, ◌≢◌, ℕ, nat_eq, true, List, [], Some, refl, sym, ap, subst, ◌∙◌}
+use Rattle.std.proofs.Common.{◌≡◌, ℕ, nat_eq, true, List, [], refl, sym, ap, subst, ◌∙◌}
 use Rattle.std.specs.List.{list_any}
 use Rattle.std.specs.List.Sorted.{IsStrictlySortedBy}
 use Rattle.std.specs.Cmp.Lexicographic.{pointwise}
@@ -20,7 +20,7 @@ use Rattle.back_links.proofs.BackLaw.{talk_begins}
 use Rattle.store_links.specs.Shown.{Homes, Shows}
 use Rattle.many_links.specs.Murder.{Murder, homes_of}
 use Rattle.many_links.specs.ManyHold.{AreRising, IsLinked}
-use Rattle.many_links.specs.FirstMurder.{HasBegun, IsFirst, ManyBegin, told_up}
+use Rattle.many_links.specs.Start.{HasBegun, IsStart, ManyBegin, told_up}
 use Rattle.many_links.proofs.Rising.{none_rising, step_rising}
 
 -- an empty table shows the empty store, whatever is at backends
@@ -28,7 +28,7 @@ none_shown : (homes : Homes) → Shows empty_table homes empty_store
 unfolding IsStrictlySortedBy
 none_shown homes = record { names = λ n. refl; records_in_order = tt; boxes_in_order = tt }
 
-module _ (murder : Murder) (me : List ℕ) (backends : List (List ℕ)) (first : IsFirst murder me backends) where
+module _ (murder : Murder) (me : List ℕ) (backends : List (List ℕ)) (first : IsStart murder me backends) where
   table_is : murder.master.table ≡ empty_table
   unfolding booted
   table_is = ap (λ (m : Master). m.table) first.master

@@ -1,5 +1,5 @@
 -- The table's mailboxes are the store's boxes, each with a UIDVALIDITY of its own.
-use Rattle.std.proofs.Common.{◌≡◌, ℕ, Bool, true, false, cond, is_some, List, [], Option, None, Some, refl, sym, ap, subst, ◌∙◌}
+use Rattle.std.proofs.Common.{◌≡◌, ℕ, Bool, true, false, cond, List, Option, None, Some, refl, sym, ap, ◌∙◌}
 use Rattle.link_queue.specs.Links.{on_link}
 use Rattle.mail_message.specs.Boxes.{Content}
 use Rattle.mur_model.specs.declared.store.Store.{Store}
@@ -8,9 +8,9 @@ use Rattle.node_record.specs.declared.held.Held.{Held}
 use Rattle.node_record.specs.declared.table.Record.{Record}
 use Rattle.node_record.specs.declared.table.State.{State}
 use Rattle.node_record.specs.declared.table.State.TheVariants.{Bare, Kept, Active}
-use Rattle.node_record.specs.Held.{Names, has_content, held_at}
+use Rattle.node_record.specs.Held.{has_content, held_at}
 use Rattle.node_record.specs.Table.{record_at}
-use Rattle.home_law.specs.Items.{Server, is_same_server}
+use Rattle.home_law.specs.Items.{Server}
 use Rattle.home_law.specs.ManyNames.{Mailbox}
 use Rattle.home_law.proofs.SameName.{is_itself}
 use Rattle.back_node.specs.declared.node.BackNode.{BackNode}

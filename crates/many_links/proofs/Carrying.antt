@@ -1,6 +1,6 @@
 -- Which lines of a backend carry a client's command out at the master: an ACTIVATE that gives a UIDVALIDITY, and a DELETE of a mailbox.
 use Rattle.std.proofs.Common.{◌≡◌, ℕ, Bool, true, false, ◌||◌, not, cond, is_some, nat_eq, List, [], ◌∷◌, ◌++◌, Option, None, Some, refl, sym, ap, subst, ◌∙◌}
-use Rattle.std.specs.List.{flat_map, AllByRecursion}
+use Rattle.std.specs.List.{flat_map}
 use Rattle.std.specs.Cmp.Lexicographic.{pointwise}
 use Rattle.link_msg.specs.declared.counts.Counts.{Counts}
 use Rattle.link_msg.specs.declared.counts.Counts.TheVariants.{Always, IfAnswered}
@@ -9,7 +9,7 @@ use Rattle.master_core.specs.declared.refusal.Refusal.TheVariants as refusal
 use Rattle.master_core.specs.declared.sender.Sender.{Sender}
 use Rattle.master_core.specs.declared.sender.Sender.TheVariants.{Backend}
 use Rattle.master_core.specs.Refusals.{reserve_refusal, activate_refusal, deactivate_refusal, delete_refusal}
-use Rattle.master_core.specs.Replies.{reserve_counts, reserve_by, activate_by, deactivate_by, delete_by, reserve_reply, activate_reply, deactivate_reply, delete_reply}
+use Rattle.master_core.specs.Replies.{reserve_by, activate_by, deactivate_by, delete_by, reserve_reply, activate_reply, deactivate_reply, delete_reply}
 use Rattle.master_core.specs.Replies.{find_reply, list_reply, update_reply, noop_reply, logout_reply, reply_to}
 use Rattle.master_core.specs.Step.{mark_of, table_with}
 use Rattle.mupdate_codec.specs.declared.command.MCommand.{MCommand}
@@ -18,9 +18,8 @@ use Rattle.mupdate_codec.specs.declared.tag.Tag.{Tag}
 use Rattle.mupdate_codec.specs.Asks.{ask_id_of}
 use Rattle.mur_base.specs.declared.home.Location.{Location}
 use Rattle.mur_base.specs.declared.point.AskId.{AskId}
-use Rattle.node_record.specs.declared.master.MasterRecord.{MasterRecord}
 use Rattle.node_record.specs.declared.master.MasterRecord.TheVariants as entry
-use Rattle.node_record.specs.Table.{MailboxTable, is_mailbox_if, record_at, table_after}
+use Rattle.node_record.specs.Table.{MailboxTable, is_mailbox_if, record_at}
 use Rattle.home_law.specs.Items.{Server, is_same_server, Mine, Ctl, Item, delete}
 use Rattle.home_law.specs.Link.{see}
 use Rattle.home_law.specs.LinkOk.{EachItem}
@@ -30,14 +29,14 @@ use Rattle.home_law.proofs.SameName.{is_itself, is_the_same}
 use Rattle.name_flows.specs.OneName.{ctl_of}
 use Rattle.name_links.specs.Contents.{acl_in}
 use Rattle.name_links.specs.Known.{known}
-use Rattle.name_links.specs.Lines.{is_asked, backend_line, if_at, items_of}
+use Rattle.name_links.specs.Lines.{is_asked, backend_line, items_of}
 use Rattle.name_links.specs.LinkIs.{LinkHolds}
 use Rattle.name_links.specs.OneLink.{OneLink, server_of, items_if, up_items, back_of, table_by}
 use Rattle.name_links.specs.Serials.{gives, given_by}
 use Rattle.name_links.proofs.HearParts.{and_left, and_right}
 use Rattle.name_links.proofs.PhaseFacts.{kept_state}
 use Rattle.store_links.specs.TableEntries.{acl_at}
-use Rattle.many_links.specs.Marks.{IsOnlyTold, marks_in, CarryNoneOut}
+use Rattle.many_links.specs.Marks.{CarryNoneOut}
 
 -- ---- marks
 

@@ -1,18 +1,17 @@
 -- It holds whatever frontends do, since it is of the master, the backends and the links between these alone.
-use Rattle.std.proofs.Common.{◌≡◌, ◌≢◌, ◌⊎◌, inl, inr, ℕ, List, None, Some, refl, sym, ap, subst, ◌∙◌}
+use Rattle.std.proofs.Common.{◌≡◌, ◌≢◌, inl, inr, ℕ, List, None, Some, refl, sym, ap, subst, ◌∙◌}
 use Rattle.link_msg.specs.declared.message.LinkMsg.{LinkMsg}
 use Rattle.link_queue.specs.Links.{on_link}
 use Rattle.master_core.specs.declared.master.Master.{Master}
 use Rattle.mur_model.specs.declared.store.Store.{Store}
 use Rattle.node_record.specs.Table.{IsCounted}
 use Rattle.back_node.specs.declared.node.BackNode.{BackNode}
-use Rattle.home_law.specs.Items.{Server}
 use Rattle.name_links.specs.Serials.{Given, SerialsHold}
 use Rattle.back_links.specs.OneTalk.{HasTalk}
 use Rattle.store_links.specs.Shown.{Shows}
 use Rattle.many_links.specs.Murder.{Murder, held_in, homes_of, taken, after_front}
 use Rattle.many_links.specs.ManyHold.{IsLinked, ManyHold}
-use Rattle.many_links.specs.FrontEvents.{IsFront, OutsKeepMany, PassingKeepsMany, AreAlike, AlikeHold}
+use Rattle.many_links.specs.FrontEvents.{OutsKeepMany, PassingKeepsMany, AreAlike, AlikeHold}
 use Rattle.many_links.proofs.Carried.{taken_else, puts_else}
 use Rattle.many_links.proofs.ShownLater.{homes_stay}
 

@@ -1,6 +1,5 @@
 -- It holds after a step of a backend.
 use Rattle.std.proofs.Common.{◌≡◌, ◌≢◌, inl, inr, ◌&&◌, ℕ, Bool, true, false, cond, List, ◌∷◌, ◌++◌, map, Option, None, Some, refl, sym, ap, subst, ◌∙◌}
-use Rattle.link_msg.specs.declared.ask.FrontAsk.{FrontAsk}
 use Rattle.link_msg.specs.declared.message.LinkMsg.{LinkMsg}
 use Rattle.link_msg.specs.declared.message.LinkMsg.TheVariants.{Ask}
 use Rattle.link_queue.specs.Links.{Links, on_link, without_first}
@@ -34,12 +33,12 @@ use Rattle.store_links.specs.Shown.{Homes, Shows}
 use Rattle.store_links.specs.TableEntries.{acl_at}
 use Rattle.store_links.proofs.HeldLaw.{contents_stay}
 use Rattle.many_links.specs.Murder.{Murder, held_in, homes_of, with_node, after_home}
-use Rattle.many_links.specs.ManyHold.{AreRising, HasTalkIn, IsLinked, ManyHold}
+use Rattle.many_links.specs.ManyHold.{AreRising, IsLinked, ManyHold}
 use Rattle.many_links.specs.HomeEvents.{HearsKeepsMany, AsksKeepMany, ServesKeepsMany, IsStoreWith, AlikeHasIt}
 use Rattle.many_links.proofs.Carried.{taken_else, taken_first, puts_own, puts_else}
 use Rattle.many_links.proofs.NodesLaw.{each_node, home_own, home_else}
 use Rattle.many_links.proofs.Rising.{step_rising}
-use Rattle.many_links.proofs.ShownLater.{homes_stay, later_shows}
+use Rattle.many_links.proofs.ShownLater.{later_shows}
 use Rattle.many_links.proofs.HomeStays.{contents_left, home_stays, others_left}
 
 -- ---- open names

@@ -11,6 +11,7 @@ pub mod MasterLaw
 pub mod Marked
 pub mod Carrying
 pub mod TakesLaw
+pub mod OneOfThree
 pub mod FrontLaw
 pub mod NoneCarried
 pub mod OpenLaw

@@ -4,7 +4,6 @@ use Rattle.std.specs.Ordering.{nat_cmp}
 use Rattle.std.specs.Cmp.Lexicographic.{slice_cmp}
 use Rattle.std.proofs.lemmas.Option.{same_Some}
 use Rattle.mur_base.proofs.MapLaws.{names_apart, not_equal, same_or_other}
-use Rattle.node_record.specs.Held.{Names}
 use Rattle.back_node.specs.declared.node.BackNode.{BackNode}
 use Rattle.many_links.specs.Murder.{Nodes, held_in, homes_of, with_node}
 

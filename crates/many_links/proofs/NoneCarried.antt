@@ -1,9 +1,7 @@
 -- No command of a client is carried out in a step for which the store does nothing.
-use Rattle.std.proofs.Common.{◌≡◌, ◌&&◌, ℕ, Bool, true, false, cond, nat_eq, List, [], ◌∷◌, ◌++◌, map, Option, None, Some, refl, sym, ap, subst, ◌∙◌, append-nil}
-use Rattle.std.specs.List.{AllByRecursion, list_any}
-use Rattle.std.specs.Cmp.Lexicographic.{pointwise}
+use Rattle.std.proofs.Common.{◌≡◌, ◌&&◌, ℕ, Bool, true, false, cond, List, [], ◌∷◌, ◌++◌, map, Option, None, Some, refl, sym, ap, subst, ◌∙◌, append-nil}
+use Rattle.std.specs.List.{AllByRecursion}
 use Rattle.std.proofs.lemmas.List.Concat.{flat_map-append}
-use Rattle.backend_core.specs.declared.backend.Backend.{Backend}
 use Rattle.backend_core.specs.declared.op_plan.OpPlan.{OpPlan}
 use Rattle.backend_core.specs.AskPlan.{ask_plan}
 use Rattle.backend_core.specs.HomeLaws.{is_open_here}
@@ -11,29 +9,25 @@ use Rattle.backend_core.specs.HomeStep.{held_at}
 use Rattle.backend_core.specs.Plan.{owes}
 use Rattle.link_msg.specs.declared.ask.FrontAsk.{FrontAsk}
 use Rattle.link_msg.specs.declared.counts.Counts.{Counts}
-use Rattle.link_msg.specs.declared.counts.Counts.TheVariants.{Always}
 use Rattle.link_msg.specs.declared.message.LinkMsg.{LinkMsg}
 use Rattle.link_msg.specs.declared.message.LinkMsg.TheVariants.{Up, End, Line, Ask, Answer}
 use Rattle.link_msg.specs.declared.out.Out.{Out}
 use Rattle.link_msg.specs.declared.out.Out.TheVariants.{Client, Close, Link, Mark, Told as tell}
-use Rattle.link_queue.specs.Links.{on_link}
 use Rattle.master_core.specs.declared.master.Master.{Master}
-use Rattle.master_core.specs.declared.sender.Sender.TheVariants.{Backend as backend, Frontend}
+use Rattle.master_core.specs.declared.sender.Sender.TheVariants.{Frontend}
 use Rattle.master_core.specs.declared.streams.StreamStep.{StreamStep}
 use Rattle.master_core.specs.declared.streams.StreamStep.TheVariants as stream
 use Rattle.master_core.specs.Linked.{sender_by, node_says}
 use Rattle.master_core.specs.Outside.{bytes_in, connect}
 use Rattle.master_core.specs.Replies.{reply_to, bad_reply}
-use Rattle.master_core.specs.Step.{Planned, replied, settled, bad_step, line_step, mark_of}
+use Rattle.master_core.specs.Step.{Planned, replied, settled, bad_step, line_step}
 use Rattle.master_core.specs.Streams.{stream_step}
 use Rattle.master_core.proofs.OutsideAlone.{AreItsOwn, bytes_alone, connects_alone}
 use Rattle.mupdate_codec.specs.declared.command.MCommand.{MCommand}
 use Rattle.mupdate_codec.specs.declared.command.MResponse.{MResponse}
 use Rattle.mupdate_codec.specs.declared.tag.Tag.{Tag}
-use Rattle.mupdate_codec.specs.Asks.{ask_id_of}
 use Rattle.mupdate_codec.specs.Whole.{response_in}
 use Rattle.mur_base.specs.declared.point.AskId.{AskId}
-use Rattle.node_record.specs.declared.master.MasterRecord.{MasterRecord}
 use Rattle.name_flows.specs.declared.ask.AskKind.{AskKind}
 use Rattle.name_flows.specs.declared.ask.Told.{Told}
 use Rattle.name_flows.specs.Asked.{asked_step}
@@ -45,7 +39,8 @@ use Rattle.back_node.specs.declared.node.BackNode.{BackNode}
 use Rattle.back_node.specs.Acted.{BackActed}
 use Rattle.back_node.specs.Node.{is_my_master}
 use Rattle.back_node.specs.NodeLaws.{is_of_messages}
-use Rattle.back_node.specs.Takes.{UpToEntry, answer_out, ask_by, line_by, line_out, name_ask, name_kind, node_takes, passed_over, serves, step_outs, talks, taken_up}
+use Rattle.back_node.specs.Takes.{UpToEntry, answer_out, ask_by, line_by, line_out, name_ask, name_kind, node_takes}
+use Rattle.back_node.specs.Takes.{passed_over, serves, step_outs, talks, taken_up}
 use Rattle.back_node.proofs.AtHome.{done_by, message_step}
 use Rattle.back_node.proofs.OpenHere.{elsewhere_is_told}
 use Rattle.feed_links.proofs.Steps.{StepIs, is_bad, is_taken, step_is}

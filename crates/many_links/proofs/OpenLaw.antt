@@ -1,23 +1,16 @@
 -- What follows for names that are open, and for names that are no mailboxes.
-use Rattle.std.proofs.Common.{◌≡◌, ℕ, Bool, true, false, is_some, List, Option, None, Some, refl, sym, ap, subst, ◌∙◌}
+use Rattle.std.proofs.Common.{◌≡◌, ℕ, Bool, true, false, is_some, List, None, Some, refl, sym, ap, subst, ◌∙◌}
 use Rattle.link_queue.specs.Links.{on_link}
-use Rattle.link_msg.specs.declared.ask.FrontAsk.{FrontAsk}
-use Rattle.mail_message.specs.Boxes.{Content}
 use Rattle.mur_model.specs.declared.store.Store.{Store}
 use Rattle.mur_model.specs.Store.{box_at}
-use Rattle.node_record.specs.declared.held.Held.{Held}
 use Rattle.node_record.specs.Held.{IsWritableHome, held_at}
 use Rattle.backend_core.specs.HomeLaws.{is_open_here}
 use Rattle.home_law.specs.ManyNames.{Mailbox}
 use Rattle.back_node.specs.declared.node.BackNode.{BackNode}
-use Rattle.back_node.specs.NodeLaws.{IsCarriedOut, is_of_messages}
 use Rattle.back_node.proofs.OpenHere.{open_is_carried_out}
 use Rattle.name_links.specs.Serials.{Given}
 use Rattle.back_links.specs.OneHome.{IsNamedAt}
 use Rattle.back_links.proofs.OneHome.{open_at_one, open_is_named}
-use Rattle.serve_law.specs.AsTheStore.{HaveAlike}
-use Rattle.serve_law.specs.AsTheStore.HaveAlike.{both}
-use Rattle.store_links.specs.TableEntries.{IsNoMailbox}
 use Rattle.store_links.proofs.BoxesLaw.{box_is_there}
 use Rattle.store_links.proofs.OpenLaw.{none_is_missing, open_is_alike}
 use Rattle.many_links.specs.Murder.{Murder, held_in, homes_of}

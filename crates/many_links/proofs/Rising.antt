@@ -1,5 +1,5 @@
 -- The messages of each mailbox stand in rising order of UID after any entry of a backend's disk.
-use Rattle.std.proofs.Common.{◌≡◌, ◌∙◌, ℕ, Bool, true, false, cond, List, [], ◌∷◌, Option, None, Some, sym, ap, subst}
+use Rattle.std.proofs.Common.{◌≡◌, ℕ, Bool, true, false, cond, List, [], ◌∷◌, Option, None, Some, sym, subst}
 use Rattle.std.specs.Prelude.{All}
 use Rattle.std.specs.List.{fold}
 use Rattle.std.specs.List.Sorted.{IsStrictlySortedBy}
@@ -19,7 +19,8 @@ use Rattle.link_msg.specs.declared.message.LinkMsg.{LinkMsg}
 use Rattle.node_record.specs.declared.backend.BackendRecord.{BackendRecord}
 use Rattle.node_record.specs.declared.backend.BackendRecord.TheVariants as entry
 use Rattle.node_record.specs.declared.held.Held.{Held}
-use Rattle.node_record.specs.Held.{Names, held_at, held_after, has_content, is_receiving, changed, changed_if, placed, forgotten, pointer, puts, relabels, removals, ready_in, took_in, with_changes, with_phase}
+use Rattle.node_record.specs.Held.{Names, held_at, held_after, has_content, is_receiving, changed, changed_if, placed, forgotten, pointer, puts}
+use Rattle.node_record.specs.Held.{relabels, removals, ready_in, took_in, with_changes, with_phase}
 use Rattle.backend_core.specs.HomeLaws.{RisesAt}
 use Rattle.backend_core.proofs.RisesOn.{changes_rise}
 use Rattle.name_flows.specs.Steps.{held_with}

@@ -1,21 +1,19 @@
 -- There is a start at which it holds.
-use Rattle.std.proofs.Common.{◌≡◌, ◌≢◌, ◌⊎◌, inl, inr, ◌||◌, ℕ, Bool, true, false, cond, nat_eq, is_some, List, [], ◌∷◌, ◌++◌, map, Option, None, Some}
-use Rattle.std.proofs.Common.{refl, sym, ap, subst, ◌∙◌}
+use Rattle.std.proofs.Common.{◌≡◌, ◌≢◌, ◌⊎◌, inl, inr, ◌||◌, ℕ, Bool, true, false, nat_eq, is_some, List, [], ◌∷◌, ◌++◌, Option, None, Some}
+use Rattle.std.proofs.Common.{refl, sym, ap, ◌∙◌}
 use Rattle.std.specs.List.{list_any, AllByRecursion}
 use Rattle.std.specs.Ordering.{nat_cmp}
 use Rattle.std.specs.Cmp.Lexicographic.{pointwise, slice_cmp}
 use Rattle.link_msg.specs.declared.message.LinkMsg.{LinkMsg}
 use Rattle.link_queue.specs.Links.{on_link}
-use Rattle.master_core.specs.Boot.{booted}
 use Rattle.mur_base.proofs.MapLaws.{names_apart, same_or_other}
 use Rattle.mur_base.specs.declared.home.Location.{Location}
-use Rattle.node_record.specs.Table.{empty_table}
 use Rattle.back_node.specs.declared.node.BackNode.{BackNode}
 use Rattle.back_node.specs.Acted.{BackActed}
 use Rattle.feed_links.specs.Lines.{messages_to}
 use Rattle.feed_links.proofs.Names.{same_name}
-use Rattle.many_links.specs.Murder.{Murder, with_node}
-use Rattle.many_links.specs.FirstMurder.{HasBegun, IsFirst, told_up, no_murder, tell_one, tell_all, servers_of, AreServers, AreTold, ThereIsAFirst}
+use Rattle.many_links.specs.Murder.{Murder}
+use Rattle.many_links.specs.Start.{HasBegun, IsStart, told_up, no_murder, tell_one, tell_all, servers_of, AreServers, ThereIsAStart}
 use Rattle.many_links.proofs.Carried.{puts_own, puts_else}
 use Rattle.many_links.proofs.NodesLaw.{each_node, node_own, node_else}
 
@@ -25,7 +23,7 @@ IsNext murder backends place = (murder.nodes place.server ≡ None) × (list_any
 
 -- so far: what nobody was told yet is quiet, and so is the master
 record SoFar (murder : Murder) (me : List ℕ) (backends : List (List ℕ)) (places : List Location) : Type 0 where
-  first : IsFirst murder me backends
+  first : IsStart murder me backends
   up : (name : List ℕ) → murder.nodes name ≡ None → on_link murder.links name me ≡ []
   down : (name : List ℕ) → on_link murder.links me name ≡ []
   next : AllByRecursion (IsNext murder backends) places
@@ -100,7 +98,7 @@ module _ (murder : Murder) (me : List ℕ) (backends : List (List ℕ)) (place :
   }
 
 all_told : (places : List Location) (murder : Murder) (me : List ℕ) (backends : List (List ℕ)) → AreServers me places → SoFar murder me backends places
-    → IsFirst (tell_all me murder places) me backends
+    → IsStart (tell_all me murder places) me backends
 unfolding tell_all
 all_told [] murder me backends are so = so.first
 all_told (place ∷ places) murder me backends are so =
@@ -166,8 +164,8 @@ none_yet me places = record {
   next = all_next (no_murder me (servers_of places)) places (λ name. refl);
 }
 
-pub there_is_a_first : ThereIsAFirst
-there_is_a_first me places are = record {
+pub there_is_a_start : ThereIsAStart
+there_is_a_start me places are = record {
   first = all_told places (no_murder me (servers_of places)) me (servers_of places) are (none_yet me places);
   each = each_there me places (no_murder me (servers_of places));
 }

@@ -1,5 +1,6 @@
 -- It holds after the master took the first message of a backend, which is one command of the store or nothing.
-use Rattle.std.proofs.Common.{◌≡◌, ◌≢◌, ◌⊎◌, inl, inr, ℕ, true, false, is_some, List, [], ◌∷◌, ◌++◌, map, Option, None, Some, refl, sym, ap, subst, ◌∙◌, append-nil}
+use Rattle.std.proofs.Common.{◌≡◌, ◌≢◌, ◌⊎◌, inl, inr, ℕ, true, false, is_some, List, [], ◌∷◌, ◌++◌, map, Option}
+use Rattle.std.proofs.Common.{None, Some, refl, sym, ap, subst, ◌∙◌, append-nil}
 use Rattle.std.specs.List.{AllByRecursion}
 use Rattle.std.specs.Ordering.{nat_cmp}
 use Rattle.std.specs.Cmp.Lexicographic.{slice_cmp}
@@ -7,14 +8,10 @@ use Rattle.std.proofs.lemmas.List.{append_cancel_left, map-append}
 use Rattle.link_msg.specs.declared.counts.Counts.{Counts}
 use Rattle.link_msg.specs.declared.counts.Counts.TheVariants.{Always}
 use Rattle.link_msg.specs.declared.message.LinkMsg.{LinkMsg}
-use Rattle.link_msg.specs.declared.message.LinkMsg.TheVariants.{Line}
 use Rattle.link_queue.specs.Links.{Links, on_link, without_first}
-use Rattle.mail_message.specs.Boxes.{empty_box}
-use Rattle.mail_message.specs.FirstAcl.{first_acl}
-use Rattle.master_core.specs.declared.master.Master.{Master}
 use Rattle.master_core.specs.declared.reply.Reply.{Reply}
 use Rattle.master_core.specs.declared.sender.Sender.TheVariants.{Backend}
-use Rattle.master_core.specs.Linked.{node_says, let_out}
+use Rattle.master_core.specs.Linked.{node_says}
 use Rattle.master_core.specs.Outside.{Stepped}
 use Rattle.master_core.specs.Replies.{reply_to}
 use Rattle.master_core.specs.Step.{mark_of, replied, table_with}
@@ -25,7 +22,6 @@ use Rattle.mupdate_codec.specs.Arguments.{exact}
 use Rattle.mupdate_codec.specs.Asks.{ask_id_of}
 use Rattle.mupdate_codec.specs.Commands.{command_line}
 use Rattle.mur_base.proofs.MapLaws.{names_apart, same_or_other}
-use Rattle.mur_base.specs.declared.home.Location.{Location}
 use Rattle.mur_base.specs.declared.point.AskId.{AskId}
 use Rattle.mur_model.specs.declared.store.Pair.{Pair}
 use Rattle.mur_model.specs.declared.store.Store.{Store}
@@ -37,19 +33,19 @@ use Rattle.home_law.specs.Items.{Server}
 use Rattle.home_law.specs.ManyNames.{Mailbox}
 use Rattle.name_links.specs.Lines.{backend_line, is_asked}
 use Rattle.name_links.specs.OneLink.{OneLink, server_of, table_by}
-use Rattle.name_links.specs.Serials.{Given, gives, SerialsHold}
+use Rattle.name_links.specs.Serials.{Given, gives}
 use Rattle.name_links.proofs.MadeLaw.{create_makes_one}
 use Rattle.back_links.specs.MasterEvents.{TalkAfterMaster, given_in}
 use Rattle.back_links.specs.OneTalk.{link_of, HasTalk}
 use Rattle.back_links.specs.Written.{command_message}
-use Rattle.back_links.proofs.FirstLine.{IsItsLine, its_line, next, says_reply, gives_same}
+use Rattle.back_links.proofs.FirstLine.{IsItsLine, its_line, says_reply, gives_same}
 use Rattle.back_links.proofs.MasterLaw.{others_keep_talk, takes_keeps_talk}
 use Rattle.back_links.proofs.Queues.{IsFirst, first_of}
 use Rattle.back_links.proofs.Texts.{command_read}
 use Rattle.store_links.specs.Given.{HasGiven, given_pair}
 use Rattle.store_links.specs.Lines.{IsTaken, nothing as is_nothing, created as is_created, removed as is_removed}
 use Rattle.store_links.specs.Shown.{Homes, Shows}
-use Rattle.store_links.specs.TableEntries.{IsCreated, IsRemoved, store_with, without_box}
+use Rattle.store_links.specs.TableEntries.{store_with, without_box}
 use Rattle.store_links.proofs.BoxesLaw.{box_is_there, each_is_a_box}
 use Rattle.store_links.proofs.LineLaw.{each_is_one}
 use Rattle.store_links.proofs.TableLaw.{delete_is_one}

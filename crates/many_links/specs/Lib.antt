@@ -1,7 +1,7 @@
 pub mod Murder
 pub mod ManyHold
 pub mod Marks
-pub mod FirstMurder
+pub mod Start
 pub mod HomeEvents
 pub mod MasterEvents
 pub mod FrontEvents

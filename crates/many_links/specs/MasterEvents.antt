@@ -1,5 +1,5 @@
 -- It holds after each step of the master.
-use Rattle.std.specs.Prelude.{◌≡◌, ℕ, nat_eq, true, false, List, [], ◌∷◌, ◌++◌, Some, None}
+use Rattle.std.specs.Prelude.{◌≡◌, ℕ, nat_eq, false, List, [], ◌∷◌, ◌++◌, Some, None}
 use Rattle.std.specs.List.{list_any}
 use Rattle.std.specs.Cmp.Lexicographic.{pointwise}
 use Rattle.mail_message.specs.Boxes.{Content}
@@ -8,7 +8,6 @@ use Rattle.link_msg.specs.declared.message.LinkMsg.{LinkMsg}
 use Rattle.link_msg.specs.declared.message.LinkMsg.TheVariants.{Up, Line}
 use Rattle.link_msg.specs.declared.out.Out.{Out}
 use Rattle.link_queue.specs.Links.{on_link}
-use Rattle.master_core.specs.declared.master.Master.{Master}
 use Rattle.master_core.specs.declared.sender.Sender.TheVariants.{Outside}
 use Rattle.master_core.specs.Linked.{node_says}
 use Rattle.master_core.specs.Outside.{bytes_in, connect, still}
@@ -50,6 +49,11 @@ pub data StoreTakes (message : LinkMsg) (outs : List Out) (gives : Given) (store
       → box_at store n ≡ None → IsFree store n serial → gives ≡ (n, serial) ∷ [] → StoreTakes message outs gives store (store_with store n serial)
   removed : (ask : AskId) (n : Mailbox) (box : Content) → IsDoneFor ask message (command.Delete n) outs → box_at store n ≡ Some box → gives ≡ []
       → StoreTakes message outs gives store (without_box store n)
+
+-- it is exactly one of these
+abbrev pub ExactlyOne : Type 0
+ExactlyOne = (message : LinkMsg) (outs : List Out) (gives : Given) (store one other : Store) → StoreTakes message outs gives store one
+    → StoreTakes message outs gives store other → one ≡ other
 
 pub record IsOneCommand (murder : Murder) (given : Given) (store : Store) (name : List ℕ) (message : LinkMsg) : Type 0 where
   pub later : Store

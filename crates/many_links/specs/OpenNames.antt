@@ -1,5 +1,5 @@
 -- What follows for names and mailboxes.
-use Rattle.std.specs.Prelude.{◌≡◌, ◌≢◌, ℕ, ◌<◌, ◌-◌, ◌^◌, true, false, List, length, None, Some}
+use Rattle.std.specs.Prelude.{◌≡◌, ℕ, ◌<◌, ◌-◌, ◌^◌, true, false, List, length, None, Some}
 use Rattle.std.specs.Map.{keys_of}
 use Rattle.mail_message.specs.Boxes.{Content}
 use Rattle.backend_core.specs.HomeLaws.{is_open_here}

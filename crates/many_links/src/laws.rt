@@ -1,8 +1,8 @@
 // What holds of the master, all backends, the links between all nodes, and the one store.
-ghost use Rattle.many_links.specs.FirstMurder.{ManyBegin, ThereIsAFirst};
+ghost use Rattle.many_links.specs.Start.{ManyBegin, ThereIsAStart};
 ghost use Rattle.many_links.specs.FrontEvents.{OutsKeepMany, PassingKeepsMany, AlikeHold};
 ghost use Rattle.many_links.specs.HomeEvents.{HearsKeepsMany, AsksKeepMany, ServesKeepsMany, AlikeHasIt};
-ghost use Rattle.many_links.specs.MasterEvents.{TakesKeepsMany, FrontendsKeepMany, UpsKeepMany, ClientsKeepMany};
+ghost use Rattle.many_links.specs.MasterEvents.{TakesKeepsMany, ExactlyOne, FrontendsKeepMany, UpsKeepMany, ClientsKeepMany};
 ghost use Rattle.many_links.specs.OtherSteps.{OthersCarryNone, MasterAsksNothing, FrontendsCarryNone, ClientsCarryNone};
 ghost use Rattle.many_links.specs.OpenNames.{OpenIsTheStores, OneHasItOpen, NoMailboxIsNowhere, MailboxesAreBoxes, BoxesDiffer};
 
@@ -10,7 +10,7 @@ ghost use Rattle.many_links.specs.OpenNames.{OpenIsTheStores, OneHasItOpen, NoMa
 /// backend at each of some places.
 pub fn many_hold_at_the_start()
     ensures begin { ManyBegin }
-    ensures there { ThereIsAFirst }
+    ensures there { ThereIsAStart }
 {}
 
 /// It holds after a backend took the first message of the master, or any message of another node. The store stays, unless an ask for messages comes
@@ -22,11 +22,12 @@ pub fn each_step_of_a_backend_keeps_it()
     ensures alike { AlikeHasIt }
 {}
 
-/// It holds after the master took the first message of a backend, for which the store makes one mailbox for a client's CREATE, removes one for a
-/// client's DELETE, or does nothing. It holds after the master took anything of a node that is no backend, after one of its links came up, and after
-/// whatever a client from outside did, for which the store does nothing.
+/// It holds after the master took the first message of a backend, for which the store does exactly one of these: it makes one mailbox for a client's
+/// CREATE, removes one for a client's DELETE, or does nothing. It holds after the master took anything of a node that is no backend, after one of its
+/// links came up, and after whatever a client from outside did, for which the store does nothing.
 pub fn each_step_of_the_master_keeps_it()
     ensures takes { TakesKeepsMany }
+    ensures exactly { ExactlyOne }
     ensures frontends { FrontendsKeepMany }
     ensures ups { UpsKeepMany }
     ensures clients { ClientsKeepMany }

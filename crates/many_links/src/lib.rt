@@ -4,7 +4,7 @@
 //! |---|---|
 //! | the master, the backends and the links; what a step of one makes of it | `specs/Murder.antt` |
 //! | what holds of it, and of the store | `specs/ManyHold.antt` |
-//! | the start | `specs/FirstMurder.antt` |
+//! | the start | `specs/Start.antt` |
 //! | for which commands a step counts | `specs/Marks.antt` |
 //! | a step of a backend | `specs/HomeEvents.antt` |
 //! | a step of the master, and what it is to the store | `specs/MasterEvents.antt` |

@@ -32,13 +32,13 @@ pub record HasBegun (murder : Murder) (me : List ℕ) (backends : List (List ℕ
   pub up : on_link murder.links name me ≡ messages_to me (told_up place me).outs
   pub down : on_link murder.links me name ≡ []
 
-pub record IsFirst (murder : Murder) (me : List ℕ) (backends : List (List ℕ)) : Type 0 where
+pub record IsStart (murder : Murder) (me : List ℕ) (backends : List (List ℕ)) : Type 0 where
   pub master : murder.master ≡ booted me backends empty_table
   pub begun : (name : List ℕ) (node : BackNode) → murder.nodes name ≡ Some node → HasBegun murder me backends name node
 
 -- it holds then, and the store is empty
 abbrev pub ManyBegin : Type 0
-ManyBegin = (murder : Murder) (me : List ℕ) (backends : List (List ℕ)) → IsFirst murder me backends → ManyHold murder [] empty_store
+ManyBegin = (murder : Murder) (me : List ℕ) (backends : List (List ℕ)) → IsStart murder me backends → ManyHold murder [] empty_store
 
 -- ---- there is one: the backends of these places are told, one after another, that their link with the master is up
 
@@ -62,8 +62,8 @@ AreServers me (place ∷ places) =
     IsPlaceText place × (place.server ≢ me) × AllByRecursion (λ (other : Location). other.server ≢ place.server) places × AreServers me places
 
 pub record AreTold (me : List ℕ) (places : List Location) (murder : Murder) : Type 0 where
-  pub first : IsFirst murder me (servers_of places)
+  pub first : IsStart murder me (servers_of places)
   pub each : AllByRecursion (λ (place : Location). is_some (murder.nodes place.server) ≡ true) places
 
-abbrev pub ThereIsAFirst : Type 0
-ThereIsAFirst = (me : List ℕ) (places : List Location) → AreServers me places → AreTold me places (tell_all me (no_murder me (servers_of places)) places)
+abbrev pub ThereIsAStart : Type 0
+ThereIsAStart = (me : List ℕ) (places : List Location) → AreServers me places → AreTold me places (tell_all me (no_murder me (servers_of places)) places)
