@@ -14,5 +14,6 @@ pub mod TakesLaw
 pub mod OneOfThree
 pub mod FrontLaw
 pub mod NoneCarried
+pub mod RunLaw
 pub mod OpenLaw
 pub mod BoxesLaw

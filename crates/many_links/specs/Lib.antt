@@ -6,4 +6,5 @@ pub mod HomeEvents
 pub mod MasterEvents
 pub mod FrontEvents
 pub mod OtherSteps
+pub mod Runs
 pub mod OpenNames

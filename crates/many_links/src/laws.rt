@@ -1,4 +1,5 @@
 // What holds of the master, all backends, the links between all nodes, and the one store.
+ghost use Rattle.many_links.specs.Runs.{RunsHold};
 ghost use Rattle.many_links.specs.Start.{ManyBegin, ThereIsAStart};
 ghost use Rattle.many_links.specs.FrontEvents.{OutsKeepMany, PassingKeepsMany, AlikeHold};
 ghost use Rattle.many_links.specs.HomeEvents.{HearsKeepsMany, AsksKeepMany, ServesKeepsMany, AlikeHasIt};
@@ -39,6 +40,11 @@ pub fn frontends_keep_it()
     ensures outs { OutsKeepMany }
     ensures passing { PassingKeepsMany }
     ensures alike { AlikeHold }
+{}
+
+/// It holds after any of these events, one after another from a start on.
+pub fn many_hold_after_any_events()
+    ensures { RunsHold }
 {}
 
 /// In no step for which the store does nothing a command of a client is carried out: it is answered at most, if the step counts for it at all.
