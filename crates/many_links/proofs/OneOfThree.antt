@@ -1,14 +1,12 @@
 -- What the store does where the master takes a message is exactly one of a CREATE, a DELETE and nothing.
-use Rattle.std.proofs.Common.{◌≡◌, ℕ, List, [], ◌∷◌, Option, Some, refl, sym, ap, subst, ◌∙◌}
+use Rattle.std.proofs.Common.{◌≡◌, ℕ, List, [], ◌∷◌, refl, sym, ap, subst, ◌∙◌}
 use Rattle.std.specs.List.{AllByRecursion}
 use Rattle.std.proofs.lemmas.Option.{same_Some}
-use Rattle.link_msg.specs.declared.counts.Counts.{Counts}
 use Rattle.link_msg.specs.declared.counts.Counts.TheVariants.{Always, IfAnswered}
 use Rattle.link_msg.specs.declared.message.LinkMsg.{LinkMsg}
 use Rattle.link_msg.specs.declared.message.LinkMsg.TheVariants.{Line}
 use Rattle.link_msg.specs.declared.out.Out.{Out}
 use Rattle.mur_base.specs.declared.point.AskId.{AskId}
-use Rattle.mur_model.specs.declared.store.Store.{Store}
 use Rattle.mupdate_codec.specs.declared.command.MCommand.{MCommand}
 use Rattle.mupdate_codec.specs.declared.command.MCommand.TheVariants as command
 use Rattle.mupdate_codec.specs.declared.tag.Tag.{Tag}
@@ -16,8 +14,8 @@ use Rattle.mupdate_codec.specs.Whole.{command_in}
 use Rattle.home_law.specs.ManyNames.{Mailbox}
 use Rattle.name_links.specs.Serials.{Given}
 use Rattle.store_links.specs.TableEntries.{store_with, without_box}
-use Rattle.many_links.specs.Marks.{IsOnlyTold, marks_in, CarryNoneOut}
-use Rattle.many_links.specs.MasterEvents.{IsDoneFor, StoreTakes, nothing, created, removed, ExactlyOne}
+use Rattle.many_links.specs.Marks.{IsOnlyTold, CarryNoneOut}
+use Rattle.many_links.specs.MasterEvents.{IsDoneFor, nothing, created, removed, ExactlyOne}
 
 -- a message is one command
 same_command : (ask its : AskId) (message : LinkMsg) (it other : MCommand) (outs : List Out) → IsDoneFor ask message it outs → IsDoneFor its message other outs

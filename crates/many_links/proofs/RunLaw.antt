@@ -6,7 +6,7 @@ use Rattle.back_links.specs.MasterEvents.{given_in}
 use Rattle.master_core.specs.Linked.{node_says}
 use Rattle.many_links.specs.Murder.{Murder, master_takes}
 use Rattle.many_links.specs.ManyHold.{ManyHold}
-use Rattle.many_links.specs.Runs.{Event, hears, asks, serves, takes, listens, is_up, connects, says, ends, lets_out, passes, Run, begins, goes_on, RunsHold}
+use Rattle.many_links.specs.Runs.{Event, hears, asks, serves, takes, listens, is_up, connects, says, ends, lets_out, passes, begins, goes_on, RunsHold}
 use Rattle.many_links.proofs.BegunLaw.{many_begin}
 use Rattle.many_links.proofs.FrontLaw.{outs_keep_many, passing_keeps_many}
 use Rattle.many_links.proofs.HomeLaw.{asks_keep_many, hears_keeps_many, serves_keeps_many}
