@@ -28,7 +28,8 @@ use Rattle.many_links.specs.FrontEvents.{IsFront}
 -- the murder, the UIDVALIDITYs given and the store before an event and after it
 pub data Event (murder : Murder) (given : Given) (store : Store) : Murder → Given → Store → Type 0 where
   hears : (name : List ℕ) (node : BackNode) (message : LinkMsg) (rest : List LinkMsg) → murder.nodes name ≡ Some node
-      → on_link murder.links murder.master.me name ≡ message ∷ rest → Event murder given store (home_takes murder name node murder.master.me message) given store
+      → on_link murder.links murder.master.me name ≡ message ∷ rest
+      → Event murder given store (home_takes murder name node murder.master.me message) given store
   asks : (name : List ℕ) (node : BackNode) (from : List ℕ) (message : LinkMsg) → murder.nodes name ≡ Some node → from ≢ murder.master.me → IsFitting message
       → is_served node message ≡ false → Event murder given store (home_takes murder name node from message) given store
   serves : (name : List ℕ) (node : BackNode) (from : List ℕ) (ask : FrontAsk) (later : Store) → murder.nodes name ≡ Some node → from ≢ murder.master.me
