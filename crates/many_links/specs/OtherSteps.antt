@@ -1,4 +1,4 @@
--- No command of a client is carried out in a step for which the store does nothing.
+-- In no step of a backend or the master for which the store does nothing is a command of a client carried out.
 use Rattle.std.specs.Prelude.{◌≡◌, ℕ, nat_eq, false, List, [], ◌∷◌, Some}
 use Rattle.std.specs.List.{list_any}
 use Rattle.std.specs.Cmp.Lexicographic.{pointwise}

@@ -47,7 +47,8 @@ pub fn many_hold_after_any_events()
     ensures { RunsHold }
 {}
 
-/// In no step for which the store does nothing a command of a client is carried out: it is answered at most, if the step counts for it at all.
+/// In no step of a backend or the master for which the store does nothing is a command of a client carried out: if the step counts for one, then only
+/// where its client is answered.
 pub fn no_other_step_carries_a_command_out()
     ensures others { OthersCarryNone }
     ensures lines { MasterAsksNothing }
