@@ -1,0 +1,10 @@
+pub mod Murder
+pub mod ManyHold
+pub mod Marks
+pub mod Start
+pub mod HomeEvents
+pub mod MasterEvents
+pub mod FrontEvents
+pub mod OtherSteps
+pub mod Runs
+pub mod OpenNames
