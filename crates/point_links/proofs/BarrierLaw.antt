@@ -1,5 +1,6 @@
 -- The master takes a command's NOOP, and by the table of this step the frontend decides at the OK.
-use Rattle.std.proofs.Common.{◌≡◌, ◌≢◌, ◌⊎◌, inl, inr, ℕ, true, not, List, Option, None, Some, refl, sym, ◌∙◌, ap, subst}
+use Rattle.std.proofs.Common.{◌≡◌, ◌≢◌, ◌⊎◌, inl, inr, ℕ, true, List, Option, None, Some, refl, sym, ◌∙◌, ap, subst}
+use Rattle.std.specs.Prelude.{not}
 use Rattle.asking_core.specs.Answered.{WentOn, goes_on}
 use Rattle.asking_core.specs.Cleared.{cleared}
 use Rattle.ask_routes.specs.declared.ask_for.AskFor.{AskFor}
@@ -35,12 +36,17 @@ use Rattle.route_links.proofs.DecidedLaw.{by_its_table}
 use Rattle.store_links.proofs.OpenLaw.{none_is_missing}
 use Rattle.many_links.specs.Murder.{Murder, homes_of}
 use Rattle.many_links.proofs.MasterLaw.{frontends_keep_many}
-use Rattle.point_links.specs.Barriers.{NoopComes, NoopTaken, decided, IsMissing, IsReserved, IsAskedOn, MissingIsAPoint, ReservedIsAPoint, BarrierIs, is_missing, is_refused, is_asked, EachBarrier}
+use Rattle.point_links.specs.Barriers.{NoopComes, NoopTaken, decided, IsMissing, IsReserved, IsAskedOn, MissingIsAPoint, ReservedIsAPoint, BarrierIs}
+use Rattle.point_links.specs.Barriers.{is_missing, is_refused, is_asked, EachBarrier}
 use Rattle.point_links.specs.Carried.{turn_at}
 use Rattle.point_links.specs.Commands.{ClientCommand, WaitsOn, refused_turn}
 use Rattle.point_links.proofs.Told.{refused_so, server_waits, told_so}
 use Rattle.point_links.proofs.Works.{IsMissed, about_mailbox, is_make, may_work, misses, of_messages}
 use Rattle.session_core.specs.declared.result.OpResult.TheVariants.{Missing}
+
+make_about : (name : List ℕ) (work : Work) → work ≡ Make → ask_for name (asked_for name work).op ≡ about.Create name
+unfolding asked_for
+make_about name work e = rw e refl
 
 -- the refusal of a name that is reserved, where a home couldn't serve it
 
@@ -88,12 +94,9 @@ module _ (murder : Murder) (given : Given) (store : Store) (front master first :
   by_mailbox cause ne = by_about cause (about.Mailbox c.name) (about_mailbox c.name (asked_for c.name c.work).op (of_messages c.name c.work ne))
 
   -- about one that is to be made
-  by_create : (cause : Why) → c.work ≡ Make → decided table master first c cause ≡ goes_on master c.id c.was c.waiting (create_by table first c.name cause found_at)
-  by_create cause is = by_about cause (about.Create c.name) (make_about c.work is)
-    where
-      make_about : (work : Work) → work ≡ Make → ask_for c.name (asked_for c.name work).op ≡ about.Create c.name
-      unfolding asked_for
-      make_about work e = rw e refl
+  by_create : (cause : Why) → c.work ≡ Make
+      → decided table master first c cause ≡ goes_on master c.id c.was c.waiting (create_by table first c.name cause found_at)
+  by_create cause is = by_about cause (about.Create c.name) (make_about c.name c.work is)
 
   -- ---- missing
 

@@ -1,5 +1,7 @@
 -- The master takes the line of a CREATE.
-use Rattle.std.proofs.Common.{◌≡◌, ◌≢◌, ℕ, ◌<◌, ◌-◌, ◌^◌, Bool, true, false, cond, is_some, not, List, [], ◌∷◌, ◌++◌, filter, Option, None, Some, refl, sym, ◌∙◌, ap, subst}
+use Rattle.std.proofs.Common.{◌≡◌, ◌≢◌, ℕ, ◌<◌, ◌-◌, ◌^◌, Bool, true, false, cond, is_some, List, [], ◌∷◌, ◌++◌, filter, Option, None, Some, refl}
+use Rattle.std.proofs.Common.{sym, ◌∙◌, ap, subst}
+use Rattle.std.specs.Prelude.{not}
 use Rattle.std.specs.List.{AllByRecursion}
 use Rattle.std.proofs.lemmas.List.Concat.{flat_map-cons}
 use Rattle.asking_core.specs.Answered.{answered}
@@ -23,6 +25,7 @@ use Rattle.link_msg.specs.declared.outcome.Outcome.TheVariants.{None as nothing_
 use Rattle.link_queue.specs.Links.{on_link}
 use Rattle.mail_message.specs.Boxes.{Content}
 use Rattle.mail_message.specs.declared.message.Snapshot.{Snapshot}
+use Rattle.mail_message.specs.FirstAcl.{first_acl}
 use Rattle.master_core.specs.declared.reply.Reply.{Reply}
 use Rattle.master_core.specs.Linked.{node_says}
 use Rattle.master_core.specs.Refusals.{is_active, is_active_state, is_full, is_reserved}
@@ -47,7 +50,8 @@ use Rattle.mur_model.specs.Store.{box_at, is_spent, IsFree}
 use Rattle.name_commands.specs.Moves.{ends, heard_move}
 use Rattle.name_commands.specs.MasterSteps.{IsTaken, flow_reply}
 use Rattle.name_commands.specs.Places.{answer_message, flow_line, flow_message, stage_command}
-use Rattle.name_commands.specs.Replied.{IsReplied, name_reserved, was_active, was_reserved, serials_spent, name_activated, table_full, name_closed, name_deleted}
+use Rattle.name_commands.specs.Replied.{IsReplied, name_reserved, was_active, was_reserved, serials_spent, name_activated, table_full, name_closed}
+use Rattle.name_commands.specs.Replied.{name_deleted}
 use Rattle.name_commands.specs.Whose.{Whose, is_command, is_own_line, is_own_message, is_own_out}
 use Rattle.name_commands.proofs.MasterLaw.{line_taken}
 use Rattle.name_commands.proofs.Own.{is_only, kept as kept_first, of_one, on_itself, own_is}
@@ -104,12 +108,15 @@ module _ {X : Type 0} (p : X → Bool) (P : X → Type 0) where
 none_always : (p : Out → Bool) (outs : List Out) (first : Out) (ask : AskId) → CarryNoneOut outs
     → filter p outs ≡ first ∷ Mark ask Always ∷ [] → ⊥
 none_always p outs first ask none e =
-    let all = subst (AllByRecursion MarksOnlyTold) e (filtered p MarksOnlyTold outs (each_out outs none)) in apart all.1.0.0
+    let all = subst (AllByRecursion MarksOnlyTold) e (filtered p MarksOnlyTold outs (each_out outs none)) in apart ((all.1).0).0
 
 -- ---- which commands the lines are
 
-read_as : (one other : Tag × MCommand) → (let o : Option (Tag × MCommand) = Some one in o ≡ Some other) → one.1 ≡ other.1
-read_as one other e = cc
+read_as : (one other : Tag × MCommand) → Some one ≡ Some other → one.1 ≡ other.1
+read_as one other e = (let same : one ≡ other = cc in ap (λ (x : Tag × MCommand). x.1) same)
+
+same_bytes : (one other : List ℕ) → Line one ≡ Line other → one ≡ other
+same_bytes one other e = cc
 
 -- ---- what the store does with a CREATE
 
@@ -208,11 +215,11 @@ module _ (murder : Murder) (given : Given) (store : Store) (c : ClientCommand) (
   its_id : flow.ask ≡ c.id
   its_id = is_only c.id flow.ask (own_is whose (flow_at node.flows c.name) flow (comes.placed.at.running c.name ∙ on_itself c.name flow)).1
 
-  message_is : message ≡ command_message it_is
-  message_is =
-      let both : message ∷ filter (is_own_message whose) rest ≡ flow_message me c.name flow ∷ [] =
-      sym (kept_first (is_own_message whose) message rest comes.own) ∙ comes.placed.up_is in
-      cc
+  both_are : message ∷ filter (is_own_message whose) rest ≡ flow_message me c.name flow ∷ []
+  both_are = sym (kept_first (is_own_message whose) message rest comes.own) ∙ comes.placed.up_is
+
+  message_is : message ≡ flow_message me c.name flow
+  message_is = let e = both_are in cc
 
   -- it is read so, since it is among the lines that were sent
   line_spelled : HasLineTexts (flow_line c.name flow)
@@ -225,8 +232,7 @@ module _ (murder : Murder) (given : Given) (store : Store) (c : ClientCommand) (
 
   is_read : (bytes : List ℕ) (tag : Tag) (m : MCommand) → message ≡ Line bytes → command_in bytes ≡ Some (tag, m) → m ≡ stage_command me c.name flow.stage
   is_read bytes tag m is read =
-      let same : Line bytes ≡ Line ((command_line exact).text it_is) = sym is ∙ message_is in
-      let text : bytes ≡ (command_line exact).text it_is = cc in
+      let text : bytes ≡ (command_line exact).text it_is = same_bytes bytes ((command_line exact).text it_is) (sym is ∙ message_is) in
       read_as (tag, m) it_is (sym read ∙ ap (λ (b : List ℕ). command_in b) text ∙ command_read it_is spelled)
 
   abbrev its_reply : Reply
@@ -249,16 +255,16 @@ module _ (murder : Murder) (given : Given) (store : Store) (c : ClientCommand) (
   activated making room (name_closed stage is heard) = absurd (let no : Making ≡ Deactivating = sym making ∙ stage in cc)
   activated making room (name_deleted stage is heard) = absurd (let no : Making ≡ Deleting = sym making ∙ stage in cc)
 
-  exists : flow.stage ≡ Reserving → is_active found_at ≡ true → IsReplied table me c.name flow taken.it its_reply
+  refuses : flow.stage ≡ Reserving → is_active found_at ≡ true → IsReplied table me c.name flow taken.it its_reply
       → HasReply (Some IfAnswered) (done Exists)
-  exists reserving active (was_active stage too is heard) = record { are = ap (λ (r : Reply). r.counts) is; heard = heard }
-  exists reserving active (was_reserved stage reserved is heard) = absurd (not_both found_at active reserved)
-  exists reserving active (name_reserved stage none is heard) = absurd (let no : false ≡ true = sym (ap is_active none) ∙ active in cc)
-  exists reserving active (serials_spent stage none spent is heard) = absurd (let no : false ≡ true = sym (ap is_active none) ∙ active in cc)
-  exists reserving active (name_activated stage full is heard) = absurd (let no : Reserving ≡ Making = sym reserving ∙ stage in cc)
-  exists reserving active (table_full stage full is heard) = absurd (let no : Reserving ≡ Making = sym reserving ∙ stage in cc)
-  exists reserving active (name_closed stage is heard) = absurd (let no : Reserving ≡ Deactivating = sym reserving ∙ stage in cc)
-  exists reserving active (name_deleted stage is heard) = absurd (let no : Reserving ≡ Deleting = sym reserving ∙ stage in cc)
+  refuses reserving active (was_active stage too is heard) = record { are = ap (λ (r : Reply). r.counts) is; heard = heard }
+  refuses reserving active (was_reserved stage reserved is heard) = absurd (not_both found_at active reserved)
+  refuses reserving active (name_reserved stage none is heard) = absurd (let no : false ≡ true = sym (ap is_active none) ∙ active in cc)
+  refuses reserving active (serials_spent stage none spent is heard) = absurd (let no : false ≡ true = sym (ap is_active none) ∙ active in cc)
+  refuses reserving active (name_activated stage full is heard) = absurd (let no : Reserving ≡ Making = sym reserving ∙ stage in cc)
+  refuses reserving active (table_full stage full is heard) = absurd (let no : Reserving ≡ Making = sym reserving ∙ stage in cc)
+  refuses reserving active (name_closed stage is heard) = absurd (let no : Reserving ≡ Deactivating = sym reserving ∙ stage in cc)
+  refuses reserving active (name_deleted stage is heard) = absurd (let no : Reserving ≡ Deleting = sym reserving ∙ stage in cc)
 
   put_off : flow.stage ≡ Reserving → is_reserved found_at ≡ true → IsReplied table me c.name flow taken.it its_reply → HasReply None NotNow
   put_off reserving reserved (was_reserved stage too is heard) = record { are = ap (λ (r : Reply). r.counts) is; heard = heard }
@@ -294,9 +300,11 @@ module _ (murder : Murder) (given : Given) (store : Store) (c : ClientCommand) (
   creates : flow.stage ≡ Making → its_reply.counts ≡ Some Always → (later : Store) → StoreTakes message says more store later → HoldsThen later → DoesCreate
   creates making always _ (nothing given none) holds = absurd (none_always (is_own_out whose) says _ c.id none (outs_are (Some Always) always))
   creates making always _ (removed ask n box is there given) holds =
-      absurd (let no : command.Delete n ≡ stage_command me c.name Making = is_read is.bytes is.tag _ is.is is.read ∙ ap (stage_command me c.name) making in cc)
+      absurd (let no : command.Delete n ≡ command.Activate c.name me (first_acl c.name) =
+      is_read is.bytes is.tag _ is.is is.read ∙ ap (λ (z : Stage). stage_command me c.name z) making in cc)
   creates making always _ (created ask n place acl serial is none free given) holds =
-      let as : command.Activate n place acl ≡ stage_command me c.name Making = is_read is.bytes is.tag _ is.is is.read ∙ ap (stage_command me c.name) making in
+      let same : command.Activate n place acl ≡ command.Activate c.name me (first_acl c.name) =
+      is_read is.bytes is.tag _ is.is is.read ∙ ap (λ (z : Stage). stage_command me c.name z) making in
       let n_is : n ≡ c.name = cc in
       record {
         serial = serial;
@@ -308,9 +316,11 @@ module _ (murder : Murder) (given : Given) (store : Store) (c : ClientCommand) (
   does_nothing : flow.stage ≡ Reserving → (later : Store) → StoreTakes message says more store later → HoldsThen later → HoldsThen store
   does_nothing reserving _ (nothing given none) holds = holds
   does_nothing reserving _ (removed ask n box is there given) holds =
-      absurd (let no : command.Delete n ≡ stage_command me c.name Reserving = is_read is.bytes is.tag _ is.is is.read ∙ ap (stage_command me c.name) reserving in cc)
+      absurd (let no : command.Delete n ≡ command.Reserve c.name me =
+      is_read is.bytes is.tag _ is.is is.read ∙ ap (λ (z : Stage). stage_command me c.name z) reserving in cc)
   does_nothing reserving _ (created ask n place acl serial is none free given) holds =
-      absurd (let no : command.Activate n place acl ≡ stage_command me c.name Reserving = is_read is.bytes is.tag _ is.is is.read ∙ ap (stage_command me c.name) reserving in cc)
+      absurd (let no : command.Activate n place acl ≡ command.Reserve c.name me =
+      is_read is.bytes is.tag _ is.is is.read ∙ ap (λ (z : Stage). stage_command me c.name z) reserving in cc)
 
   -- ---- the points
 
@@ -323,7 +333,8 @@ module _ (murder : Murder) (given : Given) (store : Store) (c : ClientCommand) (
       (subst (λ (w : Work). turn_of c.was (asked_for c.name w).awaited (Done outcome nothing_seen) ≡ Some (turn_at store c.name w serial)) (sym comes.makes)
       (shown ∙ ap (λ (w : Worked). Some w.turn) (sym is)))
 
-  carries_as : (later : Store) (serial : ℕ) (counts : Counts) → CarriesOut store later c.name Make serial counts → CarriesOut store later c.name c.work serial counts
+  carries_as : (later : Store) (serial : ℕ) (counts : Counts) → CarriesOut store later c.name Make serial counts
+      → CarriesOut store later c.name c.work serial counts
   carries_as later serial counts carries = subst (λ (w : Work). CarriesOut store later c.name w serial counts) (sym comes.makes) carries
 
   is_created : flow.stage ≡ Making → is_full table found_at ≡ false → table.serial < 2 ^ 32 - 1 → IsCreated murder given store c name message flow
@@ -354,7 +365,7 @@ module _ (murder : Murder) (given : Given) (store : Store) (c : ClientCommand) (
   is_there : flow.stage ≡ Reserving → is_active found_at ≡ true → IsThere murder given store c name message flow
   unfolding MayWork
   is_there reserving active =
-      let reply : HasReply (Some IfAnswered) (done Exists) = exists reserving active taken.replied in
+      let reply : HasReply (Some IfAnswered) (done Exists) = refuses reserving active taken.replied in
       let found = has_box (box_at store c.name)
       (sym (each_is_a_box table (homes_of murder.nodes) store comes.holds.shows c.name) ∙ active_is_one found_at active) in
       let there : box_at store c.name ≡ Some found.0 = found.1 in
@@ -366,7 +377,7 @@ module _ (murder : Murder) (given : Given) (store : Store) (c : ClientCommand) (
           step = outs_are (Some IfAnswered) reply.are;
           then_holds = does_nothing reserving one.later one.does one.hold;
           carries = carries_as store serial IfAnswered (record {
-            free = λ none. λ _. absurd (let no : None ≡ Some found.0 = sym none ∙ there in cc);
+            free = λ none. λ _. absurd (let no : false ≡ true = ap is_some (sym none ∙ there) in cc);
             later_is = stays_so store c.name serial (is_spent store.given) found.0
                 ∙ ap (λ (w : Worked). store_after store c.name w.left) (sym worked);
             stays = λ _. ap (λ (w : Worked). w.left) worked ∙ left_so c.name serial (is_spent store.given) found.0;

@@ -1,5 +1,6 @@
 -- A backend takes the ask of a command at a mailbox: where it has the name open it does what the one store does, and else the command is sent on.
-use Rattle.std.proofs.Common.{◌≡◌, ◌≢◌, ℕ, ◌+◌, ◌-◌, ◌^◌, ◌≤◌, ◌&&◌, ◌||◌, nat_eq, suc, zero, Bool, true, false, List, [], ◌∷◌, length, Option, None, Some, refl, sym, ◌∙◌, ap, subst, arith}
+use Rattle.std.proofs.Common.{◌≡◌, ◌≢◌, ℕ, ◌+◌, ◌-◌, ◌^◌, ◌≤◌, ◌&&◌, ◌||◌, nat_eq, suc, zero, Bool, true, false, List, [], ◌∷◌, length, Option, None}
+use Rattle.std.proofs.Common.{Some, refl, sym, ◌∙◌, ap, subst, arith}
 use Rattle.std.specs.Prelude.{All}
 use Rattle.std.proofs.lemmas.List.Elements.{All-cons, All-nil}
 use Rattle.std.specs.Ordering.{nat_cmp}
@@ -66,21 +67,23 @@ pairs_of serial zero = []
 pairs_of serial (suc n) = (record { name = []; serial = serial }) ∷ pairs_of serial n
 
 pairs_low : (serial n : ℕ) → All (λ (pair : Pair). pair.serial ≤ serial) (pairs_of serial n)
+unfolding pairs_of
 pairs_low serial zero = All-nil (λ (pair : Pair). pair.serial ≤ serial)
 pairs_low serial (suc n) =
     All-cons (λ (pair : Pair). pair.serial ≤ serial) (record { name = []; serial = serial }) (pairs_of serial n) (omega arith) (pairs_low serial n)
 
 pairs_many : (serial n : ℕ) → n ≡ length (pairs_of serial n)
+unfolding pairs_of
 pairs_many serial zero = refl
 pairs_many serial (suc n) = ap suc (pairs_many serial n)
 
 pairs_left : (serial n : ℕ) → nat_eq serial (2 ^ 32 - 1) ≡ false → is_spent (pairs_of serial n) ≡ false
-unfolding is_spent
+unfolding is_spent pairs_of
 pairs_left serial zero e = refl
 pairs_left serial (suc n) e = ap (λ (b : Bool). b || is_spent (pairs_of serial n)) e ∙ pairs_left serial n e
 
 pairs_spent : (serial : ℕ) (found : Bool) → nat_eq serial (2 ^ 32 - 1) ≡ found → is_spent (pairs_of serial serial) ≡ found
-unfolding is_spent
+unfolding is_spent pairs_of
 pairs_spent serial false e = pairs_left serial serial e
 pairs_spent zero true e = absurd (let no : ⊥ = grind (arith, e) in no)
 pairs_spent (suc n) true e = ap (λ (b : Bool). b || is_spent (pairs_of (suc n) n)) e
