@@ -1,0 +1,5 @@
+pub mod Told
+pub mod Works
+pub mod BarrierLaw
+pub mod CreateLaw
+pub mod HomeLaw
