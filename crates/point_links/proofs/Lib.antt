@@ -1,3 +1,4 @@
+pub mod RefusedTold
 pub mod Told
 pub mod Works
 pub mod BarrierLaw

@@ -27,7 +27,7 @@ use Rattle.session_core.specs.declared.result.OpResult.TheVariants.{Done}
 use Rattle.session_core.specs.Finish.{finish, finished_by, turn_of}
 use Rattle.session_core.specs.Need.{Behind}
 use Rattle.session_core.specs.Relocated.{relocated}
-use Rattle.session_core.proofs.RefusedLaw.{refused_as_told}
+use Rattle.point_links.proofs.RefusedTold.{refused_as_told}
 use Rattle.serve_law.specs.AsTheStore.{given_with}
 use Rattle.point_links.specs.Commands.{ClientCommand, WaitsOn, refused_turn, told_turn}
 
