@@ -1,0 +1,6 @@
+pub mod RefusedTold
+pub mod Told
+pub mod Works
+pub mod BarrierLaw
+pub mod CreateLaw
+pub mod HomeLaw

@@ -1,0 +1,189 @@
+-- Work at a mailbox, but for making one: which operation is asked, what the store does with a name that it hasn't, and that it makes no mailbox.
+use Rattle.std.proofs.Common.{◌≡◌, ◌≢◌, ◌⊎◌, inl, inr, ℕ, ◌==◌, Bool, true, false, List, [], ◌∷◌, Option, None, Some, refl, sym, ap}
+use Rattle.std.specs.Prelude.{⊤, if◌then◌else◌}
+use Rattle.std.specs.Ordering.{nat_cmp}
+use Rattle.std.specs.Cmp.Lexicographic.{slice_cmp}
+use Rattle.ask_routes.specs.declared.ask_for.AskFor.TheVariants as about
+use Rattle.ask_routes.specs.Ways.{ask_for}
+use Rattle.back_node.specs.NodeLaws.{is_of_messages}
+use Rattle.imap_types.specs.declared.op.Op.{Op}
+use Rattle.imap_types.specs.declared.op.Op.TheVariants as op
+use Rattle.link_msg.specs.declared.counts.Counts.TheVariants.{IfAnswered}
+use Rattle.mail_message.specs.Boxes.{Content}
+use Rattle.mail_message.specs.declared.message.Message.{Message}
+use Rattle.mail_store.specs.Append.{append_fault}
+use Rattle.mail_store.specs.Store.{has_too_many_flags, rows_stored}
+use Rattle.mail_store.specs.declared.fault.StoreFault.{StoreFault}
+use Rattle.mur_base.specs.Map.{IsInOrder}
+use Rattle.mur_base.proofs.MapOrder.{with_value-in_order}
+use Rattle.mur_model.specs.declared.session.Sess.{Sess}
+use Rattle.mur_model.specs.declared.store.Store.{Store}
+use Rattle.mur_model.specs.declared.view.View.{View}
+use Rattle.mur_model.specs.declared.work.ViewWork.{ViewWork}
+use Rattle.mur_model.specs.declared.work.ViewWork.TheVariants as view_work
+use Rattle.mur_model.specs.declared.commands.store.FlagStore.{FlagStore}
+use Rattle.mur_model.specs.Act.{MayWork, work_on}
+use Rattle.mur_model.specs.Append.{append_on, append_to}
+use Rattle.mur_model.specs.Asking.{asked_for, fetch_op, search_op, view_op}
+use Rattle.mur_model.specs.Fetch.{sees}
+use Rattle.mur_model.specs.FetchRows.{asks_rows}
+use Rattle.mur_model.specs.FetchSummaries.{asks_summaries}
+use Rattle.mur_model.specs.Left.{Left, Worked, kept, made, changed, store_after}
+use Rattle.mur_model.specs.Needed.{Work, Make, Append as append_work, Status as status_work, Select as select_work, Viewed as viewed_work}
+use Rattle.mur_model.specs.SearchRows.{are_keys_in_rows}
+use Rattle.mur_model.specs.Select.{select_on}
+use Rattle.mur_model.specs.Status.{status_on}
+use Rattle.mur_model.specs.Store.{box_at}
+use Rattle.mur_model.specs.StoreFlags.{stored_at}
+use Rattle.mur_model.specs.Viewing.{found_gone, viewed_on, work_there}
+use Rattle.mur_model.specs.declared.commands.fetch.Fetching.{Fetching}
+use Rattle.mur_model.proofs.OwnView.{IsOfWork}
+use Rattle.session_core.specs.declared.result.OpResult.TheVariants.{Missing}
+use Rattle.session_core.specs.Append.{reply_to_append}
+use Rattle.session_core.specs.Finish.{turn_of}
+use Rattle.session_core.specs.Select.{select_turn}
+use Rattle.session_core.specs.Status.{reply_to_status}
+use Rattle.session_core.specs.Viewed.{viewed_in, viewed_turn}
+
+-- it makes a mailbox, or not
+pub is_make : (work : Work) → (work ≡ Make) ⊎ (work ≢ Make)
+is_make Make = inl refl
+is_make (append_work message) = inr (λ e. cc)
+is_make (status_work shown items) = inr (λ e. cc)
+is_make (select_work it) = inr (λ e. cc)
+is_make (viewed_work view it) = inr (λ e. cc)
+
+-- ---- what is asked for
+
+fetch_is : (view : View) (it : Fetching) (rows summaries : Bool) → is_of_messages (fetch_op view it rows summaries) ≡ true
+unfolding fetch_op
+fetch_is view it true summaries = refl
+fetch_is view it false true = refl
+fetch_is view it false false = refl
+
+search_is : (view : View) (rows : Bool) → is_of_messages (search_op view rows) ≡ true
+unfolding search_op
+search_is view true = refl
+search_is view false = refl
+
+viewed_is : (view : View) (it : ViewWork) → is_of_messages (view_op view it) ≡ true
+unfolding view_op
+viewed_is view (view_work.News why) = refl
+viewed_is view view_work.Close = refl
+viewed_is view (view_work.Expunge only) = refl
+viewed_is view (view_work.Store it) = refl
+viewed_is view (view_work.Fetch it) = fetch_is view it (asks_rows it) (asks_summaries it)
+viewed_is view (view_work.Search it) = search_is view (are_keys_in_rows it.keys)
+
+pub of_messages : (name : List ℕ) (work : Work) → work ≢ Make → is_of_messages (asked_for name work).op ≡ true
+unfolding asked_for
+of_messages name Make ne = absurd (ne refl)
+of_messages name (append_work message) ne = refl
+of_messages name (status_work shown items) ne = refl
+of_messages name (select_work it) ne = refl
+of_messages name (viewed_work view it) ne = viewed_is view it
+
+-- it is about a mailbox, and no CREATE
+pub about_mailbox : (name : List ℕ) (asks : Op) → is_of_messages asks ≡ true → ask_for name asks ≡ about.Mailbox name
+about_mailbox name op.Create of = cc
+about_mailbox name asks of = refl
+
+-- ---- a mailbox that the store hasn't
+
+pub record IsMissed (store : Store) (name : List ℕ) (work : Work) (serial : ℕ) (worked : Worked) : Type 0 where
+  pub stays : worked.left ≡ kept
+  pub shown : (session : Sess) → IsOfWork session work → turn_of session (asked_for name work).awaited Missing ≡ Some worked.turn
+
+pub misses : (store : Store) (name : List ℕ) (work : Work) (serial : ℕ) (spent : Bool) → work ≢ Make
+    → IsMissed store name work serial (work_on name work serial spent None)
+unfolding work_on asked_for turn_of append_on reply_to_append status_on reply_to_status select_on select_turn viewed_on viewed_in viewed_turn IsOfWork
+misses store name Make serial spent ne = absurd (ne refl)
+misses store name (append_work message) serial spent ne = record { stays = refl; shown = λ session own. refl }
+misses store name (status_work shown items) serial spent ne = record { stays = refl; shown = λ session own. refl }
+misses store name (select_work it) serial spent ne = record { stays = refl; shown = λ session own. refl }
+misses store name (viewed_work view it) serial spent ne = record { stays = refl; shown = λ session own. ap (λ s. viewed_in s it Missing) own }
+
+-- any UIDVALIDITY will do
+pub may_work : (store : Store) (name : List ℕ) (serial : ℕ) (work : Work) → work ≢ Make → MayWork store name serial work
+unfolding MayWork
+may_work store name serial Make ne = absurd (ne refl)
+may_work store name serial (append_work message) ne = tt
+may_work store name serial (status_work shown items) ne = tt
+may_work store name serial (select_work it) ne = tt
+may_work store name serial (viewed_work view it) ne = tt
+
+pub same_work : (name : List ℕ) (work : Work) (one other : ℕ) (spent left : Bool) (box : Option Content) → work ≢ Make
+    → work_on name work one spent box ≡ work_on name work other left box
+unfolding work_on
+same_work name Make one other spent left box ne = absurd (ne refl)
+same_work name (append_work message) one other spent left box ne = refl
+same_work name (status_work shown items) one other spent left box ne = refl
+same_work name (select_work it) one other spent left box ne = refl
+same_work name (viewed_work view it) one other spent left box ne = refl
+
+-- ---- no mailbox is made
+
+unfoldable pub MakesNone : Left → Type 0
+MakesNone (made box) = ⊥
+MakesNone left = ⊤
+
+either_none : (test : Bool) (one other : Worked) → MakesNone one.left → MakesNone other.left → MakesNone (if test then one else other).left
+either_none true one other is is_other = is
+either_none false one other is is_other = is_other
+
+append_none : (message : Message) (box : Content) (fault : Option StoreFault) → MakesNone (append_to message box fault).left
+unfolding append_to MakesNone
+append_none message box (Some fault) = tt
+append_none message box None = tt
+
+flags_none : (view : View) (asked : FlagStore) (box : Content) (many : Bool) → MakesNone (stored_at view asked box many).left
+unfolding MakesNone
+flags_none view asked box true = tt
+flags_none view asked box false = tt
+
+there_none : (view : View) (work : ViewWork) (box : Content) → MakesNone (work_there view work box).left
+unfolding work_there MakesNone
+there_none view (view_work.News why) box = tt
+there_none view view_work.Close box = tt
+there_none view (view_work.Expunge only) box = tt
+there_none view (view_work.Store asked) box =
+    flags_none view asked box (has_too_many_flags (rows_stored box asked.uids asked.mode asked.flags))
+there_none view (view_work.Fetch asked) box = either_none (sees view asked) _ _ tt tt
+there_none view (view_work.Search asked) box = tt
+
+pub work_makes_none : (name : List ℕ) (work : Work) (serial : ℕ) (spent : Bool) (found : Option Content) → work ≢ Make
+    → MakesNone (work_on name work serial spent found).left
+unfolding work_on append_on status_on select_on viewed_on MakesNone
+work_makes_none name Make serial spent found ne = absurd (ne refl)
+work_makes_none name (append_work message) serial spent None ne = tt
+work_makes_none name (status_work shown items) serial spent None ne = tt
+work_makes_none name (select_work opened) serial spent None ne = tt
+work_makes_none name (viewed_work view work) serial spent None ne = tt
+work_makes_none name (append_work message) serial spent (Some box) ne = append_none message box (append_fault box (message ∷ []))
+work_makes_none name (status_work shown items) serial spent (Some box) ne = tt
+work_makes_none name (select_work opened) serial spent (Some box) ne = tt
+work_makes_none name (viewed_work view work) serial spent (Some box) ne =
+    either_none (box.serial == view.serial) (work_there view work box) found_gone (there_none view work box) tt
+
+-- so none is given, and the boxes stay in order
+
+pub given_stays : (store : Store) (name : List ℕ) (left : Left) → MakesNone left → (store_after store name left).given ≡ store.given
+unfolding store_after MakesNone
+given_stays store name kept none = refl
+given_stays store name (made box) none = absurd none
+given_stays store name (changed box) none = refl
+
+pub order_stays : (store : Store) (name : List ℕ) (left : Left) → MakesNone left → IsInOrder (slice_cmp nat_cmp) store.boxes
+    → IsInOrder (slice_cmp nat_cmp) (store_after store name left).boxes
+unfolding store_after MakesNone
+order_stays store name kept none order = order
+order_stays store name (made box) none order = absurd none
+order_stays store name (changed box) none order = with_value-in_order (slice_cmp nat_cmp) store.boxes name box order
+
+-- what another store has of one name tells what the work leaves of it
+pub same_boxes : (store other : Store) (name : List ℕ) (left : Left) → MakesNone left → store.boxes ≡ other.boxes
+    → (store_after store name left).boxes ≡ (store_after other name left).boxes
+unfolding store_after MakesNone
+same_boxes store other name kept none same = same
+same_boxes store other name (made box) none same = absurd none
+same_boxes store other name (changed box) none same = rw same refl

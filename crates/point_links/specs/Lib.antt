@@ -1,0 +1,5 @@
+pub mod Commands
+pub mod Carried
+pub mod Barriers
+pub mod Creates
+pub mod AtHome

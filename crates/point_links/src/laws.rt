@@ -1,0 +1,29 @@
+// The points of commands, and what their clients are told later.
+ghost use Rattle.point_links.specs.AtHome.{ClosedSendsOn, OpenServes};
+ghost use Rattle.point_links.specs.Barriers.{EachBarrier, MissingIsAPoint, ReservedIsAPoint};
+ghost use Rattle.point_links.specs.Creates.{ActivateCreates, ReserveOfOneReserved, ReserveOfOneThere};
+
+/// A backend takes the ask of a command at a mailbox. Where it has the name open, the one store carries the work out in this step, and by the answer the
+/// client is told what the store replies; the step counts whatever becomes of the answer, unless the store stays as it was. Where it hasn't, nothing is
+/// done, and the command waits on.
+pub fn an_ask_is_carried_out_where_its_name_is_open()
+    ensures open { OpenServes }
+    ensures closed { ClosedSendsOn }
+{}
+
+/// The master takes a line for a CREATE. At ACTIVATE the one store makes the mailbox in this step, if there is room for one more. At RESERVE of a name that
+/// is active it refuses the CREATE. By the backend's answer the client is told what the store replies. At RESERVE of a name that is reserved the store
+/// does nothing, the step doesn't count, and the command waits on.
+pub fn a_create_is_carried_out_where_the_master_takes_its_line()
+    ensures creates { ActivateCreates }
+    ensures there { ReserveOfOneThere }
+    ensures reserved { ReserveOfOneReserved }
+{}
+
+/// The master takes the NOOP of a command. By the table of this step its client is told at the OK that the mailbox is missing, as the one store, which has
+/// none, refuses the command in this step; or that the name is reserved, as a history refuses it; or a server is asked, and the command waits on.
+pub fn a_barrier_is_the_point_of_what_is_told_behind_it()
+    ensures missing { MissingIsAPoint }
+    ensures reserved { ReservedIsAPoint }
+    ensures each { EachBarrier }
+{}
