@@ -7,4 +7,6 @@ pub enum How {
     Here,
     /// The frontend hands on the answer of a home: the home's step is the point.
     Behind,
+    /// The frontend refuses it, since its mailbox is reserved at the master (RFC 3656, 4.9): the step in which the master answered its NOOP is the point.
+    Reserved,
 }
