@@ -1,0 +1,51 @@
+-- Only the last answer of a connection may end it.
+use Rattle.std.proofs.Common.{◌≡◌, false, List, [], ◌∷◌, ◌++◌, ℕ, Option, sym, subst, arith}
+use Rattle.std.specs.Prelude.{All}
+use Rattle.std.proofs.lemmas.List.Elements.{All-cons, All-nil, All-head, All-tail}
+use Rattle.std.proofs.lemmas.List.Kept.{AllPairs-cons}
+use Rattle.imap_talk.specs.Transcript.{ends}
+use Rattle.imap_talk.specs.declared.inputs.Input.{Input}
+use Rattle.imap_talk.specs.declared.inputs.Input.TheVariants.{GoesOn, Asks, Faults}
+use Rattle.imap_talk.proofs.TranscriptGrows.{AreAnswered}
+use Rattle.front_node.specs.declared.connection.Connection.{Connection}
+use Rattle.imap_types.specs.declared.request.Answer.{Answer}
+use Rattle.mur_model.specs.declared.session.Sess.{Sess}
+use Rattle.mur_model.specs.declared.setting.Setting.{Setting}
+use Rattle.front_core.specs.Ending.{EndsOnlyLast}
+use Rattle.front_node.proofs.OneConnection.Places.{Place}
+use Rattle.front_node.proofs.OneConnection.Standing.{Stands}
+use Rattle.front_node.proofs.OneConnection.Standing.Stands.{reads, waits, faulted, finished}
+
+abbrev GoesOnBehind : Answer → Type 0
+GoesOnBehind answer = ends answer.reply ≡ false
+
+none_ends : (inputs : List Input) (answers : List Answer) → AreAnswered inputs answers → All GoesOnBehind answers
+unfolding AreAnswered
+none_ends [] [] all = All-nil GoesOnBehind
+none_ends [] (answer ∷ answers) all = absurd all
+none_ends (GoesOn why ∷ inputs) answers all = none_ends inputs answers all
+none_ends (Faults fault ∷ inputs) answers all = absurd all
+none_ends (Asks request ∷ inputs) [] all = absurd all
+none_ends (Asks request ∷ inputs) (answer ∷ answers) all = All-cons GoesOnBehind answer answers all.0 (none_ends inputs answers all.1)
+
+-- no answer ends the connection
+pub all_go_on : (inputs : List Input) (answers : List Answer) → AreAnswered inputs answers → EndsOnlyLast answers
+all_go_on inputs answers all = λ i j d h k. none_ends inputs answers all i d (omega arith)
+
+-- or the last does
+ends_last : (before : List Answer) (last : Answer) → All GoesOnBehind before → EndsOnlyLast (before ++ last ∷ [])
+ends_last [] last all = λ i j d h k. absurd (omega arith)
+ends_last (answer ∷ before) last all =
+    AllPairs-cons (λ (earlier later : Answer). ends earlier.reply ≡ false) answer (before ++ last ∷ [])
+    (λ k d h. All-head GoesOnBehind answer before all) (ends_last before last (All-tail GoesOnBehind answer before all))
+
+pub none_given : (answers : List Answer) → answers ≡ [] → EndsOnlyLast answers
+none_given answers e = subst EndsOnlyLast (sym e) (λ i j d h k. absurd (omega arith))
+
+pub stands_last : (setting : Setting) (home : List ℕ) (conn : ℕ) (all : List Input) (held : Option (List ℕ)) (connection : Connection)
+    (told said : List Answer) (session : Sess) (place : Place) → Stands setting home conn all held connection told said session place → EndsOnlyLast told
+stands_last setting home conn all held connection told said session place (reads a b c d e f none) = all_go_on all told e
+stands_last setting home conn all held connection told said session place (waits waiting) = all_go_on waiting.passed told waiting.answered
+stands_last setting home conn all held connection told said session place (faulted a b c d e none) = e
+stands_last setting home conn all held connection told said session place (finished passed more request before last a b c d e f none) =
+    subst EndsOnlyLast (sym d) (ends_last before last (none_ends passed before c))

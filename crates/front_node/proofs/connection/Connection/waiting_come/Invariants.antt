@@ -1,0 +1,13 @@
+use Rattle.std.proofs.Common.{◌≡◌, ◌≤◌, length}
+use Rattle.front_node.specs.Room.{commands_of}
+use Rattle.front_node.proofs.WaitingLaws.{waiting_comes}
+use Rattle.front_node.proofs.connection.Connection.waiting_come.Given as goal
+
+abbrev pub invariant-loop-self : goal.invariant-loop-self
+invariant-loop-self l = record {
+  turned : waiting_comes l.desk.setting.now l.desk.home.now l.desk.conn l.outs l.self ≡ waiting_comes l.desk.setting.now l.desk.home.now l.desk.conn l.initial.outs l.initial.self;
+  commands : commands_of l.self ≤ commands_of l.initial.self;
+}
+
+abbrev pub decreases-loop-self : goal.decreases-loop-self
+decreases-loop-self l = length l.self.waiting
