@@ -1,0 +1,172 @@
+-- THE LAW THAT EVERY STEP KEEPS: of the nodes, the names, the feeds, and of each connection by what was heard of its client.
+use Rattle.std.specs.Prelude.{◌≡◌, ◌≢◌, ℕ, ◌≤◌, ◌<◌, ◌^◌, nat_eq, true, false, List, [], length, Option, None, Some, is_some}
+use Rattle.std.specs.List.{list_any, AllByRecursion}
+use Rattle.std.specs.Option.{IsSome}
+use Rattle.std.specs.Cmp.Lexicographic.{pointwise}
+use Rattle.back_node.specs.declared.node.BackNode.{BackNode}
+use Rattle.feed_core.specs.Feed.{Recs, Replica}
+use Rattle.feed_core.specs.Routes.{server_at}
+use Rattle.feed_links.specs.Lines.{HasStreams}
+use Rattle.feed_links.specs.OneFeed.{IsFed}
+use Rattle.feed_links.specs.Replicas.{hears}
+use Rattle.feed_links.specs.Spelled.{CanBeTold}
+use Rattle.front_core.specs.Ending.{EndsOnlyLast}
+use Rattle.front_core.proofs.OneConnection.Readings.{inputs_in, reading_of}
+use Rattle.front_node.specs.declared.connection.Connection.{Connection}
+use Rattle.front_node.specs.declared.connection.Stage.TheVariants.{Ended}
+use Rattle.front_node.specs.declared.front.Front.{Front}
+use Rattle.front_node.specs.Front.{connection_at}
+use Rattle.imap_talk.specs.Heard.{Heard, nobody, elsewhere, client, frames_heard, has_closed}
+use Rattle.imap_talk.specs.Inputs.{requests_in}
+use Rattle.imap_talk.specs.declared.inputs.Input.{Input}
+use Rattle.imap_talk.proofs.RequestsOf.{requests_of}
+use Rattle.imap_wire.specs.Frames.{begun}
+use Rattle.link_msg.specs.declared.message.LinkMsg.{LinkMsg}
+use Rattle.link_queue.specs.Links.{Links, on_link}
+use Rattle.many_links.specs.ManyHold.{ManyHold}
+use Rattle.many_links.specs.Murder.{Murder, Nodes}
+use Rattle.mark_history.specs.Marked.{AreMarked, Tale, talk_told}
+use Rattle.master_core.specs.declared.master.Master.{Master}
+use Rattle.master_core.specs.Whose.{TellNobody}
+use Rattle.mur_config.specs.declared.config.Config.{Config}
+use Rattle.mur_config.specs.declared.node.Kind.TheVariants.{Backend}
+use Rattle.mur_model.specs.declared.session.Sess.TheVariants.{Off}
+use Rattle.mur_model.specs.History.{Talk, TalkGoesOn}
+use Rattle.name_links.specs.Serials.{Given}
+use Rattle.node_record.specs.Table.{MailboxTable, record_at}
+use Rattle.node_record.specs.declared.record.Record.{Record}
+use Rattle.murder_core.specs.declared.world.World.{World}
+use Rattle.cluster_core.specs.Heard.{is_frontend}
+use Rattle.cluster_core.specs.World.{backends_of, home_of, master_of, setting_of}
+use Rattle.murder_core.specs.World.{client_at, front_at, home_at, master_at}
+use Rattle.murder_core.proofs.Commands.Place.{Place}
+use Rattle.murder_core.proofs.Commands.Standing.{Fixed, HasBegunSo, IsLeft, next_id}
+use Rattle.murder_core.proofs.Connections.ConnectionLaw.{IsInNoneOf, IsInPlaceOf, IsMarkedAt, IsStanding, client_with}
+
+-- ---- connections
+
+-- a connection that no frontend has
+pub record IsUntold (fixed : Fixed) (conn : ℕ) (world : World) (story : Tale) : Type 0 where
+  pub told : story.told conn ≡ []
+  pub said : story.talk.answers conn ≡ []
+  pub session : story.course.sessions conn ≡ Off
+  pub nothing : IsInNoneOf fixed world conn
+
+-- a connection at its frontend
+pub record IsAt (world : World) (conn : ℕ) (node : List ℕ) (front : Front) (connection : Connection) : Type 0 where
+  pub at : front_at world node ≡ Some front
+  pub has : connection_at front conn ≡ Some connection
+
+pub record IsGone (fixed : Fixed) (node : List ℕ) (replica : Replica) (conn : ℕ) (inputs : List Input) (connection : Connection) (world : World)
+    (story : Tale) : Type 0 where
+  pub stage_is : connection.stage ≡ Ended
+  pub count : connection.answered ≡ length (story.told conn)
+  pub lasts : EndsOnlyLast (story.told conn)
+  pub client : client_at world conn ≡ Some (client_with node inputs (story.told conn))
+  pub here : Place
+  pub placed : IsInPlaceOf fixed world node replica (next_id conn (story.told conn)) here
+  pub marked : IsMarkedAt world.marks (next_id conn (story.told conn)) here
+  pub left : IsLeft fixed node conn (requests_in inputs) (story.told conn) (story.talk.answers conn) (story.course.sessions conn) here
+
+pub data ConnectionIs (fixed : Fixed) (conn : ℕ) (world : World) (story : Tale) : Heard → Type 0 where
+  is_nobody : client_at world conn ≡ None → ((node : List ℕ) (front : Front) → front_at world node ≡ Some front → connection_at front conn ≡ None)
+      → IsUntold fixed conn world story → ConnectionIs fixed conn world story nobody
+  is_elsewhere : (node given : List ℕ) → client_at world conn ≡ Some (record { at = node; given = given }) → front_at world node ≡ None
+      → IsUntold fixed conn world story → ConnectionIs fixed conn world story elsewhere
+  is_open : (bytes node : List ℕ) (front : Front) (connection : Connection) → IsAt world conn node front connection
+      → HasBegunSo connection (reading_of fixed.setting bytes)
+      → IsStanding fixed node front.replica conn (inputs_in fixed.setting bytes) (begun bytes) connection world story
+      → ConnectionIs fixed conn world story (client bytes false)
+  is_closed : (bytes node : List ℕ) (front : Front) (connection : Connection) → IsAt world conn node front connection
+      → IsGone fixed node front.replica conn (inputs_in fixed.setting bytes) connection world story → ConnectionIs fixed conn world story (client bytes true)
+
+-- ---- nodes
+
+abbrev pub fixed_of : Config → Fixed
+fixed_of config = record { setting = setting_of config; master = master_of config; first = home_of config }
+
+-- the master, the backends and the links of a world
+abbrev pub murder_of : World → Master → Murder
+murder_of world master = record { master = master; nodes = home_at world; links = world.links }
+
+-- a frontend knows the master, and asks the first backend for a new mailbox without a name above it; it is neither the master nor a backend
+pub record IsFrontOf (config : Config) (world : World) (master : Master) (node : List ℕ) (front : Front) : Type 0 where
+  pub master_is : front.master ≡ master_of config
+  pub first_is : front.first ≡ home_of config
+  pub setting_is : front.setting ≡ setting_of config
+  pub no_master : node ≢ master_of config
+  pub no_home : home_at world node ≡ None
+  pub no_backend : list_any (pointwise nat_eq node) master.backends ≡ false
+
+-- the nodes of a run stay what they are
+pub record AreNodesOf (config : Config) (world : World) (master : Master) : Type 0 where
+  pub me : master.me ≡ master_of config
+  pub is_there : master_at world (master_of config) ≡ Some master
+  pub only : (node : List ℕ) (other : Master) → master_at world node ≡ Some other → node ≡ master_of config
+  pub fronts : (node : List ℕ) (front : Front) → front_at world node ≡ Some front → IsFrontOf config world master node front
+  pub frontends : (node : List ℕ) → is_some (front_at world node) ≡ is_frontend config node
+  pub homes : (node : List ℕ) → is_some (home_at world node) ≡ list_any (pointwise nat_eq node) master.backends
+  pub backends : master.backends ≡ backends_of config.nodes
+  pub first_there : list_any (pointwise nat_eq (home_of config)) master.backends ≡ true
+
+-- ---- whom a frontend may ask: each record that it has or is told names a backend
+
+abbrev pub NamesBackends : Nodes → Recs → Type 0
+NamesBackends nodes recs = (name server : List ℕ) → server_at recs name ≡ Some server → IsSome (nodes server)
+
+-- whatever replica takes the message
+abbrev pub TellsBackends : Nodes → LinkMsg → Type 0
+TellsBackends nodes message = (replica : Replica) → NamesBackends nodes replica.records → NamesBackends nodes (hears replica message).records
+
+abbrev pub TableNamesBackends : Nodes → MailboxTable → Type 0
+TableNamesBackends nodes table = (name : List ℕ) (it : Record) → record_at table name ≡ Some it → IsSome (nodes (it.place).server)
+
+pub record KnowsBackends (nodes : Nodes) (down : List LinkMsg) (replica : Replica) : Type 0 where
+  pub has : NamesBackends nodes replica.records
+  pub told : AllByRecursion (TellsBackends nodes) down
+
+-- ---- feeds
+
+-- a frontend's replica follows the master's table
+pub record IsFedAt (config : Config) (world : World) (master : Master) (node : List ℕ) (front : Front) : Type 0 where
+  pub fed : IsFed master node (on_link world.links node (master_of config)) (on_link world.links (master_of config) node) front.replica
+  pub knows : KnowsBackends (home_at world) (on_link world.links (master_of config) node) front.replica
+
+pub record FeedsHold (config : Config) (world : World) (master : Master) : Type 0 where
+  pub each : (node : List ℕ) (front : Front) → front_at world node ≡ Some front → IsFedAt config world master node front
+  pub streams : HasStreams master
+  pub nobodys : TellNobody master.streams
+  pub spelled : CanBeTold master.table
+  pub backends : TableNamesBackends (home_at world) master.table
+
+-- ---- numbers
+
+-- its number has 64 bits, and it sent less than 2^32 bytes
+abbrev pub HeardFits : ℕ → Heard → Type 0
+HeardFits conn nobody = Unit {0}
+HeardFits conn elsewhere = Unit {0}
+HeardFits conn (client bytes closed) = (conn < 2 ^ 64) × (length bytes < 2 ^ 32)
+
+abbrev pub NumbersFit : (ℕ → Heard) → Type 0
+NumbersFit heard = (conn : ℕ) → HeardFits conn (heard conn)
+
+-- ---- the law
+
+pub record KeepsLaw (config : Config) (heard : ℕ → Heard) (world : World) : Type 0 where
+  pub master : Master
+  pub nodes : AreNodesOf config world master
+  -- no link is broken
+  pub whole : world.broken ≡ []
+  pub story : Tale
+  pub given : Given
+  pub many : ManyHold (murder_of world master) given story.course.store
+  pub feeds : FeedsHold config world master
+  pub is_told : AreMarked (setting_of config) world.steps world.marks story
+  pub requests : (conn : ℕ) → story.talk.requests conn ≡ requests_of (setting_of config) (frames_heard (heard conn))
+  pub connections : (conn : ℕ) → ConnectionIs (fixed_of config) conn world story (heard conn)
+
+-- so it does behind a world in which so much was said; a client that has closed its connection was told no more
+pub record KeepsOn (config : Config) (before : Talk) (heard : ℕ → Heard) (world : World) : Type 0 where
+  pub law : KeepsLaw config heard world
+  pub more : TalkGoesOn before (talk_told law.story)
+  pub closed : (conn : ℕ) → has_closed (heard conn) ≡ true → law.story.told conn ≡ before.answers conn

@@ -1,0 +1,193 @@
+-- The cluster before its first step, and what an event that is one step does: something comes to one node, which changes its state and
+-- lets outputs out.
+use Rattle.std.specs.Prelude.{ℕ, ◌+◌, Bool, false, if◌then◌else◌, List, [], ◌∷◌, ◌++◌, map, Option, None, Some}
+use Rattle.std.specs.Ordering.{nat_cmp}
+use Rattle.std.specs.Cmp.Lexicographic.{slice_cmp}
+use Rattle.back_node.specs.declared.node.BackNode.{BackNode}
+use Rattle.back_node.specs.Node.{new_node}
+use Rattle.front_node.specs.declared.front.Front.{Front}
+use Rattle.front_node.specs.Front.{new_front}
+use Rattle.murder_step.specs.declared.input.NodeInput.{NodeInput}
+use Rattle.murder_step.specs.declared.input.NodeInput.TheVariants.{Opened, Piece, Hung, From}
+use Rattle.link_msg.specs.declared.message.LinkMsg.{LinkMsg}
+use Rattle.link_msg.specs.declared.message.LinkMsg.TheVariants.{Up}
+use Rattle.link_msg.specs.declared.out.Out.{Out}
+use Rattle.link_msg.specs.declared.out.Out.TheVariants.{Client as to_client, Close, Link as to_node, Mark as mark, Told as tell}
+use Rattle.master_core.specs.Boot.{booted as master_booted}
+use Rattle.mur_base.specs.declared.home.Location.{Location}
+use Rattle.mur_base.specs.Map.{value_at, with_entry, with_value}
+use Rattle.mur_base.specs.declared.point.AskId.{AskId}
+use Rattle.mur_config.specs.declared.config.Config.{Config}
+use Rattle.mur_config.specs.declared.node.Kind.{Kind}
+use Rattle.mur_config.specs.declared.node.Kind.TheVariants.{Master as master_kind, Frontend, Backend as backend_kind}
+use Rattle.master_core.specs.declared.master.Master.{Master}
+use Rattle.mur_config.specs.declared.node.Link.{Link}
+use Rattle.mur_config.specs.declared.node.Node.{Node}
+use Rattle.mur_config.specs.Nodes.{links_of}
+use Rattle.mur_model.specs.declared.setting.Setting.{Setting}
+use Rattle.node_record.specs.Table.{empty_table}
+use Rattle.murder_step.specs.declared.node.NodeState.{NodeState}
+use Rattle.murder_step.specs.declared.node.NodeState.TheVariants as state
+use Rattle.murder_step.specs.NodeStep.{Acted, as_front, as_back, as_master, takes as node_takes}
+use Rattle.schedule_text.specs.declared.event.Event.{Event}
+use Rattle.schedule_text.specs.declared.event.Event.TheVariants.{Open, Data, Hang, Deliver}
+use Rattle.cluster_core.specs.declared.world.Client.{Client}
+use Rattle.cluster_core.specs.World.{backends_of, home_of, layout_of, master_of, setting_of}
+use Rattle.mark_history.specs.declared.mark.MarkKind.{MarkKind}
+use Rattle.mark_history.specs.declared.mark.MarkKind.TheVariants.{Home, Told}
+use Rattle.cluster_core.specs.declared.layout.Layout.{Layout}
+use Rattle.murder_core.specs.declared.world.World.{World}
+use Rattle.link_queue.specs.Broken.{Broken, is_broken}
+use Rattle.link_queue.specs.Links.{on_link, sent, without_first}
+
+-- the cluster at one moment: how its nodes are linked, and what its steps change
+pub record ClusterState : Type 0 where
+  pub layout : Layout
+  pub world : World
+
+-- before any node
+abbrev pub no_world : World
+no_world = record { nodes = []; clients = []; broken = []; links = []; marks = []; steps = 0 }
+
+-- the place of what a backend keeps
+abbrev pub place_of : Node → Location
+place_of node = record { server = node.name; partition = node.partition }
+
+-- a node as it begins, by its kind: without connections, mailboxes or records
+unfoldable pub first_state : Config → Node → Kind → NodeState
+first_state config node master_kind = state.Master (master_booted node.name (backends_of config.nodes) empty_table)
+first_state config node Frontend = state.Front (new_front node.name (home_of config) (master_of config) (setting_of config))
+first_state config node backend_kind = state.Back (new_node (place_of node) (master_of config))
+
+-- a node more
+abbrev pub with_node : Config → World → Node → World
+with_node config world node =
+    record world { nodes = with_entry (slice_cmp nat_cmp) world.nodes node.name (first_state config node node.kind) }
+
+unfoldable pub with_nodes : Config → World → List Node → World
+with_nodes config world [] = world
+with_nodes config world (node ∷ nodes) = with_nodes config (with_node config world node) nodes
+
+abbrev pub client_at : World → ℕ → Option Client
+client_at world conn = value_at nat_cmp world.clients conn
+
+abbrev pub node_at : World → List ℕ → Option NodeState
+node_at world node = value_at (slice_cmp nat_cmp) world.nodes node
+
+-- the frontend, the backend of a name
+abbrev pub front_at : World → List ℕ → Option Front
+front_at world node = as_front (node_at world node)
+
+abbrev pub home_at : World → List ℕ → Option BackNode
+home_at world node = as_back (node_at world node)
+
+-- the master of a name
+abbrev pub master_at : World → List ℕ → Option Master
+master_at world node = as_master (node_at world node)
+
+-- a client is given bytes
+unfoldable pub given_more : World → ℕ → List ℕ → Option Client → World
+given_more world conn bytes None = world
+given_more world conn bytes (Some client) =
+    record world { clients = with_value nat_cmp world.clients conn (record client { given = client.given ++ bytes }) }
+
+-- this step says so of a command
+abbrev pub marked : World → AskId → MarkKind → World
+marked world ask kind = record world { marks = world.marks ++ (record { step = world.steps; ask = ask; kind = kind }) ∷ [] }
+
+-- an output of a node in this step is carried out
+unfoldable pub carry : List ℕ → World → Out → World
+carry node world (to_client conn bytes) = given_more world conn bytes (client_at world conn)
+carry node world (Close conn) = world
+carry node world (to_node other message) = record world { links = sent world.links node other message }
+carry node world (mark ask counts) = marked world ask (Home counts)
+carry node world (tell ask how) = marked world ask (Told how)
+
+unfoldable pub carry_all : List ℕ → World → List Out → World
+carry_all node world [] = world
+carry_all node world (out ∷ outs) = carry_all node (carry node world out) outs
+
+-- a node in another state
+abbrev pub with_state : World → List ℕ → NodeState → World
+with_state world node it = record world { nodes = with_value (slice_cmp nat_cmp) world.nodes node it }
+
+-- a message that is sent on a broken link is lost
+unfoldable pub is_lost : Broken → List ℕ → Out → Bool
+is_lost broken node (to_node other message) = is_broken broken node other
+is_lost broken node (to_client conn bytes) = false
+is_lost broken node (Close conn) = false
+is_lost broken node (mark ask counts) = false
+is_lost broken node (tell ask how) = false
+
+-- an output is carried out, unless it is lost
+abbrev pub carry_or_lose : List ℕ → World → Out → World
+carry_or_lose node world out = if is_lost world.broken node out then world else carry node world out
+
+-- what a node lets out, but for what is lost
+unfoldable pub not_lost : Broken → List ℕ → List Out → List Out
+not_lost broken node [] = []
+not_lost broken node (out ∷ outs) =
+    if is_lost broken node out then not_lost broken node outs else out ∷ not_lost broken node outs
+
+-- the step of a node
+abbrev pub acts : World → List ℕ → Acted → World
+acts world node acted = carry_all node (with_state world node acted.state) (not_lost world.broken node acted.outs)
+
+-- something comes to a node, if it is there
+unfoldable pub comes_to : World → List ℕ → NodeInput → Option NodeState → World
+comes_to world node input None = world
+comes_to world node input (Some it) = acts world node (node_takes it input)
+
+abbrev pub comes : World → List ℕ → NodeInput → World
+comes world node input = comes_to world node input (node_at world node)
+
+-- a node is told that a link to it is up, which is no step
+abbrev pub told_up : World → Link → World
+told_up world link = comes world link.to (From link.from Up)
+
+unfoldable pub with_ups : World → List Link → World
+with_ups world [] = world
+with_ups world (link ∷ links) = with_ups (told_up world link) links
+
+-- every node, each of its links whole and up; no connection, no step, and nothing on its way but the UPDATE of each frontend
+unfoldable pub start : Config → World
+start config = with_ups (with_nodes config no_world config.nodes) (links_of config.nodes)
+
+abbrev pub begun : Config → ClusterState
+begun config = record { layout = layout_of config; world = start config }
+
+abbrev pub with_client : World → List ℕ → ℕ → World
+with_client world node conn = record world { clients = with_entry nat_cmp world.clients conn (record { at = node; given = [] }) }
+
+-- a connection is opened, unless there is one of its number
+unfoldable pub opens : World → List ℕ → ℕ → Option Client → World
+opens world node conn (Some there) = world
+opens world node conn None = comes (with_client world node conn) node (Opened conn)
+
+-- what a client does comes to the node to which it is connected
+unfoldable pub client_does : World → NodeInput → Option Client → World
+client_does world input None = world
+client_does world input (Some client) = comes world client.at input
+
+abbrev pub taken_from_link : World → List ℕ → List ℕ → World
+taken_from_link world from to = record world { links = without_first world.links from to }
+
+-- the first message from one node to another is taken, if there is one
+unfoldable pub deliver_first : World → List ℕ → List ℕ → List LinkMsg → World
+deliver_first world from to [] = world
+deliver_first world from to (message ∷ rest) = comes (taken_from_link world from to) to (From from message)
+
+-- an event whose step has begun; those of links that break and of disks change nothing yet
+unfoldable pub takes : World → Event → World
+takes world (Open node conn) = opens world node conn (client_at world conn)
+takes world (Data conn bytes) = client_does world (Piece conn bytes) (client_at world conn)
+takes world (Hang conn) = client_does world (Hung conn) (client_at world conn)
+takes world (Deliver from to) = deliver_first world from to (on_link world.links from to)
+takes world event = world
+
+abbrev pub stepped : World → World
+stepped world = record world { steps = world.steps + 1 }
+
+-- an event that is one step
+abbrev pub steps_by : World → Event → World
+steps_by world event = takes (stepped world) event

@@ -1,0 +1,4 @@
+pub mod NodeKinds
+pub mod Counts
+pub mod OwnOuts
+pub mod Unmarked

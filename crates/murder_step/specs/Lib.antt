@@ -1,0 +1,2 @@
+pub mod NodeStep
+pub mod Room
