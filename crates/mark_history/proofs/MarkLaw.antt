@@ -151,6 +151,7 @@ first_by_last setting = record {
     serials = λ conn. refl;
     ahead = λ conn. omega arith;
     fit = fits_none;
+    refused = λ k d h. λ _. tt;
   };
   earlier = first_course.sessions;
   from = from_none first_course first_course.sessions;
