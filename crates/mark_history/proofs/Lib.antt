@@ -12,4 +12,5 @@ pub mod ByLast
 pub mod TakenBack
 pub mod PutIn
 pub mod Refused
+pub mod RefusedByLast
 pub mod MarkLaw
