@@ -14,3 +14,4 @@ pub mod PutIn
 pub mod Refused
 pub mod RefusedByLast
 pub mod MarkLaw
+pub mod RefusalMarks
