@@ -13,7 +13,7 @@ use Rattle.mur_model.specs.declared.setting.Setting.{Setting}
 use Rattle.mur_model.specs.Answer.{MayTake}
 use Rattle.mur_model.specs.History.{Talk, GoesOn, numbered, carried_out, with_session}
 use Rattle.mur_model.proofs.HistoryGrows.{same_lists}
-use Rattle.mur_model.proofs.Numbered.{with_item, with_item-longer, with_item-other, length_with_item, numbered_new}
+use Rattle.mur_model.proofs.Numbered.{with_item, with_item-longer, with_item-other, length_with_item}
 use Rattle.mark_history.specs.declared.mark.Mark.{Mark}
 use Rattle.mark_history.specs.declared.mark.MarkKind.{MarkKind}
 use Rattle.mark_history.specs.declared.mark.MarkKind.TheVariants.{Home}

@@ -1,6 +1,6 @@
 -- The steps of marks carry out their requests, where it is known which session each connection had before its last one: without that step the others
 -- still do, if it left the store as it was.
-use Rattle.std.proofs.Common.{◌≡◌, ◌≢◌, ℕ, Bool, true, false, nat_eq, List, [], ◌∷◌, ◌++◌, if◌then◌else◌, Some, refl, sym, ◌∙◌, ap, subst, arith}
+use Rattle.std.proofs.Common.{◌≡◌, ◌≢◌, ℕ, Bool, true, false, nat_eq, List, [], ◌∷◌, ◌++◌, if◌then◌else◌, refl, sym, ◌∙◌, ap, subst, arith}
 use Rattle.std.specs.Prelude.{All, AllPairs}
 use Rattle.std.proofs.lemmas.Bool.Decides.{nat_tests}
 use Rattle.std.proofs.lemmas.List.Elements.{All-head, All-tail}
@@ -15,7 +15,7 @@ use Rattle.mark_history.specs.History.{is_of, next_of}
 use Rattle.mark_history.proofs.Deeds.{HasItsAct, IsStep, same_step, step_as, step_on, step_with}
 use Rattle.mark_history.proofs.Marks.{Carries, Later, head_pairs, same_with, step_before, tail_pairs, with_session_elsewhere}
 use Rattle.mark_history.proofs.Marks.Carries.{no_marks, a_mark, a_telling}
-use Rattle.mark_history.proofs.Tally.{IsUnrefusedBy, acting_unrefused, acts, command_of, conn_of, of_other, tells_refusal}
+use Rattle.mark_history.proofs.Tally.{IsUnrefusedBy, acting_unrefused, acts, conn_of, of_other, tells_refusal}
 use Rattle.mark_history.proofs.Without.{IsBefore, Without, acts_home, next_without}
 use Rattle.mark_history.proofs.Without.Without.{here, behind}
 

@@ -1,7 +1,6 @@
 -- The marks so far make a history that is legal for what the clients were told.
 use Rattle.std.proofs.Common.{◌≡◌, ℕ, ◌≤◌, ◌<◌, List, [], ◌++◌, length, true, false, sym, ◌∙◌, ap, arith, length-append}
 use Rattle.std.specs.Prelude.{AllPairs}
-use Rattle.std.proofs.Math.Logic.{⊎_elim}
 use Rattle.std.proofs.lemmas.Bool.Decides.{nat_tests}
 use Rattle.std.proofs.lemmas.List.{append-nil}
 use Rattle.imap_types.specs.declared.request.Answer.{Answer}

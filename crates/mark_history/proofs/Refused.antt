@@ -1,12 +1,9 @@
 -- The open command, which a step only saw, is refused and its client told: the step that saw it last is its point. It stands before marks of other
 -- connections, whose steps did nothing to its session; so they do the same behind the refusal, which leaves the store as it was.
-use Rattle.std.proofs.Common.{◌≡◌, ◌≢◌, ℕ, zero, suc, ◌+◌, ◌≤◌, ◌<◌, Bool, true, false, cond, nat_eq, nat_le, List, [], ◌∷◌, ◌++◌, length, get_or, if◌then◌else◌, Option, None, Some, inr, refl, sym, ◌∙◌, ap, subst, arith}
-use Rattle.std.specs.Prelude.{⊤, All, AllPairs, count_by}
-use Rattle.std.proofs.Math.Logic.{⊎_elim}
-use Rattle.std.proofs.lemmas.Bool.{cases_eq}
+use Rattle.std.proofs.Common.{◌≡◌, ℕ, true, false, nat_eq, List, [], ◌∷◌, ◌++◌, get_or, if◌then◌else◌, Option, None, Some, refl, sym, ◌∙◌, ap, subst, arith}
+use Rattle.std.specs.Prelude.{All, AllPairs}
 use Rattle.std.proofs.lemmas.Bool.Decides.{nat_tests}
-use Rattle.std.proofs.lemmas.List.Elements.{All-cons, All-head, All-nil, All-push, All-tail, All-weaker}
-use Rattle.std.proofs.lemmas.List.Kept.{AllPairs-cons}
+use Rattle.std.proofs.lemmas.List.Elements.{All-head, All-tail}
 use Rattle.link_msg.specs.declared.counts.Counts.TheVariants.{IfAnswered}
 use Rattle.link_msg.specs.declared.how.How.TheVariants.{Reserved}
 use Rattle.imap_types.specs.declared.command.Command.{Command}
@@ -18,7 +15,7 @@ use Rattle.mur_base.specs.declared.point.What.TheVariants.{Reserved as reserved}
 use Rattle.mur_model.specs.declared.session.Sess.{Sess}
 use Rattle.mur_model.specs.declared.setting.Setting.{Setting}
 use Rattle.mur_model.specs.Answer.{Answered}
-use Rattle.mur_model.specs.History.{Course, Talk, IsRefused, numbered, course_after, refused_out, with_session}
+use Rattle.mur_model.specs.History.{Course, Talk, IsRefused, numbered, refused_out, with_session}
 use Rattle.mur_model.specs.Relocation.{after_refusal}
 use Rattle.mark_history.specs.declared.mark.Mark.{Mark}
 use Rattle.mark_history.specs.declared.mark.MarkKind.{MarkKind}
@@ -26,7 +23,7 @@ use Rattle.mark_history.specs.declared.mark.MarkKind.TheVariants.{Home, Told}
 use Rattle.mark_history.specs.History.{is_of, next_of}
 use Rattle.mark_history.proofs.CarriesFrom.{CarriesBeside, CarriesFrom, IsElsewhere, before_other, beside, from_beside, from_told}
 use Rattle.mark_history.proofs.CarriesFrom.CarriesFrom.{from_none, from_step, from_telling}
-use Rattle.mark_history.proofs.Deeds.{IsStep, same_is_refused, same_refused, step_as}
+use Rattle.mark_history.proofs.Deeds.{same_is_refused, step_as}
 use Rattle.mark_history.proofs.Deeds.IsDeed.{is_refused}
 use Rattle.mark_history.proofs.Marks.{Later, head_pairs, refuses_next, tail_pairs, with_session_elsewhere}
 use Rattle.mark_history.proofs.Tally.{IsUnrefusedBy, acts, command_of, conn_of, its_kind, next_or, next_push, of_other, still_unrefused, tells_refusal}

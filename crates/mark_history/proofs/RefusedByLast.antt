@@ -1,5 +1,5 @@
 -- The marks so far are those of one store, where the open command is refused and its client told: the mark that saw it last is put back in.
-use Rattle.std.proofs.Common.{◌≡◌, ◌≢◌, ℕ, ◌+◌, ◌≤◌, ◌<◌, Bool, true, false, nat_eq, nat_le, List, [], ◌∷◌, ◌++◌, length, get_or, if◌then◌else◌, Option, None, Some, inr, refl, sym, ◌∙◌, ap, subst, arith}
+use Rattle.std.proofs.Common.{◌≡◌, ◌≢◌, ℕ, ◌+◌, ◌≤◌, ◌<◌, Bool, true, false, nat_le, List, [], ◌∷◌, ◌++◌, length, get_or, if◌then◌else◌, Option, None, Some, inr, refl, sym, ◌∙◌, ap, subst, arith}
 use Rattle.std.specs.Prelude.{⊤, All, AllPairs}
 use Rattle.std.proofs.Math.Logic.{⊎_elim}
 use Rattle.std.proofs.lemmas.Bool.{cases_eq}
@@ -13,7 +13,6 @@ use Rattle.imap_types.specs.declared.reply.NoText.TheVariants.{BeingMoved}
 use Rattle.imap_types.specs.declared.request.Answer.{Answer}
 use Rattle.mur_base.specs.declared.point.AskId.{AskId}
 use Rattle.mur_base.specs.declared.point.What.TheVariants.{Reserved as reserved}
-use Rattle.mur_model.specs.declared.session.Sess.{Sess}
 use Rattle.mur_model.specs.declared.setting.Setting.{Setting}
 use Rattle.mur_model.specs.History.{Talk, IsRefused, course_after, numbered, with_session}
 use Rattle.mur_model.proofs.Numbered.{with_item, with_item-lengths, with_item-longer, with_item-other, length_with_item, numbered_new}
@@ -21,10 +20,10 @@ use Rattle.mark_history.specs.declared.mark.Mark.{Mark}
 use Rattle.mark_history.specs.declared.mark.MarkKind.{MarkKind}
 use Rattle.mark_history.specs.declared.mark.MarkKind.TheVariants.{Home, Told}
 use Rattle.mark_history.specs.FirstCourse.{first_course}
-use Rattle.mark_history.specs.History.{is_of, next_of}
+use Rattle.mark_history.specs.History.{is_of}
 use Rattle.mark_history.specs.Marked.{CanRefuse, IsUnreplied, Tale, last_of, mark_now, open_ask, refusal}
 use Rattle.mark_history.proofs.ByLast.{IsToldByLast, said_of, still_saw}
-use Rattle.mark_history.proofs.CarriesFrom.{CarriesBeside, CarriesFrom, carries_of, from_on}
+use Rattle.mark_history.proofs.CarriesFrom.{CarriesBeside, carries_of, from_on}
 use Rattle.mark_history.proofs.LeftOut.{LeavesOut, leaves_push}
 use Rattle.mark_history.proofs.Marks.{Later, counts_of, marked_once_telling, marks_push, with_session_elsewhere}
 use Rattle.mark_history.proofs.PutIn.{PutIn, StillUnreplied, each_left, each_with, fit_with, once_with, pairs_left, put_in}
@@ -32,7 +31,7 @@ use Rattle.mark_history.proofs.Refused.{from_refused}
 use Rattle.mark_history.proofs.TakenBack.{last_none}
 use Rattle.mark_history.proofs.Tally.{StillFits, acts, command_of, conn_of, fit_push, fits, fits_apart, may_refuse, next_or, of_ask, of_both, of_other}
 use Rattle.mark_history.proofs.Told.{IsToldIn, having_said, said_more}
-use Rattle.mark_history.proofs.Without.{IsBefore, Without, acts_home}
+use Rattle.mark_history.proofs.Without.{IsBefore, acts_home}
 
 -- ---- the order of all marks
 
