@@ -220,7 +220,7 @@ told_so_far config talk before later are date_is now last =
           (λ name. both_hold (box_at legal.last.store name) (below_next name) (rises name));
       appended_there = keeps_appended (setting_of config) legal.last.store rises;
       done = does_what_it_says (setting_of config) legal.last.store rises;
-      low_serials = subst GivesLowSerials (sym legal.same_store) (low_serials law.story.course.store law.backend.last_serial law.serials);
+      low_serials = subst GivesLowSerials (sym legal.same_store) (low_serials law.story.course.store law.backend law.serials);
       others_unseen = λ conn. keeps_to_its_own (setting_of config) legal.last.store (legal.last.sessions conn)
           (points_own (setting_of config) (told_of law.story) first_course legal.last (history_of world) legal.legal.follows
           (none_own (setting_of config)) conn);
