@@ -179,11 +179,3 @@ unfolding store_after MakesNone
 order_stays store name kept none order = order
 order_stays store name (made box) none order = absurd none
 order_stays store name (changed box) none order = with_value-in_order (slice_cmp nat_cmp) store.boxes name box order
-
--- what another store has of one name tells what the work leaves of it
-pub same_boxes : (store other : Store) (name : List ℕ) (left : Left) → MakesNone left → store.boxes ≡ other.boxes
-    → (store_after store name left).boxes ≡ (store_after other name left).boxes
-unfolding store_after MakesNone
-same_boxes store other name kept none same = same
-same_boxes store other name (made box) none same = absurd none
-same_boxes store other name (changed box) none same = rw same refl

@@ -1,5 +1,5 @@
 -- A session sees and changes nothing but what its user has rights on.
-use Rattle.std.proofs.Common.{◌≡◌, ◌≢◌, ◌↔◌, ℕ, ◌≤◌, Bool, true, false, List, [], ◌∷◌, Option, None}
+use Rattle.std.proofs.Common.{◌≡◌, ◌≢◌, ◌↔◌, ℕ, Bool, true, false, List, [], ◌∷◌, Option, None}
 use Rattle.std.proofs.Common.{refl, sym, ◌∙◌, ap, subst, length, leb-true, le-leb}
 use Rattle.std.proofs.Math.Logic.{⊎_elim}
 use Rattle.std.specs.Cmp.Lexicographic.{slice_cmp}
