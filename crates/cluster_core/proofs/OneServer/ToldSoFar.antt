@@ -1,5 +1,5 @@
 -- What is told at every step of a run.
-use Rattle.std.proofs.Common.{◌≡◌, ℕ, zero, suc, ◌+◌, ◌≤◌, ◌<◌, true, false, cond, nat_eq, List, [], ◌∷◌, ◌++◌, length}
+use Rattle.std.proofs.Common.{◌≡◌, Bool, ℕ, zero, suc, ◌+◌, ◌≤◌, ◌<◌, true, false, cond, nat_eq, List, [], ◌∷◌, ◌++◌, length}
 use Rattle.std.proofs.Common.{Some, refl, sym, ◌∙◌, ap, subst, arith, length-append}
 use Rattle.std.specs.Prelude.{All, IfSome, count_by}
 use Rattle.std.proofs.lemmas.Bool.Decides.{nat_tests}
@@ -15,6 +15,7 @@ use Rattle.mur_config.specs.declared.config.Config.{Config}
 use Rattle.mur_config.specs.Nodes.{AreNodes}
 use Rattle.mur_model.specs.declared.setting.Setting.{Setting}
 use Rattle.mur_model.specs.declared.store.Store.{Store}
+use Rattle.mur_model.specs.Answer.{Answered}
 use Rattle.mur_model.specs.History.{Course, Talk, numbered}
 use Rattle.mur_model.specs.Store.{box_at}
 use Rattle.mur_model.proofs.HistoryGrows.{one_up_to}
