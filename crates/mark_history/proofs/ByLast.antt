@@ -1,6 +1,7 @@
 -- The marks so far are those of one store, where steps may only see a command, and a reply that its client wasn't told of may be taken back: of several
 -- steps that act on a command the last one counts.
 use Rattle.std.proofs.Common.{◌≡◌, ◌≢◌, ◌⊎◌, inl, inr, ℕ, ◌+◌, ◌≤◌, ◌<◌, Bool, true, false, nat_le, List, [], ◌∷◌, ◌++◌, length, get_or, if◌then◌else◌, Option, None, Some, refl, sym, ◌∙◌, ap, arith}
+use Rattle.std.specs.Prelude.{⊤}
 use Rattle.std.proofs.Math.Logic.{⊎_elim}
 use Rattle.std.proofs.lemmas.Bool.{cases_eq}
 use Rattle.std.proofs.lemmas.Bool.Decides.{nat_tests}
@@ -12,7 +13,7 @@ use Rattle.mur_model.specs.declared.setting.Setting.{Setting}
 use Rattle.mur_model.specs.Answer.{MayTake}
 use Rattle.mur_model.specs.History.{Talk, GoesOn, numbered, carried_out, with_session}
 use Rattle.mur_model.proofs.HistoryGrows.{same_lists}
-use Rattle.mur_model.proofs.Numbered.{with_item, with_item-longer, with_item-other, length_with_item, numbered_new}
+use Rattle.mur_model.proofs.Numbered.{with_item, with_item-longer, with_item-other, length_with_item}
 use Rattle.mark_history.specs.declared.mark.Mark.{Mark}
 use Rattle.mark_history.specs.declared.mark.MarkKind.{MarkKind}
 use Rattle.mark_history.specs.declared.mark.MarkKind.TheVariants.{Home}
@@ -23,7 +24,7 @@ use Rattle.mark_history.proofs.CarriesFrom.{CarriesFrom, from_on, from_push, fro
 use Rattle.mark_history.proofs.LeftOut.{LeavesOut, StillSaw, leaves_push, leaves_seen, only_saw, same_points}
 use Rattle.mark_history.proofs.Marks.{with_session_elsewhere}
 use Rattle.mark_history.proofs.Tally.{acts, command_of, conn_of, its_kind, next_or, of_both, of_equal, of_other}
-use Rattle.mark_history.proofs.Told.{IsTold, TellsOn, having_said, next_course, next_mark, said_more, telling, telling_mark, told_asked, told_behind_push, told_later, told_push}
+use Rattle.mark_history.proofs.Told.{IsToldIn, TellsOn, having_said, next_course, next_mark, said_more, step_made, telling, telling_mark, tells_plainly, told_asked, told_behind_push, told_later, told_push}
 
 abbrev pub said_of : Tale → ℕ → ℕ
 said_of tale conn = length (tale.talk.answers conn)
@@ -32,7 +33,7 @@ pub record IsToldByLast (setting : Setting) (now : ℕ) (marks : List Mark) (tal
   -- the marks without those of steps that only saw their command
   pub acting : List Mark
   pub leaves : LeavesOut (said_of tale) marks acting
-  pub is_told : IsTold setting now acting tale.talk tale.told tale.course
+  pub is_told : IsToldIn ⊤ setting now acting tale.talk tale.told tale.course
   -- each connection's session before its last step that acts
   pub earlier : ℕ → Sess
   pub from : CarriesFrom setting tale.talk first_course first_course.sessions acting tale.course earlier
@@ -46,7 +47,7 @@ points_by_last setting now marks tale is = same_points (said_of tale) marks is.a
 -- ---- what only saw its command still did, when a mark is put behind
 
 -- what had no reply has none, but the command of the new mark
-abbrev StaysUnreplied : (ℕ → ℕ) → (ℕ → ℕ) → Mark → Type 0
+abbrev pub StaysUnreplied : (ℕ → ℕ) → (ℕ → ℕ) → Mark → Type 0
 StaysUnreplied said now more = (mark : Mark) → said (conn_of mark) < command_of mark → is_of mark.ask more ≡ false → now (conn_of mark) < command_of mark
 
 unreplied_is : (number count : ℕ) → only_saw None (nat_le number count) ≡ true → count < number
@@ -66,7 +67,7 @@ unfolding only_saw
 saw_as kind one other saw = saw
 
 -- the new mark acts, or is of a command that was replied to
-still_saw : (said now : ℕ → ℕ) (more : Mark) → StaysUnreplied said now more → (acts more.kind ≡ true) ⊎ (command_of more ≤ said (conn_of more))
+pub still_saw : (said now : ℕ → ℕ) (more : Mark) → StaysUnreplied said now more → (acts more.kind ≡ true) ⊎ (command_of more ≤ said (conn_of more))
     → StillSaw said now more
 unfolding next_or
 still_saw said now more stays either = λ mark next saw. by mark next saw (is_of mark.ask more) refl
@@ -136,19 +137,11 @@ push_by_last setting now marks tale later_told conn request serial kind acting o
           (still_saw (said_of tale) (λ c. length (longer.answers c)) mark (next_unreplied tale.talk now conn kind answer) (inl acting));
       is_told = told_push setting now is.acting tale.talk tale.told later_told tale.course conn request serial kind acting on asked free unless is.is_told;
       earlier = with_session is.earlier conn was;
-      from = from_push setting longer first_course tale.course first_course.sessions is.earlier is.acting mark request serial
+      from = from_push setting longer first_course tale.course first_course.sessions is.earlier is.acting mark
+          (carried_out setting tale.course conn request serial)
           (from_on setting tale.talk longer (said_more tale.talk conn answer serial) first_course tale.course first_course.sessions is.earlier is.acting
           is.from)
-          (record {
-            acting = acting;
-            takes = record {
-              asked = asked;
-              given = numbered_new tale.talk.serials conn serial (length (tale.talk.answers conn)) (sym (is.is_told.serials conn));
-              free = free;
-            };
-            answer = numbered_new tale.talk.answers conn answer (length (tale.talk.answers conn)) refl;
-            unless = unless;
-          });
+          (step_made setting tale.talk tale.course conn request serial now kind acting asked free unless (is.is_told.serials conn));
       before = λ c more. ⊎_elim
           (λ (e : c ≡ conn). ap (with_session tale.before conn was) e ∙ with_session_at tale.before conn was
           ∙ sym (ap (with_session is.earlier conn was) e ∙ with_session_at is.earlier conn was))
@@ -196,7 +189,8 @@ told_behind_by_last setting now marks tale conn answer said is =
           (still_saw (said_of tale) (said_of tale) mark (λ m high other. high) (inr (omega (arith, said))));
       is_told = told_behind_push setting now is.acting tale.talk tale.told tale.course conn answer said is.is_told;
       earlier = is.earlier;
-      from = from_told setting tale.talk first_course tale.course first_course.sessions is.earlier is.acting mark telling is.from;
+      from = from_told setting tale.talk first_course tale.course first_course.sessions is.earlier is.acting mark telling (λ k d h. λ same. tells_plainly)
+          is.from;
       before = λ c more. is.before c (omega (arith, more, with_item-longer tale.told conn answer c));
     }
 

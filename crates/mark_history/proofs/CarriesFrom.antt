@@ -1,41 +1,33 @@
 -- The steps of marks carry out their requests, where it is known which session each connection had before its last one: without that step the others
 -- still do, if it left the store as it was.
-use Rattle.std.proofs.Common.{◌≡◌, ◌≢◌, ℕ, Bool, true, false, nat_eq, List, [], ◌∷◌, ◌++◌, if◌then◌else◌, Some, refl, sym, ◌∙◌, ap, subst, arith}
+use Rattle.std.proofs.Common.{◌≡◌, ◌≢◌, ℕ, Bool, true, false, nat_eq, List, [], ◌∷◌, ◌++◌, if◌then◌else◌, refl, sym, ◌∙◌, ap, subst, arith}
 use Rattle.std.specs.Prelude.{All, AllPairs}
 use Rattle.std.proofs.lemmas.Bool.Decides.{nat_tests}
 use Rattle.std.proofs.lemmas.List.Elements.{All-head, All-tail}
 use Rattle.link_msg.specs.declared.counts.Counts.TheVariants.{IfAnswered}
-use Rattle.imap_types.specs.declared.request.Request.{Request}
 use Rattle.mur_model.specs.declared.session.Sess.{Sess}
 use Rattle.mur_model.specs.declared.setting.Setting.{Setting}
 use Rattle.mur_model.specs.Answer.{Answered}
-use Rattle.mur_model.specs.History.{Course, Talk, TalkGoesOn, Takes, numbered, with_session, carried_out, course_after}
-use Rattle.mur_model.proofs.HistoryGrows.{numbered_on, takes_on}
+use Rattle.mur_model.specs.History.{Course, Talk, TalkGoesOn, with_session, course_after}
 use Rattle.mark_history.specs.declared.mark.Mark.{Mark}
 use Rattle.mark_history.specs.declared.mark.MarkKind.TheVariants.{Home}
-use Rattle.mark_history.proofs.Marks.{Carries, Later, head_pairs, same_carried, same_takes, same_with, tail_pairs, with_session_elsewhere}
+use Rattle.mark_history.specs.History.{is_of, next_of}
+use Rattle.mark_history.proofs.Deeds.{HasItsAct, IsStep, same_step, step_as, step_on, step_with}
+use Rattle.mark_history.proofs.Marks.{Carries, Later, head_pairs, same_with, step_before, tail_pairs, with_session_elsewhere}
 use Rattle.mark_history.proofs.Marks.Carries.{no_marks, a_mark, a_telling}
-use Rattle.mark_history.proofs.Tally.{acts, command_of, conn_of}
-use Rattle.mark_history.proofs.Without.{IsBefore, Without, acts_home}
+use Rattle.mark_history.proofs.Tally.{IsUnrefusedBy, acting_unrefused, acts, conn_of, of_other, tells_refusal}
+use Rattle.mark_history.proofs.Without.{IsBefore, Without, acts_home, next_without}
 use Rattle.mark_history.proofs.Without.Without.{here, behind}
 
--- the step of a mark carries out its request, as `Carries` has it
-pub record IsStep (setting : Setting) (talk : Talk) (course : Course) (mark : Mark) (request : Request) (serial : ℕ) : Type 0 where
-  pub acting : acts mark.kind ≡ true
-  pub takes : Takes setting talk course (conn_of mark) (command_of mark) request serial
-  pub answer : numbered (talk.answers (conn_of mark)) (command_of mark) ≡ Some (carried_out setting course (conn_of mark) request serial).answer
-  pub unless : mark.kind ≡ Home IfAnswered → (carried_out setting course (conn_of mark) request serial).store ≡ course.store
-
-abbrev pub after_step : Setting → Course → Mark → Request → ℕ → Course
-after_step setting course mark request serial = course_after course (conn_of mark) (carried_out setting course (conn_of mark) request serial)
+abbrev pub after_step : Course → Mark → Answered → Course
+after_step course mark done = course_after course (conn_of mark) done
 
 -- from the sessions before to those at the end
 pub data CarriesFrom (setting : Setting) (talk : Talk) : Course → (ℕ → Sess) → List Mark → Course → (ℕ → Sess) → Type 0 where
   from_none : (course : Course) (before : ℕ → Sess) → CarriesFrom setting talk course before [] course before
-  from_step : (course last : Course) (before end : ℕ → Sess) (mark : Mark) (request : Request) (serial : ℕ) (marks : List Mark)
-      → IsStep setting talk course mark request serial
-      → CarriesFrom setting talk (after_step setting course mark request serial) (with_session before (conn_of mark) (course.sessions (conn_of mark))) marks
-      last end
+  from_step : (course last : Course) (before end : ℕ → Sess) (mark : Mark) (done : Answered) (marks : List Mark)
+      → IsStep setting talk course mark (tells_refusal (next_of mark.ask marks)) done
+      → CarriesFrom setting talk (after_step course mark done) (with_session before (conn_of mark) (course.sessions (conn_of mark))) marks last end
       → CarriesFrom setting talk course before (mark ∷ marks) last end
   from_telling : (course last : Course) (before end : ℕ → Sess) (mark : Mark) (marks : List Mark) → acts mark.kind ≡ false
       → CarriesFrom setting talk course before marks last end → CarriesFrom setting talk course before (mark ∷ marks) last end
@@ -43,8 +35,8 @@ pub data CarriesFrom (setting : Setting) (talk : Talk) : Course → (ℕ → Ses
 pub carries_of : (setting : Setting) (talk : Talk) (first last : Course) (before end : ℕ → Sess) (marks : List Mark)
     → CarriesFrom setting talk first before marks last end → Carries setting talk first marks last
 carries_of setting talk first last before end marks (from_none course its) = no_marks course
-carries_of setting talk first last before end marks (from_step course on its ends mark request serial rest step later) =
-    a_mark course on mark request serial rest step.acting step.takes step.answer step.unless (carries_of setting talk _ on _ ends rest later)
+carries_of setting talk first last before end marks (from_step course on its ends mark done rest step later) =
+    a_mark course on mark done rest step (carries_of setting talk _ on _ ends rest later)
 carries_of setting talk first last before end marks (from_telling course on its ends mark rest telling later) =
     a_telling course on mark rest telling (carries_of setting talk course on its ends rest later)
 
@@ -53,44 +45,39 @@ carries_of setting talk first last before end marks (from_telling course on its 
 pub from_on : (setting : Setting) (talk longer : Talk) → TalkGoesOn talk longer → (first last : Course) (before end : ℕ → Sess) (marks : List Mark)
     → CarriesFrom setting talk first before marks last end → CarriesFrom setting longer first before marks last end
 from_on setting talk longer on first last before end marks (from_none course its) = from_none course its
-from_on setting talk longer on first last before end marks (from_step course to its ends mark request serial rest step later) =
-    from_step course to its ends mark request serial rest
-    (record {
-      acting = step.acting;
-      takes = takes_on setting talk longer on course (conn_of mark) (command_of mark) request serial step.takes;
-      answer = numbered_on talk.answers longer.answers on.answers (conn_of mark) (command_of mark) _ step.answer;
-      unless = step.unless;
-    })
+from_on setting talk longer on first last before end marks (from_step course to its ends mark done rest step later) =
+    from_step course to its ends mark done rest (step_on setting talk longer on course mark _ done step)
     (from_on setting talk longer on _ to _ ends rest later)
 from_on setting talk longer on first last before end marks (from_telling course to its ends mark rest telling later) =
     from_telling course to its ends mark rest telling (from_on setting talk longer on course to its ends rest later)
 
 pub from_push : (setting : Setting) (talk : Talk) (first last : Course) (before end : ℕ → Sess) (marks : List Mark) (mark : Mark)
-    (request : Request) (serial : ℕ) → CarriesFrom setting talk first before marks last end → IsStep setting talk last mark request serial
-    → CarriesFrom setting talk first before (marks ++ mark ∷ []) (after_step setting last mark request serial)
-    (with_session end (conn_of mark) (last.sessions (conn_of mark)))
-from_push setting talk first last before end marks mark request serial (from_none course its) step =
-    from_step course _ its _ mark request serial [] step (from_none _ _)
-from_push setting talk first last before end marks mark request serial (from_step course to its ends m r s rest own later) step =
-    from_step course _ its _ m r s (rest ++ mark ∷ []) own (from_push setting talk _ to _ ends rest mark request serial later step)
-from_push setting talk first last before end marks mark request serial (from_telling course to its ends m rest telling later) step =
-    from_telling course _ its _ m (rest ++ mark ∷ []) telling (from_push setting talk course to its ends rest mark request serial later step)
+    (done : Answered) → CarriesFrom setting talk first before marks last end → IsStep setting talk last mark false done
+    → CarriesFrom setting talk first before (marks ++ mark ∷ []) (after_step last mark done) (with_session end (conn_of mark) (last.sessions (conn_of mark)))
+unfolding next_of tells_refusal
+from_push setting talk first last before end marks mark done (from_none course its) step =
+    from_step course _ its _ mark done [] step (from_none _ _)
+from_push setting talk first last before end marks mark done (from_step course to its ends m d rest own later) step =
+    from_step course _ its _ m d (rest ++ mark ∷ [])
+    (step_before setting talk course m mark rest d (λ same. acting_unrefused mark.kind step.acting) own)
+    (from_push setting talk _ to _ ends rest mark done later step)
+from_push setting talk first last before end marks mark done (from_telling course to its ends m rest telling later) step =
+    from_telling course _ its _ m (rest ++ mark ∷ []) telling (from_push setting talk course to its ends rest mark done later step)
 
 pub from_told : (setting : Setting) (talk : Talk) (first last : Course) (before end : ℕ → Sess) (marks : List Mark) (mark : Mark) → acts mark.kind ≡ false
+    → All (IsUnrefusedBy mark) marks
     → CarriesFrom setting talk first before marks last end → CarriesFrom setting talk first before (marks ++ mark ∷ []) last end
-from_told setting talk first last before end marks mark telling (from_none course its) =
+from_told setting talk first last before end marks mark telling plain (from_none course its) =
     from_telling course course its its mark [] telling (from_none course its)
-from_told setting talk first last before end marks mark telling (from_step course to its ends m r s rest own later) =
-    from_step course to its ends m r s (rest ++ mark ∷ []) own (from_told setting talk _ to _ ends rest mark telling later)
-from_told setting talk first last before end marks mark telling (from_telling course to its ends m rest own later) =
-    from_telling course to its ends m (rest ++ mark ∷ []) own (from_told setting talk course to its ends rest mark telling later)
+from_told setting talk first last before end marks mark telling plain (from_step course to its ends m d rest own later) =
+    from_step course to its ends m d (rest ++ mark ∷ [])
+    (step_before setting talk course m mark rest d (All-head (IsUnrefusedBy mark) m rest plain) own)
+    (from_told setting talk _ to _ ends rest mark telling (All-tail (IsUnrefusedBy mark) m rest plain) later)
+from_told setting talk first last before end marks mark telling plain (from_telling course to its ends m rest own later) =
+    from_telling course to its ends m (rest ++ mark ∷ []) own
+    (from_told setting talk course to its ends rest mark telling (All-tail (IsUnrefusedBy mark) m rest plain) later)
 
 -- ---- another talk that has what the marks need
-
-pub record HasItsAct (talk other : Talk) (mark : Mark) : Type 0 where
-  pub request : numbered (other.requests (conn_of mark)) (command_of mark) ≡ numbered (talk.requests (conn_of mark)) (command_of mark)
-  pub answer : numbered (other.answers (conn_of mark)) (command_of mark) ≡ numbered (talk.answers (conn_of mark)) (command_of mark)
-  pub serial : numbered (other.serials (conn_of mark)) (command_of mark) ≡ numbered (talk.serials (conn_of mark)) (command_of mark)
 
 abbrev pub HasActs : Talk → Talk → Mark → Type 0
 HasActs talk other mark = acts mark.kind ≡ true → HasItsAct talk other mark
@@ -98,15 +85,9 @@ HasActs talk other mark = acts mark.kind ≡ true → HasItsAct talk other mark
 pub from_with : (setting : Setting) (talk other : Talk) (first last : Course) (before end : ℕ → Sess) (marks : List Mark) → All (HasActs talk other) marks
     → CarriesFrom setting talk first before marks last end → CarriesFrom setting other first before marks last end
 from_with setting talk other first last before end marks has (from_none course its) = from_none course its
-from_with setting talk other first last before end marks has (from_step course to its ends mark request serial rest step later) =
-    let own = All-head (HasActs talk other) mark rest has step.acting in
-    from_step course to its ends mark request serial rest
-    (record {
-      acting = step.acting;
-      takes = record { asked = own.request ∙ step.takes.asked; given = own.serial ∙ step.takes.given; free = step.takes.free };
-      answer = own.answer ∙ step.answer;
-      unless = step.unless;
-    })
+from_with setting talk other first last before end marks has (from_step course to its ends mark done rest step later) =
+    from_step course to its ends mark done rest
+    (step_with setting talk other course mark _ done (All-head (HasActs talk other) mark rest has step.acting) step)
     (from_with setting talk other _ to _ ends rest (All-tail (HasActs talk other) mark rest has) later)
 from_with setting talk other first last before end marks has (from_telling course to its ends mark rest telling later) =
     from_telling course to its ends mark rest telling (from_with setting talk other course to its ends rest (All-tail (HasActs talk other) mark rest has) later)
@@ -155,47 +136,34 @@ pub record CarriesBeside (setting : Setting) (talk : Talk) (course : Course) (be
   pub from : CarriesFrom setting talk course before marks last ends
   pub same : (other : ℕ) → other ≢ conn → ends other ≡ end other
 
-step_beside : (setting : Setting) (talk : Talk) (course : Course) (mark : Mark) (request : Request) (serial conn : ℕ) (session : Sess)
-    → conn_of mark ≢ conn → IsStep setting talk course mark request serial → IsStep setting talk (beside course conn session) mark request serial
-step_beside setting talk course mark request serial conn session ne step =
-    let its : with_session course.sessions conn session (conn_of mark) ≡ course.sessions (conn_of mark) =
-    with_session_elsewhere course.sessions conn session (conn_of mark) (λ e. ne (sym e)) in
-    let both = same_carried setting course (beside course conn session) (conn_of mark) request serial refl its in
-    record {
-      acting = step.acting;
-      takes = same_takes setting talk course (beside course conn session) (conn_of mark) (command_of mark) request serial refl its step.takes;
-      answer = step.answer ∙ ap (λ (a : Answered). Some a.answer) (sym both);
-      unless = λ kind. ap (λ (a : Answered). a.store) both ∙ step.unless kind;
-    }
+step_beside : (setting : Setting) (talk : Talk) (course : Course) (mark : Mark) (refused : Bool) (done : Answered) (conn : ℕ) (session : Sess)
+    → conn_of mark ≢ conn → IsStep setting talk course mark refused done → IsStep setting talk (beside course conn session) mark refused done
+step_beside setting talk course mark refused done conn session ne step =
+    same_step setting talk course (beside course conn session) mark refused done refl
+    (with_session_elsewhere course.sessions conn session (conn_of mark) (λ e. ne (sym e))) step
 
-after_beside : (setting : Setting) (course : Course) (mark : Mark) (request : Request) (serial conn : ℕ) (session : Sess) → conn_of mark ≢ conn
-    → beside (after_step setting course mark request serial) conn session ≡ after_step setting (beside course conn session) mark request serial
-after_beside setting course mark request serial conn session ne =
-    let its : with_session course.sessions conn session (conn_of mark) ≡ course.sessions (conn_of mark) =
-    with_session_elsewhere course.sessions conn session (conn_of mark) (λ e. ne (sym e)) in
-    let both = same_carried setting course (beside course conn session) (conn_of mark) request serial refl its in
-    let done : Answered = carried_out setting course (conn_of mark) request serial in
+after_beside : (course : Course) (mark : Mark) (done : Answered) (conn : ℕ) (session : Sess) → conn_of mark ≢ conn
+    → beside (after_step course mark done) conn session ≡ after_step (beside course conn session) mark done
+after_beside course mark done conn session ne =
     ap {B = Course} (λ s. record { store = done.store; sessions = s }) (swap_sessions course.sessions (conn_of mark) conn done.session session ne)
-    ∙ ap (course_after (beside course conn session) (conn_of mark)) (sym both)
 
-from_beside : (setting : Setting) (talk : Talk) (conn : ℕ) (session : Sess) (course last : Course) (before end other : ℕ → Sess) (marks : List Mark)
+pub from_beside : (setting : Setting) (talk : Talk) (conn : ℕ) (session : Sess) (course last : Course) (before end other : ℕ → Sess) (marks : List Mark)
     → CarriesFrom setting talk course before marks last end → All (IsElsewhere conn) marks → ((at : ℕ) → at ≢ conn → other at ≡ before at)
     → CarriesBeside setting talk (beside course conn session) other marks (beside last conn session) conn end
 from_beside setting talk conn session first last before end other marks (from_none course its) apart same =
     record { ends = other; from = from_none _ other; same = same }
-from_beside setting talk conn session first last before end other marks (from_step course to its ends mark request serial rest step later) apart same =
+from_beside setting talk conn session first last before end other marks (from_step course to its ends mark done rest step later) apart same =
     let ne : conn_of mark ≢ conn = All-head (IsElsewhere conn) mark rest apart step.acting in
     let here_too : with_session course.sessions conn session (conn_of mark) ≡ course.sessions (conn_of mark) =
     with_session_elsewhere course.sessions conn session (conn_of mark) (λ e. ne (sym e)) in
-    let more = from_beside setting talk conn session (after_step setting course mark request serial) to _ ends
+    let more = from_beside setting talk conn session (after_step course mark done) to _ ends
     (with_session other (conn_of mark) (with_session course.sessions conn session (conn_of mark))) rest later (All-tail (IsElsewhere conn) mark rest apart)
     (λ at away. same_with other its (conn_of mark) _ _ at here_too (same at away)) in
     record {
       ends = more.ends;
-      from = from_step (beside course conn session) _ other _ mark request serial rest
-          (step_beside setting talk course mark request serial conn session ne step)
+      from = from_step (beside course conn session) _ other _ mark done rest (step_beside setting talk course mark _ done conn session ne step)
           (subst (λ c. CarriesFrom setting talk c (with_session other (conn_of mark) (with_session course.sessions conn session (conn_of mark))) rest
-          (beside to conn session) more.ends) (after_beside setting course mark request serial conn session ne) more.from);
+          (beside to conn session) more.ends) (after_beside course mark done conn session ne) more.from);
       same = more.same;
     }
 from_beside setting talk conn session first last before end other marks (from_telling course to its ends mark rest telling later) apart same =
@@ -205,11 +173,14 @@ from_beside setting talk conn session first last before end other marks (from_te
 keeps_before : (setting : Setting) (talk : Talk) (conn : ℕ) (course last : Course) (before end : ℕ → Sess) (marks : List Mark)
     → CarriesFrom setting talk course before marks last end → All (IsElsewhere conn) marks → end conn ≡ before conn
 keeps_before setting talk conn first last before end marks (from_none course its) apart = refl
-keeps_before setting talk conn first last before end marks (from_step course to its ends mark request serial rest step later) apart =
+keeps_before setting talk conn first last before end marks (from_step course to its ends mark done rest step later) apart =
     keeps_before setting talk conn _ to _ ends rest later (All-tail (IsElsewhere conn) mark rest apart)
     ∙ with_session_elsewhere its (conn_of mark) (course.sessions (conn_of mark)) conn (All-head (IsElsewhere conn) mark rest apart step.acting)
 keeps_before setting talk conn first last before end marks (from_telling course to its ends mark rest telling later) apart =
     keeps_before setting talk conn course to its ends rest later (All-tail (IsElsewhere conn) mark rest apart)
+
+pub before_other : (mark other : Mark) → IsBefore mark other → is_of other.ask mark ≡ false
+before_other mark other earlier = of_other other mark _ refl (λ c n. absurd (omega (arith, earlier c, n)))
 
 -- ---- without the last step of a connection, which left the store as it was
 
@@ -217,17 +188,15 @@ pub from_without : (setting : Setting) (talk : Talk) (mark : Mark) (course last 
     → CarriesFrom setting talk course before marks last end → Without mark marks less → mark.kind ≡ Home IfAnswered → AllPairs Later marks
     → All (IsBefore mark) less
     → CarriesBeside setting talk course before less (beside last (conn_of mark) (end (conn_of mark))) (conn_of mark) end
-from_without setting talk mark first last before end marks less (from_step course to its ends m request serial rest step later) (here more) kind later_on
-    earlier =
+from_without setting talk mark first last before end marks less (from_step course to its ends m done rest step later) (here more) kind later_on earlier =
     let conn : ℕ = conn_of mark in
     let apart : All (IsElsewhere conn) more =
     (λ k d h. λ a e. absurd (omega (arith, (head_pairs Later mark more later_on k d h).0 (sym e), earlier k d h e))) in
     let was : Sess = course.sessions conn in
-    let others = from_beside setting talk conn was (after_step setting course mark request serial) to (with_session its conn was) ends its more later apart
+    let others = from_beside setting talk conn was (after_step course mark done) to (with_session its conn was) ends its more later apart
     (λ at away. sym (with_session_elsewhere its conn was at (λ e. away (sym e)))) in
-    let again : beside (after_step setting course mark request serial) conn was ≡ course =
-    ap {B = Course} (λ s. record { store = (carried_out setting course conn request serial).store; sessions = s })
-    (session_back course.sessions conn (carried_out setting course conn request serial).session)
+    let again : beside (after_step course mark done) conn was ≡ course =
+    ap {B = Course} (λ s. record { store = done.store; sessions = s }) (session_back course.sessions conn done.session)
     ∙ ap {B = Course} (λ s. record { store = s; sessions = course.sessions }) (step.unless kind) in
     let ended : ends conn ≡ was = keeps_before setting talk conn _ to _ ends more later apart ∙ with_session_at its conn was in
     record {
@@ -236,11 +205,17 @@ from_without setting talk mark first last before end marks less (from_step cours
           (subst (λ c. CarriesFrom setting talk c its more (beside to conn was) others.ends) again others.from);
       same = others.same;
     }
-from_without setting talk mark first last before end marks less (from_step course to its ends m request serial rest step later)
-    (behind again more less_more out) kind later_on earlier =
+from_without setting talk mark first last before end marks less (from_step course to its ends m done rest step later) (behind again more less_more out) kind
+    later_on earlier =
     let others = from_without setting talk mark _ to _ ends rest less_more later out kind (tail_pairs Later m rest later_on)
     (All-tail (IsBefore mark) m less_more earlier) in
-    record { ends = others.ends; from = from_step course _ its _ m request serial less_more step others.from; same = others.same }
+    let other : is_of m.ask mark ≡ false = before_other mark m (All-head (IsBefore mark) m less_more earlier) in
+    record {
+      ends = others.ends;
+      from = from_step course _ its _ m done less_more
+          (step_as setting talk course m _ _ done (sym (ap tells_refusal (next_without m.ask mark rest less_more out other))) step) others.from;
+      same = others.same;
+    }
 from_without setting talk mark first last before end marks less (from_telling course to its ends m rest telling later) (here more) kind later_on earlier =
     absurd (let both : true ≡ false = sym (acts_home mark kind) ∙ telling in cc)
 from_without setting talk mark first last before end marks less (from_telling course to its ends m rest telling later) (behind again more less_more out) kind

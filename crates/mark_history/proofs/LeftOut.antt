@@ -4,7 +4,7 @@ use Rattle.std.proofs.Common.{if◌then◌else◌}
 use Rattle.std.specs.Prelude.{All}
 use Rattle.std.proofs.lemmas.List.Elements.{All-head, All-tail}
 use Rattle.link_msg.specs.declared.counts.Counts.TheVariants.{IfAnswered}
-use Rattle.link_msg.specs.declared.how.How.TheVariants.{Here, Behind}
+use Rattle.link_msg.specs.declared.how.How.TheVariants.{Here, Behind, Reserved}
 use Rattle.mur_base.specs.declared.point.AskId.{AskId}
 use Rattle.mark_history.specs.declared.mark.Mark.{Mark}
 use Rattle.mark_history.specs.declared.mark.MarkKind.{MarkKind}
@@ -38,6 +38,7 @@ unfolding counts_as acts
 counts_alike (Home counts) one other same = ap (counts_as (Home counts)) (same refl)
 counts_alike (Told Here) one other same = refl
 counts_alike (Told Behind) one other same = refl
+counts_alike (Told Reserved) one other same = refl
 
 counts_not : (next : Option MarkKind) (replied : Bool) → only_saw next replied ≡ true → counts_as (Home IfAnswered) next ≡ None
 unfolding only_saw counts_as untold_as acts
@@ -45,6 +46,7 @@ counts_not None replied saw = refl
 counts_not (Some (Home counts)) replied saw = refl
 counts_not (Some (Told Here)) replied saw = refl
 counts_not (Some (Told Behind)) replied saw = cc
+counts_not (Some (Told Reserved)) replied saw = cc
 
 no_point : (mark : Mark) → points_by mark None ≡ []
 unfolding points_by

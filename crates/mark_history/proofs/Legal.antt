@@ -1,7 +1,6 @@
 -- The marks so far make a history that is legal for what the clients were told.
 use Rattle.std.proofs.Common.{◌≡◌, ℕ, ◌≤◌, ◌<◌, List, [], ◌++◌, length, true, false, sym, ◌∙◌, ap, arith, length-append}
 use Rattle.std.specs.Prelude.{AllPairs}
-use Rattle.std.proofs.Math.Logic.{⊎_elim}
 use Rattle.std.proofs.lemmas.Bool.Decides.{nat_tests}
 use Rattle.std.proofs.lemmas.List.{append-nil}
 use Rattle.imap_types.specs.declared.request.Answer.{Answer}
@@ -16,7 +15,7 @@ use Rattle.mark_history.specs.History.{points_of}
 use Rattle.mark_history.specs.Marked.{IsLegalTo}
 use Rattle.mark_history.proofs.Marks.{IsOf, Later, NoMore, Replied, all_points, answering_points, counts_of, losing_points, marks_follow, none_behind, pairs_of_points, told_talk}
 use Rattle.mark_history.proofs.Tally.{command_of, conn_of}
-use Rattle.mark_history.proofs.Told.{IsTold}
+use Rattle.mark_history.proofs.Told.{IsToldIn}
 
 -- what was replied is what was told and at most one more
 pub record IsToldSo (told said : List Answer) : Type 0 where
@@ -55,10 +54,6 @@ no_more : (told : ℕ → ℕ) (earlier later : Mark) (one other : Point) → No
 no_more told earlier later one other none is at loss same =
     none is.acting (is.if_lost loss) (conns_same told earlier later one other is at same)
 
-no_read : (told : ℕ → ℕ) (mark : Mark) (point : Point) → IsOf told mark point → reads point.what ≡ false
-unfolding reads
-no_read told mark point is = ⊎_elim (λ both. ap reads both.0) (λ lost. ap reads lost) is.either
-
 unanswered : (talk : Talk) (told : ℕ → List Answer) (mark : Mark) (point : Point) → IsOf (counts_of told) mark point → IsUnanswered (told_talk talk told) point
 unanswered talk told mark point is = λ loss. omega (
   arith,
@@ -68,16 +63,16 @@ unanswered talk told mark point is = λ loss. omega (
 )
 
 -- the commands of the marks were replied to, of which at most one that no client was told of
-replied_to : (setting : Setting) (now : ℕ) (marks : List Mark) (talk : Talk) (told : ℕ → List Answer) (course : Course)
-    → IsTold setting now marks talk told course → ((conn : ℕ) → IsToldSo (told conn) (talk.answers conn))
+replied_to : {may : Type 0} (setting : Setting) (now : ℕ) (marks : List Mark) (talk : Talk) (told : ℕ → List Answer) (course : Course)
+    → IsToldIn may setting now marks talk told course → ((conn : ℕ) → IsToldSo (told conn) (talk.answers conn))
     → Replied (counts_of told) (λ conn. length (talk.answers conn)) marks
 replied_to setting now marks talk told course is so = record {
   numbers = is.numbers;
   few = λ conn. omega (arith, ap length (so conn).parts, length-append (told conn) (so conn).rest, (so conn).few);
 }
 
-pub legal_marks : (setting : Setting) (now : ℕ) (marks : List Mark) (talk : Talk) (told : ℕ → List Answer) (course : Course)
-    → IsTold setting now marks talk told course → ((conn : ℕ) → IsToldSo (told conn) (talk.answers conn))
+pub legal_marks : {may : Type 0} (setting : Setting) (now : ℕ) (marks : List Mark) (talk : Talk) (told : ℕ → List Answer) (course : Course)
+    → IsToldIn may setting now marks talk told course → ((conn : ℕ) → IsToldSo (told conn) (talk.answers conn))
     → IsLegalTo setting (told_talk talk told) (points_of marks) course.store
 legal_marks setting now marks talk told course is so =
     let none : AllPairs (NoMore (counts_of told)) marks =
@@ -103,7 +98,7 @@ legal_marks setting now marks talk told course is so =
             (λ (m : Mark). command_of m ≤ length (talk.answers (conn_of m))) EndsAtLoss
             (λ earlier later one other behind bound its at. no_more (counts_of told) earlier later one other behind its at) marks is.fit none is.numbers;
         never_read = all_points (counts_of told) (λ (m : Mark). command_of m ≤ length (talk.answers (conn_of m)))
-            (λ (point : Point). reads point.what ≡ false) (λ mark point bound its. no_read (counts_of told) mark point its) marks is.fit is.numbers;
+            (λ (point : Point). reads point.what ≡ false) (λ mark point bound its. its.unread) marks is.fit is.numbers;
         in_order = pairs_of_points (counts_of told) Later (λ (m : Mark). command_of m ≤ length (talk.answers (conn_of m))) IsInCommandOrder
             (λ earlier later one other behind bound its at. in_order_by (counts_of told) earlier later one other behind its at) marks is.fit is.later
             is.numbers;

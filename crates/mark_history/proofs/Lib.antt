@@ -1,6 +1,8 @@
 pub mod Tally
 pub mod NextMarks
 pub mod EachPoint
+pub mod Deeds
+pub mod StepPoints
 pub mod Marks
 pub mod Told
 pub mod Legal
@@ -9,4 +11,8 @@ pub mod Without
 pub mod CarriesFrom
 pub mod ByLast
 pub mod TakenBack
+pub mod PutIn
+pub mod Refused
+pub mod RefusedByLast
 pub mod MarkLaw
+pub mod RefusalMarks

@@ -1,15 +1,17 @@
 -- Marks that are made so make a legal history.
-use Rattle.std.proofs.Common.{◌≡◌, ◌≢◌, ℕ, ◌+◌, Bool, true, false, cond, nat_eq, List, [], ◌∷◌, ◌++◌, length, if◌then◌else◌, Some, refl, sym, ◌∙◌, ap, subst, arith, length-append}
+use Rattle.std.proofs.Common.{◌≡◌, ◌≢◌, ◌≤◌, ℕ, ◌+◌, Bool, true, false, cond, nat_eq, List, [], ◌∷◌, ◌++◌, length, if◌then◌else◌, Some, refl, sym, ◌∙◌, ap, subst, arith, length-append}
 use Rattle.std.proofs.Math.Logic.{⊎_elim}
 use Rattle.std.proofs.lemmas.Bool.{cases_eq}
 use Rattle.std.proofs.lemmas.Bool.Decides.{nat_tests}
 use Rattle.link_msg.specs.declared.counts.Counts.{Counts}
 use Rattle.link_msg.specs.declared.counts.Counts.TheVariants.{IfAnswered}
-use Rattle.link_msg.specs.declared.how.How.TheVariants.{Here, Behind}
+use Rattle.link_msg.specs.declared.how.How.TheVariants.{Here, Behind, Reserved}
+use Rattle.imap_types.specs.declared.command.Command.{Command}
+use Rattle.imap_types.specs.declared.command.Tag.{Tag}
 use Rattle.imap_types.specs.declared.request.Answer.{Answer}
 use Rattle.imap_types.specs.declared.request.Request.{Request}
 use Rattle.mur_model.specs.declared.setting.Setting.{Setting}
-use Rattle.mur_model.specs.History.{numbered, with_session}
+use Rattle.mur_model.specs.History.{course_after, numbered, with_session}
 use Rattle.mur_model.proofs.HistoryGrows.{one_up_to}
 use Rattle.mur_model.proofs.Numbered.{with_item}
 use Rattle.mark_history.specs.declared.mark.Mark.{Mark}
@@ -17,14 +19,15 @@ use Rattle.mark_history.specs.declared.mark.MarkKind.{MarkKind}
 use Rattle.mark_history.specs.declared.mark.MarkKind.TheVariants.{Home, Told}
 use Rattle.mark_history.specs.FirstCourse.{first_course}
 use Rattle.mark_history.specs.History.{points_of}
-use Rattle.mark_history.specs.Marked.{AreMarked, CanAct, IsLegalTo, IsUnreplied, IsUntold, MakesLegalHistories, Tale, acting, done, first_tale, last_of, mark_now, open_ask, talk_told, taking_back, telling, with_list}
-use Rattle.mark_history.specs.Marked.AreMarked.{nothing, a_step, asks, sees, carries_out, tells, tells_at_once, takes_back}
+use Rattle.mark_history.specs.Marked.{AreMarked, CanAct, CanRefuse, IsLegalTo, IsUnreplied, IsUntold, MakesLegalHistories, Tale, acting, done, first_tale, last_of, mark_now, open_ask, refusal, refusing, talk_told, taking_back, telling, with_list}
+use Rattle.mark_history.specs.Marked.AreMarked.{nothing, a_step, asks, sees, carries_out, tells, tells_at_once, refuses, takes_back}
 use Rattle.mark_history.proofs.ByLast.{IsToldByLast, asked_by_last, later_by_last, push_by_last, seen_by_last, told_behind_by_last, points_by_last, tale_said}
 use Rattle.mark_history.proofs.CarriesFrom.{from_none, same_functions}
 use Rattle.mark_history.proofs.LeftOut.LeavesOut.{no_marks as none_left}
 use Rattle.mark_history.proofs.Legal.{IsToldSo, all_told, legal_marks}
 use Rattle.mark_history.proofs.Marks.Carries.{no_marks}
 use Rattle.mark_history.proofs.Tally.{acts, Fit}
+use Rattle.mark_history.proofs.RefusedByLast.{IsInOrder, order_later, order_none, order_push, refused_by_last}
 use Rattle.mark_history.proofs.TakenBack.{taken_back_by_last, list_at, list_elsewhere}
 use Rattle.mark_history.proofs.Told.{next_course, next_mark, still_told, tells_here}
 
@@ -151,6 +154,7 @@ first_by_last setting = record {
     serials = λ conn. refl;
     ahead = λ conn. omega arith;
     fit = fits_none;
+    refused = λ k d h. λ _. tt;
   };
   earlier = first_course.sessions;
   from = from_none first_course first_course.sessions;
@@ -191,32 +195,92 @@ taken_one tale conn so = λ c. ⊎_elim
 
 -- ---- whatever is made
 
+telling_more : (tale : Tale) (conn : ℕ) (answer : Answer) (other : ℕ) → length (tale.told other) ≤ length ((telling tale conn answer).told other)
+telling_more tale conn answer other = ⊎_elim
+    (λ (e : other ≡ conn). omega (
+      arith,
+      ap (λ c. length (tale.told c)) e,
+      ap (λ c. length (with_list tale.told conn (tale.told conn ++ answer ∷ []) c)) e,
+      ap length (list_at tale.told conn (tale.told conn ++ answer ∷ [])),
+      length-append (tale.told conn) (answer ∷ []),
+    ))
+    (λ (ne : other ≢ conn). omega (arith, ap length (list_elsewhere tale.told conn (tale.told conn ++ answer ∷ []) other ne)))
+    (cases_eq other conn)
+
+refusing_one : (tale : Tale) (conn : ℕ) (tag : Tag) (it : Command) (serial : ℕ) → HasOne tale → HasOne (refusing tale conn tag it serial)
+refusing_one tale conn tag it serial so = λ c. ⊎_elim
+    (λ (e : c ≡ conn). one_more (tale.told c) _ (refusal tale conn tag it).answer
+    (ap (with_list tale.talk.answers conn (tale.told conn ++ (refusal tale conn tag it).answer ∷ [])) e
+    ∙ list_at tale.talk.answers conn (tale.told conn ++ (refusal tale conn tag it).answer ∷ [])
+    ∙ ap (λ x. tale.told x ++ (refusal tale conn tag it).answer ∷ []) (sym e)))
+    (λ (ne : c ≢ conn). subst (λ l. IsToldSo (tale.told c) l) (sym (list_elsewhere tale.talk.answers conn _ c ne)) (so c))
+    (cases_eq c conn)
+
+abbrev refused_so : Tale → (ℕ → List Answer) → (ℕ → List ℕ) → (ℕ → List Answer) → ℕ → Tag → Command → Tale
+refused_so tale answers serials told conn tag it = record {
+  talk = record { requests = tale.talk.requests; answers = answers; serials = serials };
+  told = told;
+  course = course_after tale.course conn (refusal tale conn tag it);
+  before = with_session tale.before conn (tale.course.sessions conn);
+}
+
+-- the open command is refused
+refuses_by_last : (setting : Setting) (now : ℕ) (marks : List Mark) (tale : Tale) (conn : ℕ) (tag : Tag) (it : Command) (serial : ℕ)
+    → CanRefuse setting marks tale conn tag it → IsInOrder now marks tale.told → IsToldByLast setting now marks tale
+    → IsToldByLast setting now (marks ++ mark_now now tale conn (Told Reserved) ∷ [])
+    (telling (refusing tale conn tag it serial) conn (refusal tale conn tag it).answer)
+refuses_by_last setting now marks tale conn tag it serial can order is =
+    let answer : Answer = (refusal tale conn tag it).answer in
+    let those : List Mark = marks ++ mark_now now tale conn (Told Reserved) ∷ [] in
+    let own : List Answer = tale.told conn ++ answer ∷ [] in
+    subst (λ t. IsToldByLast setting now those (refused_so tale (with_list tale.talk.answers conn own)
+    (with_list tale.talk.serials conn (tale.talk.serials conn ++ serial ∷ [])) t conn tag it))
+    (more_listed tale.told (tale.told conn) conn answer refl)
+    (subst (λ s. IsToldByLast setting now those
+    (refused_so tale (with_list tale.talk.answers conn own) s (with_item tale.told conn answer) conn tag it))
+    (more_listed tale.talk.serials (tale.talk.serials conn) conn serial refl)
+    (subst (λ a. IsToldByLast setting now those
+    (refused_so tale a (with_item tale.talk.serials conn serial) (with_item tale.told conn answer) conn tag it))
+    (more_listed tale.talk.answers (tale.told conn) conn answer can.unreplied)
+    (refused_by_last setting now marks tale conn tag it serial can order is)))
+
 record Holds (setting : Setting) (now : ℕ) (marks : List Mark) (tale : Tale) : Type 0 where
   so : HasOne tale
   law : IsToldByLast setting now marks tale
+  order : IsInOrder now marks tale.told
 
 holds : (setting : Setting) (now : ℕ) (marks : List Mark) (tale : Tale) → AreMarked setting now marks tale → Holds setting now marks tale
-holds setting now marks tale nothing = record { so = λ conn. all_told [] [] refl; law = first_by_last setting }
+holds setting now marks tale nothing = record { so = λ conn. all_told [] [] refl; law = first_by_last setting; order = order_none }
 holds setting now marks tale (a_step earlier later those its le made) =
-    let before = holds setting earlier those its made in record { so = before.so; law = later_by_last setting earlier later those its le before.law }
+    let before = holds setting earlier those its made in record {
+      so = before.so;
+      law = later_by_last setting earlier later those its le before.law;
+      order = order_later earlier later those its.told le before.order;
+    }
 holds setting now marks tale (asks at those its requests more made) =
-    let before = holds setting at those its made in record { so = before.so; law = asked_by_last setting at those its requests more before.law }
+    let before = holds setting at those its made in record { so = before.so; law = asked_by_last setting at those its requests more before.law; order = before.order }
 holds setting now marks tale (sees at those its conn unreplied made) =
     let before = holds setting at those its made in
     record {
       so = before.so;
       law = as_open (λ m. IsToldByLast setting at (those ++ m ∷ []) its) at its conn (Home IfAnswered) unreplied
           (seen_by_last setting at those its conn before.law);
+      order = order_push at those its conn (Home IfAnswered) its.told (λ c. omega arith) before.order;
     }
 holds setting now marks tale (carries_out at those its conn counts request serial can unless made) =
     let before = holds setting at those its made in
     record {
       so = acting_one setting its conn request serial before.so;
       law = acts_by_last setting at those its conn counts request serial can unless before.law;
+      order = order_push at those its conn (Home counts) its.told (λ c. omega arith) before.order;
     }
 holds setting now marks tale (tells at those its conn answer untold made) =
     let before = holds setting at those its made in
-    record { so = telling_one its conn answer untold before.so; law = tells_by_last setting at those its conn answer untold before.law }
+    record {
+      so = telling_one its conn answer untold before.so;
+      law = tells_by_last setting at those its conn answer untold before.law;
+      order = order_push at those its conn (Told Behind) _ (telling_more its conn answer) before.order;
+    }
 holds setting now marks tale (tells_at_once at those its conn request serial can made) =
     let before = holds setting at those its made in
     let answer : Answer = (done setting its conn request serial).answer in
@@ -224,10 +288,24 @@ holds setting now marks tale (tells_at_once at those its conn request serial can
       so = telling_one (acting setting its conn request serial) conn answer (list_at its.talk.answers conn (its.told conn ++ answer ∷ []))
           (acting_one setting its conn request serial before.so);
       law = at_once_by_last setting at those its conn request serial can before.law;
+      order = order_push at those its conn (Told Here) _ (telling_more its conn answer) before.order;
+    }
+holds setting now marks tale (refuses at those its conn tag it serial can made) =
+    let before = holds setting at those its made in
+    let answer : Answer = (refusal its conn tag it).answer in
+    record {
+      so = telling_one (refusing its conn tag it serial) conn answer (list_at its.talk.answers conn (its.told conn ++ answer ∷ []))
+          (refusing_one its conn tag it serial before.so);
+      law = refuses_by_last setting at those its conn tag it serial can before.order before.law;
+      order = order_push at those its conn (Told Reserved) _ (telling_more its conn answer) before.order;
     }
 holds setting now marks tale (takes_back at those its conn answer untold last made) =
     let before = holds setting at those its made in
-    record { so = taken_one its conn before.so; law = taken_back_by_last setting at those its conn answer untold last before.law }
+    record {
+      so = taken_one its conn before.so;
+      law = taken_back_by_last setting at those its conn answer untold last before.law;
+      order = before.order;
+    }
 
 pub legal_by_last : (setting : Setting) (now : ℕ) (marks : List Mark) (tale : Tale) → IsToldByLast setting now marks tale
     → ((conn : ℕ) → IsToldSo (tale.told conn) (tale.talk.answers conn)) → IsLegalTo setting (talk_told tale) (points_of marks) tale.course.store

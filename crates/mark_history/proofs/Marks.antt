@@ -1,6 +1,6 @@
 -- The marks of a run carry out their requests one after another, and what history they make.
 use Rattle.std.proofs.Common.{◌≡◌, ◌≢◌, ℕ, zero, suc, ◌+◌, ◌≤◌, ◌<◌, ◌&&◌, Bool, true, false, cond, nat_eq, nat_le, List, [], ◌∷◌, ◌++◌, length}
-use Rattle.std.proofs.Common.{get_or, if◌then◌else◌, Option, Some, inl, inr, ◌⊎◌, refl, sym, ◌∙◌, ap, subst, arith}
+use Rattle.std.proofs.Common.{get_or, if◌then◌else◌, Option, Some, ◌⊎◌, refl, sym, ◌∙◌, ap, subst, arith}
 use Rattle.std.specs.Prelude.{All, AllPairs, count_by, slice_get}
 use Rattle.std.proofs.Math.Logic.{⊎_elim}
 use Rattle.std.proofs.lemmas.Bool.{cases_eq}
@@ -9,71 +9,76 @@ use Rattle.std.proofs.lemmas.List.Elements.{All-push, All-cons, All-nil}
 use Rattle.std.proofs.lemmas.List.Kept.{AllPairs-cons}
 use Rattle.std.proofs.lemmas.List.Sums.{sum_by-append}
 use Rattle.link_msg.specs.declared.counts.Counts.TheVariants.{Always, IfAnswered}
+use Rattle.link_msg.specs.declared.how.How.TheVariants.{Reserved}
 use Rattle.mur_base.specs.declared.point.Point.{Point}
-use Rattle.mur_base.specs.declared.point.What.TheVariants.{Reply as replied, Lost as lost}
+use Rattle.mur_base.specs.declared.point.What.TheVariants.{Reply as replied, Lost as lost, Reserved as reserved}
+use Rattle.imap_types.specs.declared.command.Command.{Command}
+use Rattle.imap_types.specs.declared.command.Tag.{Tag}
+use Rattle.imap_types.specs.declared.reply.NoText.TheVariants.{BeingMoved}
 use Rattle.imap_types.specs.declared.request.Answer.{Answer}
 use Rattle.imap_types.specs.declared.request.Request.{Request}
 use Rattle.mur_model.specs.declared.session.Sess.{Sess}
 use Rattle.mur_model.specs.declared.setting.Setting.{Setting}
 use Rattle.mur_model.specs.declared.store.Store.{Store}
-use Rattle.mur_model.specs.Answer.{Answered, answer_of, MayTake}
-use Rattle.mur_model.specs.History.{Course, Talk, TalkGoesOn, Takes, numbered, with_session, carried_out, course_after, Follows, answers_its_command, loses, is_about}
-use Rattle.mur_model.specs.History.Follows.{no_points, a_reply, a_loss}
-use Rattle.mur_model.proofs.HistoryGrows.{one_up_to, takes_on, numbered_on}
+use Rattle.mur_model.specs.Answer.{Answered}
+use Rattle.mur_model.specs.History.{Course, Talk, TalkGoesOn, IsRefused, Takes, numbered, with_session, carried_out, course_after, refused_out, Follows, answers_its_command, loses, reads, is_about}
+use Rattle.mur_model.specs.History.Follows.{no_points}
+use Rattle.mur_model.proofs.HistoryGrows.{one_up_to}
 use Rattle.mark_history.specs.declared.mark.Mark.{Mark}
 use Rattle.mark_history.specs.declared.mark.MarkKind.{MarkKind}
-use Rattle.mark_history.specs.declared.mark.MarkKind.TheVariants.{Home}
+use Rattle.mark_history.specs.declared.mark.MarkKind.TheVariants.{Home, Told}
 use Rattle.mark_history.specs.History.{is_of, next_of, counts_as, point_as, points_by, points_of}
+use Rattle.mark_history.proofs.Deeds.{IsDeed, IsStep, same_step, step_as, step_on}
+use Rattle.mark_history.proofs.Deeds.IsDeed.{carries_it_out, is_refused}
+use Rattle.mark_history.proofs.StepPoints.{loss_point, refusal_point, reply_point}
 use Rattle.mark_history.proofs.EachPoint.{beyond, count_cons, within}
-use Rattle.mark_history.proofs.Tally.{acts, conn_of, command_of, Fit, Verdict, verdict, none_next, of_both}
-use Rattle.mark_history.proofs.Tally.Verdict.{replies, is_lost, is_open, tells}
+use Rattle.mark_history.proofs.Tally.{acts, conn_of, command_of, Fit, IsUnrefusedBy, Verdict, acting_unrefused, none_next, of_both, still_unrefused, tells_refusal, verdict}
+use Rattle.mark_history.proofs.Tally.Verdict.{replies, refuses, is_lost, is_open, tells}
 
--- each mark of a step that acts carries out its request, whose answer is this step's; one that counts only for an answered command
--- leaves the store as it was. A mark behind a home's answer carries out nothing.
+-- each mark of a step that acts carries out its request, or is refused behind it, and its answer is this step's; one that counts only for an answered
+-- command leaves the store as it was. A mark behind a home's answer carries out nothing.
 pub data Carries (setting : Setting) (talk : Talk) : Course → List Mark → Course → Type 0 where
   no_marks : (course : Course) → Carries setting talk course [] course
-  a_mark : (course last : Course) (mark : Mark) (request : Request) (serial : ℕ) (marks : List Mark) → acts mark.kind ≡ true
-      → Takes setting talk course (conn_of mark) (command_of mark) request serial
-      → numbered (talk.answers (conn_of mark)) (command_of mark) ≡ Some (carried_out setting course (conn_of mark) request serial).answer
-      → (mark.kind ≡ Home IfAnswered → (carried_out setting course (conn_of mark) request serial).store ≡ course.store)
-      → Carries setting talk (course_after course (conn_of mark) (carried_out setting course (conn_of mark) request serial)) marks last
-      → Carries setting talk course (mark ∷ marks) last
+  a_mark : (course last : Course) (mark : Mark) (done : Answered) (marks : List Mark)
+      → IsStep setting talk course mark (tells_refusal (next_of mark.ask marks)) done
+      → Carries setting talk (course_after course (conn_of mark) done) marks last → Carries setting talk course (mark ∷ marks) last
   a_telling : (course last : Course) (mark : Mark) (marks : List Mark) → acts mark.kind ≡ false → Carries setting talk course marks last
       → Carries setting talk course (mark ∷ marks) last
 
 pub carries_on : (setting : Setting) (talk longer : Talk) → TalkGoesOn talk longer → (first last : Course) (marks : List Mark)
     → Carries setting talk first marks last → Carries setting longer first marks last
 carries_on setting talk longer on first last marks (no_marks course) = no_marks course
-carries_on setting talk longer on first last marks (a_mark course end mark request serial rest acting takes answer unless later) =
-    a_mark course end mark request serial rest acting (takes_on setting talk longer on course (conn_of mark) (command_of mark) request serial takes)
-    (numbered_on talk.answers longer.answers on.answers (conn_of mark) (command_of mark)
-    (carried_out setting course (conn_of mark) request serial).answer answer)
-    unless (carries_on setting talk longer on _ end rest later)
+carries_on setting talk longer on first last marks (a_mark course end mark done rest step later) =
+    a_mark course end mark done rest (step_on setting talk longer on course mark _ done step) (carries_on setting talk longer on _ end rest later)
 carries_on setting talk longer on first last marks (a_telling course end mark rest telling later) =
     a_telling course end mark rest telling (carries_on setting talk longer on course end rest later)
 
-pub carries_push : (setting : Setting) (talk : Talk) (first last : Course) (marks : List Mark) (mark : Mark) (request : Request) (serial : ℕ)
-    → Carries setting talk first marks last → acts mark.kind ≡ true → Takes setting talk last (conn_of mark) (command_of mark) request serial
-    → numbered (talk.answers (conn_of mark)) (command_of mark) ≡ Some (carried_out setting last (conn_of mark) request serial).answer
-    → (mark.kind ≡ Home IfAnswered → (carried_out setting last (conn_of mark) request serial).store ≡ last.store)
-    → Carries setting talk first (marks ++ mark ∷ []) (course_after last (conn_of mark) (carried_out setting last (conn_of mark) request serial))
-carries_push setting talk first last marks mark request serial (no_marks course) acting takes answer unless =
-    a_mark course _ mark request serial [] acting takes answer unless (no_marks _)
-carries_push setting talk first last marks mark request serial (a_mark course end m r s rest its_acting its_takes its_answer its_unless later) acting takes
-    answer unless =
-    a_mark course _ m r s _ its_acting its_takes its_answer its_unless
-    (carries_push setting talk _ end rest mark request serial later acting takes answer unless)
-carries_push setting talk first last marks mark request serial (a_telling course end m rest telling later) acting takes answer unless =
-    a_telling course _ m _ telling (carries_push setting talk course end rest mark request serial later acting takes answer unless)
+-- what a step did stays so when a mark is put behind
+pub step_before : (setting : Setting) (talk : Talk) (course : Course) (mark more : Mark) (marks : List Mark) (done : Answered) → IsUnrefusedBy more mark
+    → IsStep setting talk course mark (tells_refusal (next_of mark.ask marks)) done
+    → IsStep setting talk course mark (tells_refusal (next_of mark.ask (marks ++ more ∷ []))) done
+step_before setting talk course mark more marks done plain step = step_as setting talk course mark _ _ done (still_unrefused mark more marks plain) step
+
+pub carries_push : (setting : Setting) (talk : Talk) (first last : Course) (marks : List Mark) (mark : Mark) (done : Answered)
+    → Carries setting talk first marks last → IsStep setting talk last mark false done
+    → Carries setting talk first (marks ++ mark ∷ []) (course_after last (conn_of mark) done)
+unfolding next_of tells_refusal
+carries_push setting talk first last marks mark done (no_marks course) step = a_mark course _ mark done [] step (no_marks _)
+carries_push setting talk first last marks mark done (a_mark course end m its rest own later) step =
+    a_mark course _ m its _ (step_before setting talk course m mark rest its (λ same. acting_unrefused mark.kind step.acting) own)
+    (carries_push setting talk _ end rest mark done later step)
+carries_push setting talk first last marks mark done (a_telling course end m rest telling later) step =
+    a_telling course _ m _ telling (carries_push setting talk course end rest mark done later step)
 
 -- a client is told behind a home's answer
 pub carries_telling : (setting : Setting) (talk : Talk) (first last : Course) (marks : List Mark) (mark : Mark) → acts mark.kind ≡ false
-    → Carries setting talk first marks last → Carries setting talk first (marks ++ mark ∷ []) last
-carries_telling setting talk first last marks mark telling (no_marks course) = a_telling course course mark [] telling (no_marks course)
-carries_telling setting talk first last marks mark telling (a_mark course end m r s rest acting takes answer unless later) =
-    a_mark course end m r s _ acting takes answer unless (carries_telling setting talk _ end rest mark telling later)
-carries_telling setting talk first last marks mark telling (a_telling course end m rest its_telling later) =
-    a_telling course end m _ its_telling (carries_telling setting talk course end rest mark telling later)
+    → tells_refusal (Some mark.kind) ≡ false → Carries setting talk first marks last → Carries setting talk first (marks ++ mark ∷ []) last
+carries_telling setting talk first last marks mark telling plain (no_marks course) = a_telling course course mark [] telling (no_marks course)
+carries_telling setting talk first last marks mark telling plain (a_mark course end m its rest own later) =
+    a_mark course end m its _ (step_before setting talk course m mark rest its (λ same. plain) own)
+    (carries_telling setting talk _ end rest mark telling plain later)
+carries_telling setting talk first last marks mark telling plain (a_telling course end m rest its_telling later) =
+    a_telling course end m _ its_telling (carries_telling setting talk course end rest mark telling plain later)
 
 get_front : {T : Type 0} (items more : List T) (k : ℕ) (item : T) → k < length items → slice_get (items ++ more) k ≡ Some item → slice_get items k ≡ Some item
 get_front [] more k item h e = absurd (omega arith)
@@ -104,14 +109,19 @@ pub record IsOf (told : ℕ → ℕ) (mark : Mark) (point : Point) : Type 0 wher
   pub same_ask : point.ask ≡ mark.ask
   pub acting : acts mark.kind ≡ true
   pub if_lost : loses point.what ≡ true → told (conn_of mark) < command_of mark
-  pub either : (point.what ≡ replied) × (command_of mark ≤ told (conn_of mark)) ⊎ (point.what ≡ lost)
+  pub unread : reads point.what ≡ false
 
 its_reply : (told : ℕ → ℕ) (mark : Mark) → acts mark.kind ≡ true → command_of mark ≤ told (conn_of mark) → IsOf told mark (point_as mark replied)
-unfolding loses
-its_reply told mark acting low = record { same_step = refl; same_ask = refl; acting = acting; if_lost = λ k. cc; either = inl (refl, low) }
+unfolding loses reads
+its_reply told mark acting low = record { same_step = refl; same_ask = refl; acting = acting; if_lost = λ k. cc; unread = refl }
+
+its_refusal : (told : ℕ → ℕ) (mark : Mark) → acts mark.kind ≡ true → IsOf told mark (point_as mark reserved)
+unfolding loses reads
+its_refusal told mark acting = record { same_step = refl; same_ask = refl; acting = acting; if_lost = λ k. cc; unread = refl }
 
 its_loss : (told : ℕ → ℕ) (mark : Mark) → acts mark.kind ≡ true → told (conn_of mark) < command_of mark → IsOf told mark (point_as mark lost)
-its_loss told mark acting high = record { same_step = refl; same_ask = refl; acting = acting; if_lost = λ k. high; either = inr refl }
+unfolding reads
+its_loss told mark acting high = record { same_step = refl; same_ask = refl; acting = acting; if_lost = λ k. high; unread = refl }
 
 acting_always : (mark : Mark) → mark.kind ≡ Home Always → acts mark.kind ≡ true
 unfolding acts
@@ -125,7 +135,9 @@ all_by : (told : ℕ → ℕ) (mark : Mark) (P : Point → Type 0) (points : Lis
     → (b : Bool) → nat_le (command_of mark) (told (conn_of mark)) ≡ b → (next : Option MarkKind) → Verdict b mark.kind next
     → All P (points_by mark (counts_as mark.kind next) ++ points)
 unfolding points_by
-all_by told mark P points of rest b h next (replies t acting is) = subst (λ w. All P (points_by mark w ++ points)) (sym is)
+all_by told mark P points of rest b h next (refuses t kind after is) = subst (λ w. All P (points_by mark w ++ points)) (sym is)
+    (All-cons P _ points (of _ (its_refusal told mark (acting_if mark kind))) rest)
+all_by told mark P points of rest b h next (replies t acting plain is) = subst (λ w. All P (points_by mark w ++ points)) (sym is)
     (All-cons P _ points (of _ (its_reply told mark acting (within told mark b h t))) rest)
 all_by told mark P points of rest b h next (is_lost t always none is) = subst (λ w. All P (points_by mark w ++ points)) (sym is)
     (All-cons P _ points (of _ (its_loss told mark (acting_always mark always) (beyond told mark b h t))) rest)
@@ -153,7 +165,9 @@ pairs_by : (told : ℕ → ℕ) (mark : Mark) (R : Point → Point → Type 0) (
     → (b : Bool) → nat_le (command_of mark) (told (conn_of mark)) ≡ b → (next : Option MarkKind) → Verdict b mark.kind next
     → AllPairs R (points_by mark (counts_as mark.kind next) ++ points)
 unfolding points_by
-pairs_by told mark R points of rest b h next (replies t acting is) = subst (λ w. AllPairs R (points_by mark w ++ points)) (sym is)
+pairs_by told mark R points of rest b h next (refuses t kind after is) = subst (λ w. AllPairs R (points_by mark w ++ points)) (sym is)
+    (AllPairs-cons R _ points (of _ (its_refusal told mark (acting_if mark kind))) rest)
+pairs_by told mark R points of rest b h next (replies t acting plain is) = subst (λ w. AllPairs R (points_by mark w ++ points)) (sym is)
     (AllPairs-cons R _ points (of _ (its_reply told mark acting (within told mark b h t))) rest)
 pairs_by told mark R points of rest b h next (is_lost t always none is) = subst (λ w. AllPairs R (points_by mark w ++ points)) (sym is)
     (AllPairs-cons R _ points (of _ (its_loss told mark (acting_always mark always) (beyond told mark b h t))) rest)
@@ -193,7 +207,9 @@ none_of_it told said mark later few behind low other high = λ e.
 none_behind_by : (told said : ℕ → ℕ) (mark : Mark) (marks : List Mark) → ((conn : ℕ) → said conn ≤ told conn + 1) → All (Later mark) marks
     → All (λ (m : Mark). command_of m ≤ said (conn_of m)) marks → (b : Bool) → nat_le (command_of mark) (told (conn_of mark)) ≡ b
     → (next : Option MarkKind) → next_of mark.ask marks ≡ next → Verdict b mark.kind next → All (NoMore told mark) marks
-none_behind_by told said mark marks few later numbers b h next is (replies t acting counted) =
+none_behind_by told said mark marks few later numbers b h next is (replies t acting plain counted) =
+    λ k d at. λ a high. absurd (omega (arith, high, within told mark b h t))
+none_behind_by told said mark marks few later numbers b h next is (refuses t kind after counted) =
     λ k d at. λ a high. absurd (omega (arith, high, within told mark b h t))
 none_behind_by told said mark marks few later numbers b h next is (is_lost t always none counted) =
     λ k d at. λ a high. none_of_it told said mark (get_or marks k d) few (later k d at) (numbers k d at) (none_next mark.ask marks (is ∙ none) k d at) high
@@ -219,21 +235,6 @@ pub record FollowsTo (setting : Setting) (talk : Talk) (first : Course) (points 
   pub same_store : end.store ≡ store
   pub follows : Follows setting talk first points end
 
-pub same_carried : (setting : Setting) (course other : Course) (conn : ℕ) (request : Request) (serial : ℕ) → other.store ≡ course.store
-    → other.sessions conn ≡ course.sessions conn → carried_out setting other conn request serial ≡ carried_out setting course conn request serial
-same_carried setting course other conn request serial store session =
-    ap (λ s. answer_of setting s (other.sessions conn) request serial) store
-    ∙ ap (λ s. answer_of setting course.store s request serial) session
-
-pub same_takes : (setting : Setting) (talk : Talk) (course other : Course) (conn number : ℕ) (request : Request) (serial : ℕ) → other.store ≡ course.store
-    → other.sessions conn ≡ course.sessions conn → Takes setting talk course conn number request serial → Takes setting talk other conn number request serial
-same_takes setting talk course other conn number request serial store session takes = record {
-  asked = takes.asked;
-  given = takes.given;
-  free = subst (λ s. MayTake setting s (other.sessions conn) request serial) (sym store)
-      (subst (λ s. MayTake setting course.store s request serial) (sym session) takes.free);
-}
-
 pub same_with : (one two : ℕ → Sess) (conn : ℕ) (a b : Sess) (other : ℕ) → a ≡ b → one other ≡ two other
     → with_session one conn a other ≡ with_session two conn b other
 unfolding with_session
@@ -245,12 +246,12 @@ pub with_session_elsewhere : (sessions : ℕ → Sess) (conn : ℕ) (session : S
 unfolding with_session
 with_session_elsewhere sessions conn session other ne = let apart : nat_eq other conn ≡ false = grind (arith, nat_tests) in rw apart refl
 
--- both carried out the same request
-agree_on : (course other : Course) (conn : ℕ) (one two : Answered) (marks : List Mark) → one ≡ two
-    → All (λ (m : Mark). other.sessions (conn_of m) ≡ course.sessions (conn_of m)) marks → Agrees marks (course_after course conn two) (course_after other conn one)
-agree_on course other conn one two marks e all = record {
-  store = ap (λ (a : Answered). a.store) e;
-  sessions = λ k d h. same_with other.sessions course.sessions conn one.session two.session _ (ap (λ (a : Answered). a.session) e) (all k d h);
+-- in both the same was done
+agree_on : (course other : Course) (conn : ℕ) (done : Answered) (marks : List Mark)
+    → All (λ (m : Mark). other.sessions (conn_of m) ≡ course.sessions (conn_of m)) marks → Agrees marks (course_after course conn done) (course_after other conn done)
+agree_on course other conn done marks all = record {
+  store = refl;
+  sessions = λ k d h. same_with other.sessions course.sessions conn done.session done.session _ refl (all k d h);
 }
 
 -- one carried out a request that left the store as it was, of a connection that is in no later mark
@@ -269,57 +270,96 @@ IsFollowed setting talk marks course store = (other : Course) → Agrees marks c
 abbrev pub counts_of : (ℕ → List Answer) → ℕ → ℕ
 counts_of told conn = length (told conn)
 
+-- by what the mark counts as
+answered_point : (setting : Setting) (talk : Talk) (told : ℕ → List Answer) (course last : Course) (mark : Mark) (done : Answered) (points : List Point)
+    (next : Option MarkKind) → IsDeed setting talk course mark (tells_refusal next) done → (mark.kind ≡ Home IfAnswered → tells_refusal next ≡ false)
+    → numbered (told (conn_of mark)) (command_of mark) ≡ Some done.answer
+    → Follows setting (told_talk talk told) (course_after course (conn_of mark) done) points last
+    → Follows setting (told_talk talk told) course (point_as mark replied ∷ points) last
+answered_point setting talk told course last mark done points next (carries_it_out request serial unrefused takes is) plain answer later =
+    reply_point setting (told_talk talk told) course last mark request serial done points
+    (told_takes setting talk told course (conn_of mark) (command_of mark) request serial takes) is answer later
+answered_point setting talk told course last mark done points next (is_refused tag it refusing kind may is) plain answer later =
+    (let both : true ≡ false = sym refusing ∙ plain kind in cc)
+
+lost_point : (setting : Setting) (talk : Talk) (told : ℕ → List Answer) (course last : Course) (mark : Mark) (done : Answered) (points : List Point)
+    (refused : Bool) → IsDeed setting talk course mark refused done → mark.kind ≡ Home Always
+    → Follows setting (told_talk talk told) (course_after course (conn_of mark) done) points last
+    → Follows setting (told_talk talk told) course (point_as mark lost ∷ points) last
+lost_point setting talk told course last mark done points refused (carries_it_out request serial unrefused takes is) always later =
+    loss_point setting (told_talk talk told) course last mark request serial done points
+    (told_takes setting talk told course (conn_of mark) (command_of mark) request serial takes) is later
+lost_point setting talk told course last mark done points refused (is_refused tag it refusing kind may is) always later =
+    (let both : Home Always ≡ Home IfAnswered = sym always ∙ kind in cc)
+
+pub refuses_next : (next : Option MarkKind) → next ≡ Some (Told Reserved) → tells_refusal next ≡ true
+unfolding tells_refusal
+refuses_next next after = ap tells_refusal after
+
+refused_point : (setting : Setting) (talk : Talk) (told : ℕ → List Answer) (course last : Course) (mark : Mark) (done : Answered) (points : List Point)
+    (next : Option MarkKind) → IsDeed setting talk course mark (tells_refusal next) done → next ≡ Some (Told Reserved)
+    → numbered (told (conn_of mark)) (command_of mark) ≡ Some done.answer
+    → Follows setting (told_talk talk told) (course_after course (conn_of mark) done) points last
+    → Follows setting (told_talk talk told) course (point_as mark reserved ∷ points) last
+refused_point setting talk told course last mark done points next (carries_it_out request serial unrefused takes is) after answer later =
+    (let both : false ≡ true = sym unrefused ∙ refuses_next next after in cc)
+refused_point setting talk told course last mark done points next (is_refused tag it refusing kind may is) after answer later =
+    refusal_point setting (told_talk talk told) course last mark tag it done points
+    (record { asked = may.asked; needs = may.needs; cause = may.cause }) is answer later
+
 -- the history that the marks make is followed by the store, of which the clients were told the answers that they were given
 follows_by : (setting : Setting) (talk : Talk) (told : ℕ → List Answer) → IsTold_of talk told
-    → (course other : Course) (store : Store) (mark : Mark) (request : Request) (serial : ℕ) (marks : List Mark) → acts mark.kind ≡ true
-    → Takes setting talk course (conn_of mark) (command_of mark) request serial
-    → numbered (talk.answers (conn_of mark)) (command_of mark) ≡ Some (carried_out setting course (conn_of mark) request serial).answer
-    → (mark.kind ≡ Home IfAnswered → (carried_out setting course (conn_of mark) request serial).store ≡ course.store)
+    → (course other : Course) (store : Store) (mark : Mark) (done : Answered) (marks : List Mark) (next : Option MarkKind)
+    → IsStep setting talk course mark (tells_refusal next) done
     → Agrees (mark ∷ marks) course other → All (NoMore (counts_of told) mark) marks
-    → IsFollowed setting (told_talk talk told) marks (course_after course (conn_of mark) (carried_out setting course (conn_of mark) request serial)) store
-    → (b : Bool) → nat_le (command_of mark) (length (told (conn_of mark))) ≡ b → (next : Option MarkKind) → Verdict b mark.kind next
+    → IsFollowed setting (told_talk talk told) marks (course_after course (conn_of mark) done) store
+    → (b : Bool) → nat_le (command_of mark) (length (told (conn_of mark))) ≡ b → Verdict b mark.kind next
     → FollowsTo setting (told_talk talk told) other (points_by mark (counts_as mark.kind next) ++ points_of marks) store
 unfolding points_by
-follows_by setting talk told of course other store mark request serial marks acting takes answer unless agrees no_more later b h next (replies t a is) =
-    let in_told : command_of mark ≤ length (told (conn_of mark)) = within (counts_of told) mark b h t in
-    let session = head_marks (λ (m : Mark). other.sessions (conn_of m) ≡ course.sessions (conn_of m)) mark marks agrees.sessions in
-    let both = same_carried setting course other (conn_of mark) request serial agrees.store session in
-    let rest = later (course_after other (conn_of mark) (carried_out setting other (conn_of mark) request serial))
-    (agree_on course other (conn_of mark) _ _ marks both
-    (tail_marks (λ (m : Mark). other.sessions (conn_of m) ≡ course.sessions (conn_of m)) mark marks agrees.sessions)) in
-    subst (λ w. FollowsTo setting (told_talk talk told) other (points_by mark w ++ points_of marks) store) (sym is)
-    (record {
-      end = rest.end;
-      same_store = rest.same_store;
-      follows = a_reply other rest.end mark.step (conn_of mark) (command_of mark) request serial (points_of marks)
-          (told_takes setting talk told other (conn_of mark) (command_of mark) request serial
-          (same_takes setting talk course other (conn_of mark) (command_of mark) request serial agrees.store session takes))
-          (numbered_front (told (conn_of mark)) (of.rest (conn_of mark)) (command_of mark) _ in_told
-          (ap (λ l. numbered l (command_of mark)) (sym (of.parts (conn_of mark))) ∙ answer ∙ ap (λ (a : Answered). Some a.answer) (sym both))) rest.follows;
-    })
-follows_by setting talk told of course other store mark request serial marks acting takes answer unless agrees no_more later b h next
-    (is_lost t always none is) =
-    let session = head_marks (λ (m : Mark). other.sessions (conn_of m) ≡ course.sessions (conn_of m)) mark marks agrees.sessions in
-    let rest = later (course_after other (conn_of mark) (carried_out setting other (conn_of mark) request serial))
-    (agree_on course other (conn_of mark) _ _ marks (same_carried setting course other (conn_of mark) request serial agrees.store session)
-    (tail_marks (λ (m : Mark). other.sessions (conn_of m) ≡ course.sessions (conn_of m)) mark marks agrees.sessions)) in
-    subst (λ w. FollowsTo setting (told_talk talk told) other (points_by mark w ++ points_of marks) store) (sym is)
-    (record {
-      end = rest.end;
-      same_store = rest.same_store;
-      follows = a_loss other rest.end mark.step (conn_of mark) (command_of mark) request serial (points_of marks)
-          (told_takes setting talk told other (conn_of mark) (command_of mark) request serial
-          (same_takes setting talk course other (conn_of mark) (command_of mark) request serial agrees.store session takes)) rest.follows;
-    })
-follows_by setting talk told of course other store mark request serial marks acting takes answer unless agrees no_more later b h next
-    (is_open t only none is) =
-    let behind : length (told (conn_of mark)) < command_of mark = beyond (counts_of told) mark b h t in
-    subst (λ w. FollowsTo setting (told_talk talk told) other (points_by mark w ++ points_of marks) store) (sym is)
-    (later other (agree_still course other (conn_of mark) (carried_out setting course (conn_of mark) request serial) marks (unless only) agrees.store
-    (tail_marks (λ (m : Mark). other.sessions (conn_of m) ≡ course.sessions (conn_of m)) mark marks agrees.sessions)
-    (λ k d at. no_more k d at acting behind)))
-follows_by setting talk told of course other store mark request serial marks acting takes answer unless agrees no_more later b h next (tells telling is) =
-    (let both : false ≡ true = sym telling ∙ acting in cc)
+follows_by setting talk told of course other store mark done marks next step agrees no_more later b h verdict_is = by verdict_is
+  where
+    session : other.sessions (conn_of mark) ≡ course.sessions (conn_of mark)
+    session = head_marks (λ (m : Mark). other.sessions (conn_of m) ≡ course.sessions (conn_of m)) mark marks agrees.sessions
+
+    its : IsStep setting talk other mark (tells_refusal next) done
+    its = same_step setting talk course other mark (tells_refusal next) done agrees.store session step
+
+    rest : FollowsTo setting (told_talk talk told) (course_after other (conn_of mark) done) (points_of marks) store
+    rest = later (course_after other (conn_of mark) done) (agree_on course other (conn_of mark) done marks
+        (tail_marks (λ (m : Mark). other.sessions (conn_of m) ≡ course.sessions (conn_of m)) mark marks agrees.sessions))
+
+    told_answer : b ≡ true → numbered (told (conn_of mark)) (command_of mark) ≡ Some done.answer
+    told_answer t = numbered_front (told (conn_of mark)) (of.rest (conn_of mark)) (command_of mark) _ (within (counts_of told) mark b h t)
+        (ap (λ l. numbered l (command_of mark)) (sym (of.parts (conn_of mark))) ∙ step.answer)
+
+    by : Verdict b mark.kind next → FollowsTo setting (told_talk talk told) other (points_by mark (counts_as mark.kind next) ++ points_of marks) store
+    by (replies t a plain is) =
+        subst (λ w. FollowsTo setting (told_talk talk told) other (points_by mark w ++ points_of marks) store) (sym is)
+        (record {
+          end = rest.end;
+          same_store = rest.same_store;
+          follows = answered_point setting talk told other rest.end mark done (points_of marks) next its.deed plain (told_answer t) rest.follows;
+        })
+    by (refuses t kind after is) =
+        subst (λ w. FollowsTo setting (told_talk talk told) other (points_by mark w ++ points_of marks) store) (sym is)
+        (record {
+          end = rest.end;
+          same_store = rest.same_store;
+          follows = refused_point setting talk told other rest.end mark done (points_of marks) next its.deed after (told_answer t) rest.follows;
+        })
+    by (is_lost t always none is) =
+        subst (λ w. FollowsTo setting (told_talk talk told) other (points_by mark w ++ points_of marks) store) (sym is)
+        (record {
+          end = rest.end;
+          same_store = rest.same_store;
+          follows = lost_point setting talk told other rest.end mark done (points_of marks) _ its.deed always rest.follows;
+        })
+    by (is_open t only none is) =
+        subst (λ w. FollowsTo setting (told_talk talk told) other (points_by mark w ++ points_of marks) store) (sym is)
+        (later other (agree_still course other (conn_of mark) done marks (step.unless only) agrees.store
+        (tail_marks (λ (m : Mark). other.sessions (conn_of m) ≡ course.sessions (conn_of m)) mark marks agrees.sessions)
+        (λ k d at. no_more k d at step.acting (beyond (counts_of told) mark b h t))))
+    by (tells telling is) = (let both : false ≡ true = sym telling ∙ step.acting in cc)
 
 agree_behind : (mark : Mark) (marks : List Mark) (course other : Course) → Agrees (mark ∷ marks) course other → Agrees marks course other
 agree_behind mark marks course other agrees = record {
@@ -332,7 +372,9 @@ told_by : (setting : Setting) (talk : Talk) (other : Course) (store : Store) (ma
     → FollowsTo setting talk other (points_of marks) store → (b : Bool) (next : Option MarkKind) → Verdict b mark.kind next
     → FollowsTo setting talk other (points_by mark (counts_as mark.kind next) ++ points_of marks) store
 unfolding points_by
-told_by setting talk other store mark marks telling rest b next (replies t acting is) = (let both : false ≡ true = sym telling ∙ acting in cc)
+told_by setting talk other store mark marks telling rest b next (replies t acting plain is) = (let both : false ≡ true = sym telling ∙ acting in cc)
+told_by setting talk other store mark marks telling rest b next (refuses t kind after is) =
+    (let both : false ≡ true = sym telling ∙ acting_if mark kind in cc)
 told_by setting talk other store mark marks telling rest b next (is_lost t always none is) =
     (let both : false ≡ true = sym telling ∙ acting_always mark always in cc)
 told_by setting talk other store mark marks telling rest b next (is_open t only none is) =
@@ -348,11 +390,11 @@ followed : (setting : Setting) (talk : Talk) (told : ℕ → List Answer) → Is
 unfolding points_of Fit
 followed setting talk told of first last marks (no_marks course) fit no_more =
     λ other agrees. record { end = other; same_store = agrees.store; follows = no_points other }
-followed setting talk told of first last marks (a_mark course end mark request serial rest acting takes answer unless later) fit no_more =
-    λ other agrees. follows_by setting talk told of course other end.store mark request serial rest acting takes answer unless agrees
+followed setting talk told of first last marks (a_mark course end mark done rest step later) fit no_more =
+    λ other agrees. follows_by setting talk told of course other end.store mark done rest (next_of mark.ask rest) step agrees
     (head_pairs (NoMore (counts_of told)) mark rest no_more)
     (followed setting talk told of _ end rest later fit.1 (tail_pairs (NoMore (counts_of told)) mark rest no_more))
-    (nat_le (command_of mark) (length (told (conn_of mark)))) refl (next_of mark.ask rest)
+    (nat_le (command_of mark) (length (told (conn_of mark)))) refl
     (verdict mark.kind (next_of mark.ask rest) (nat_le (command_of mark) (length (told (conn_of mark)))) fit.0)
 followed setting talk told of first last marks (a_telling course end mark rest telling later) fit no_more =
     λ other agrees. told_by setting (told_talk talk told) other end.store mark rest telling
@@ -456,6 +498,13 @@ reply_counted conn number mark true a true s = rw (a, s) refl
 reply_counted conn number mark true a false s = rw (a, s) refl
 reply_counted conn number mark false a same s = rw a refl
 
+refusal_counted : (conn number : ℕ) (mark : Mark) (at : Bool) → nat_eq (conn_of mark) conn ≡ at → (same : Bool) → nat_eq (command_of mark) number ≡ same
+    → count_by (is_about answers_its_command conn number) (point_as mark reserved ∷ []) ≡ cond (at && same) 1 0
+unfolding answers_its_command
+refusal_counted conn number mark true a true s = rw (a, s) refl
+refusal_counted conn number mark true a false s = rw (a, s) refl
+refusal_counted conn number mark false a same s = rw a refl
+
 loss_counted : (conn number : ℕ) (mark : Mark) (at : Bool) → nat_eq (conn_of mark) conn ≡ at → (same : Bool) → nat_eq (command_of mark) number ≡ same
     → count_by (is_about loses conn number) (point_as mark lost ∷ []) ≡ cond (at && same) 1 0
 unfolding loses
@@ -478,7 +527,11 @@ answers_by : (told : ℕ → ℕ) (conn number : ℕ) (mark : Mark) → number �
     → (b : Bool) → nat_le (command_of mark) (told (conn_of mark)) ≡ b → (next : Option MarkKind) → Verdict b mark.kind next
     → count_by (is_about answers_its_command conn number) (points_by mark (counts_as mark.kind next)) ≡ cond (is_mark conn number mark) 1 0
 unfolding points_by answers_its_command
-answers_by told conn number mark low b h next (replies t acting is) =
+answers_by told conn number mark low b h next (refuses t kind after is) =
+    ap (λ w. count_by (is_about answers_its_command conn number) (points_by mark w)) is
+    ∙ refusal_counted conn number mark (nat_eq (conn_of mark) conn) refl (nat_eq (command_of mark) number) refl
+    ∙ ap (λ t. cond t 1 0) (sym (acting_mark conn number mark (acting_if mark kind)))
+answers_by told conn number mark low b h next (replies t acting plain is) =
     ap (λ w. count_by (is_about answers_its_command conn number) (points_by mark w)) is
     ∙ reply_counted conn number mark (nat_eq (conn_of mark) conn) refl (nat_eq (command_of mark) number) refl
     ∙ ap (λ t. cond t 1 0) (sym (acting_mark conn number mark acting))
@@ -509,7 +562,8 @@ answering_points told conn number (mark ∷ marks) fit low =
 losses_by : (conn number : ℕ) (mark : Mark) (b : Bool) (next : Option MarkKind) → Verdict b mark.kind next
     → count_by (is_about loses conn number) (points_by mark (counts_as mark.kind next)) ≤ cond (is_mark conn number mark) 1 0
 unfolding points_by loses
-losses_by conn number mark b next (replies t acting is) = omega (arith, ap (λ w. count_by (is_about loses conn number) (points_by mark w)) is)
+losses_by conn number mark b next (refuses t kind after is) = omega (arith, ap (λ w. count_by (is_about loses conn number) (points_by mark w)) is)
+losses_by conn number mark b next (replies t acting plain is) = omega (arith, ap (λ w. count_by (is_about loses conn number) (points_by mark w)) is)
 losses_by conn number mark b next (is_lost t always none is) = omega (
   arith,
   ap (λ w. count_by (is_about loses conn number) (points_by mark w)) is,

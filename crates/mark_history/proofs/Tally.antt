@@ -3,15 +3,16 @@ use Rattle.std.proofs.Common.{◌≡◌, ℕ, suc, ◌<◌, ◌&&◌, Bool, true
 use Rattle.std.proofs.Common.{arith}
 use Rattle.std.specs.Prelude.{All, ⊤}
 use Rattle.std.proofs.lemmas.Bool.Decides.{nat_tests}
-use Rattle.std.proofs.lemmas.List.Elements.{All-cons, All-nil}
+use Rattle.std.proofs.lemmas.List.Elements.{All-cons, All-head, All-nil, All-tail}
+use Rattle.link_msg.specs.declared.counts.Counts.{Counts}
 use Rattle.link_msg.specs.declared.counts.Counts.TheVariants.{Always, IfAnswered}
-use Rattle.link_msg.specs.declared.how.How.TheVariants.{Here, Behind}
+use Rattle.link_msg.specs.declared.how.How.TheVariants.{Here, Behind, Reserved}
 use Rattle.mur_base.specs.declared.point.AskId.{AskId}
-use Rattle.mur_base.specs.declared.point.What.TheVariants.{Reply as replied, Lost as lost}
+use Rattle.mur_base.specs.declared.point.What.TheVariants.{Reply as replied, Lost as lost, Reserved as reserved}
 use Rattle.mark_history.specs.declared.mark.Mark.{Mark}
 use Rattle.mark_history.specs.declared.mark.MarkKind.{MarkKind}
 use Rattle.mark_history.specs.declared.mark.MarkKind.TheVariants.{Home, Told}
-use Rattle.mark_history.specs.History.{is_of, next_of, counts_as, untold_as}
+use Rattle.mark_history.specs.History.{is_of, next_of, counts_as, refused_as, untold_as}
 
 abbrev pub conn_of : Mark → ℕ
 conn_of mark = (mark.ask).conn
@@ -24,13 +25,29 @@ unfoldable pub acts : MarkKind → Bool
 acts (Home counts) = true
 acts (Told Here) = true
 acts (Told Behind) = false
+acts (Told Reserved) = false
+
+-- whether the client of a command may be told that it was refused, by whether the step that answered always counts, and whether the client is told at all
+unfoldable pub may_refuse : Counts → Bool → Bool
+may_refuse Always told = false
+may_refuse IfAnswered told = told
+
+-- whether a client is told next that its command was refused
+unfoldable pub tells_refusal : Option MarkKind → Bool
+tells_refusal None = false
+tells_refusal (Some (Home counts)) = false
+tells_refusal (Some (Told Here)) = false
+tells_refusal (Some (Told Behind)) = false
+tells_refusal (Some (Told Reserved)) = true
 
 -- whether a mark may have this next mark of its command, by whether its client was told of the command
 unfoldable pub fits : MarkKind → Option MarkKind → Bool → Bool
 fits (Told Here) next told = told
 fits (Told Behind) next told = told
+fits (Told Reserved) next told = told
 fits (Home counts) None told = not told
 fits (Home counts) (Some (Told Behind)) told = told
+fits (Home counts) (Some (Told Reserved)) told = may_refuse counts told
 fits (Home counts) (Some kind) told = false
 
 -- each mark fits, where so many commands of each connection were told of
@@ -40,18 +57,24 @@ Fit told (mark ∷ marks) = (fits mark.kind (next_of mark.ask marks) (nat_le (co
 
 -- what a mark that fits counts as
 pub data Verdict (told : Bool) (kind : MarkKind) (next : Option MarkKind) : Type 0 where
-  replies : told ≡ true → acts kind ≡ true → counts_as kind next ≡ Some replied → Verdict told kind next
+  replies : told ≡ true → acts kind ≡ true → (kind ≡ Home IfAnswered → tells_refusal next ≡ false) → counts_as kind next ≡ Some replied
+      → Verdict told kind next
+  refuses : told ≡ true → kind ≡ Home IfAnswered → next ≡ Some (Told Reserved) → counts_as kind next ≡ Some reserved → Verdict told kind next
   is_lost : told ≡ false → kind ≡ Home Always → next ≡ None → counts_as kind next ≡ Some lost → Verdict told kind next
   is_open : told ≡ false → kind ≡ Home IfAnswered → next ≡ None → counts_as kind next ≡ None → Verdict told kind next
   tells : acts kind ≡ false → counts_as kind next ≡ None → Verdict told kind next
 
 pub verdict : (kind : MarkKind) (next : Option MarkKind) (told : Bool) → fits kind next told ≡ true → Verdict told kind next
-unfolding fits counts_as untold_as acts
-verdict (Told Here) next true h = replies refl refl refl
+unfolding fits counts_as untold_as refused_as acts may_refuse tells_refusal
+verdict (Told Here) next true h = replies refl refl (λ k. cc) refl
 verdict (Told Here) next false h = cc
 verdict (Told Behind) next told h = tells refl refl
-verdict (Home counts) (Some (Told Behind)) true h = replies refl refl refl
+verdict (Told Reserved) next told h = tells refl refl
+verdict (Home counts) (Some (Told Behind)) true h = replies refl refl (λ k. refl) refl
 verdict (Home counts) (Some (Told Behind)) false h = cc
+verdict (Home IfAnswered) (Some (Told Reserved)) true h = refuses refl refl refl refl
+verdict (Home IfAnswered) (Some (Told Reserved)) false h = cc
+verdict (Home Always) (Some (Told Reserved)) told h = cc
 verdict (Home counts) (Some (Told Here)) told h = cc
 verdict (Home counts) (Some (Home other)) told h = cc
 verdict (Home counts) None true h = cc
@@ -152,12 +175,54 @@ fits_apart told now mark first other same = λ next fit.
     ∙ ap (λ n. fits first.kind n (nat_le (command_of first) (now (conn_of first)))) (next_none next)
     ∙ ap (fits first.kind next) same ∙ fit
 
+-- what a step did isn't refused when a mark is put behind that refuses nothing, or is of another command
+abbrev pub IsUnrefusedBy : Mark → Mark → Type 0
+IsUnrefusedBy more mark = is_of mark.ask more ≡ true → tells_refusal (Some more.kind) ≡ false
+
+unrefused_by : (next : Option MarkKind) (more : Mark) (b : Bool) → (b ≡ true → tells_refusal (Some more.kind) ≡ false)
+    → tells_refusal (next_or next (if b then Some more.kind else None)) ≡ tells_refusal next
+unfolding next_or tells_refusal
+unrefused_by None more true plain = plain refl
+unrefused_by None more false plain = refl
+unrefused_by (Some kind) more b plain = refl
+
+pub still_unrefused : (mark more : Mark) (marks : List Mark) → IsUnrefusedBy more mark
+    → tells_refusal (next_of mark.ask (marks ++ more ∷ [])) ≡ tells_refusal (next_of mark.ask marks)
+still_unrefused mark more marks plain =
+    ap tells_refusal (next_push mark.ask marks more) ∙ unrefused_by (next_of mark.ask marks) more (is_of mark.ask more) plain
+
+pub acting_unrefused : (kind : MarkKind) → acts kind ≡ true → tells_refusal (Some kind) ≡ false
+unfolding acts tells_refusal
+acting_unrefused (Home counts) acting = refl
+acting_unrefused (Told Here) acting = refl
+acting_unrefused (Told Behind) acting = refl
+acting_unrefused (Told Reserved) acting = cc
+
+-- of these marks each that tells of a refusal may be
+abbrev pub RefusesIf : Type 0 → Mark → Type 0
+RefusesIf may mark = mark.kind ≡ Told Reserved → may
+
+next_refuses_by : {may : Type 0} (ask : AskId) (mark : Mark) (marks : List Mark) → (next_of ask marks ≡ Some (Told Reserved) → may) → RefusesIf may mark
+    → (b : Bool) → (if b then Some mark.kind else next_of ask marks) ≡ Some (Told Reserved) → may
+next_refuses_by ask mark marks rest own true e = own (let its : mark.kind ≡ Told Reserved = cc in its)
+next_refuses_by ask mark marks rest own false e = rest e
+
+pub next_refuses : {may : Type 0} (ask : AskId) (marks : List Mark) → All (RefusesIf may) marks → next_of ask marks ≡ Some (Told Reserved) → may
+unfolding next_of
+next_refuses ask [] all e = cc
+next_refuses {may} ask (mark ∷ marks) all e =
+    next_refuses_by ask mark marks (next_refuses ask marks (All-tail (RefusesIf may) mark marks all)) (All-head (RefusesIf may) mark marks all)
+    (is_of ask mark) e
+
 told_now : (kind : MarkKind) (next : Option MarkKind) → fits kind next false ≡ true → fits kind (next_or next (Some (Told Behind))) true ≡ true
-unfolding fits next_or
+unfolding fits next_or may_refuse
 told_now (Told Here) next h = cc
 told_now (Told Behind) next h = refl
+told_now (Told Reserved) next h = refl
 told_now (Home counts) None h = refl
 told_now (Home counts) (Some (Told Behind)) h = cc
+told_now (Home Always) (Some (Told Reserved)) h = cc
+told_now (Home IfAnswered) (Some (Told Reserved)) h = cc
 told_now (Home counts) (Some (Told Here)) h = cc
 told_now (Home counts) (Some (Home other)) h = cc
 

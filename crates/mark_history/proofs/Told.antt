@@ -7,7 +7,7 @@ use Rattle.std.proofs.lemmas.Bool.Decides.{nat_tests}
 use Rattle.std.proofs.lemmas.List.Elements.{All-push, All-weaker}
 use Rattle.link_msg.specs.declared.counts.Counts.{Counts}
 use Rattle.link_msg.specs.declared.counts.Counts.TheVariants.{IfAnswered}
-use Rattle.link_msg.specs.declared.how.How.TheVariants.{Here, Behind}
+use Rattle.link_msg.specs.declared.how.How.TheVariants.{Here, Behind, Reserved}
 use Rattle.imap_types.specs.declared.request.Answer.{Answer}
 use Rattle.imap_types.specs.declared.request.Request.{Request}
 use Rattle.mur_model.specs.declared.setting.Setting.{Setting}
@@ -20,11 +20,13 @@ use Rattle.mark_history.specs.declared.mark.MarkKind.{MarkKind}
 use Rattle.mark_history.specs.declared.mark.MarkKind.TheVariants.{Home, Told}
 use Rattle.mark_history.specs.FirstCourse.{first_course}
 use Rattle.mark_history.specs.History.{is_of}
+use Rattle.mark_history.proofs.Deeds.{IsStep}
+use Rattle.mark_history.proofs.Deeds.IsDeed.{carries_it_out}
 use Rattle.mark_history.proofs.Marks.{Carries, carries_on, carries_push, carries_telling, MarkedOnce, marked_once_push, marked_once_telling, marks_push}
 use Rattle.mark_history.proofs.Marks.{Later, counts_of}
-use Rattle.mark_history.proofs.Tally.{acts, conn_of, command_of, Fit, fits, fit_push, fits_apart, fits_told, StillFits, of_another, of_both}
+use Rattle.mark_history.proofs.Tally.{acts, conn_of, command_of, Fit, RefusesIf, fits, fit_push, fits_apart, fits_told, StillFits, of_another, of_both, tells_refusal}
 
-pub record IsTold (setting : Setting) (now : ℕ) (marks : List Mark) (talk : Talk) (told : ℕ → List Answer) (course : Course) : Type 0 where
+pub record IsToldIn (may : Type 0) (setting : Setting) (now : ℕ) (marks : List Mark) (talk : Talk) (told : ℕ → List Answer) (course : Course) : Type 0 where
   pub carries : Carries setting talk first_course marks course
   pub once : MarkedOnce (λ conn. length (talk.answers conn)) marks
   pub later : AllPairs Later marks
@@ -34,6 +36,12 @@ pub record IsTold (setting : Setting) (now : ℕ) (marks : List Mark) (talk : Ta
   -- no more was told than was replied
   pub ahead : (conn : ℕ) → length (told conn) ≤ length (talk.answers conn)
   pub fit : Fit (counts_of told) marks
+  -- clients may be told of refusals
+  pub refused : All (RefusesIf may) marks
+
+-- no client is told of a refusal
+abbrev pub IsTold : Setting → ℕ → List Mark → Talk → (ℕ → List Answer) → Course → Type 0
+IsTold = IsToldIn ⊥
 
 -- one answer more at a connection
 abbrev pub having_said : Talk → ℕ → Answer → ℕ → Talk
@@ -78,27 +86,48 @@ fits_still setting talk conn kind told now on mark first its number low = ⊎_el
     (ap (λ l. nat_le (command_of first) (length l)) (on.others (conn_of first) ne)))
     (cases_eq (conn_of first) conn)
 
-pub told_push : (setting : Setting) (now : ℕ) (marks : List Mark) (talk : Talk) (told later_told : ℕ → List Answer) (course : Course)
+-- the step of the next command
+pub step_made : (setting : Setting) (talk : Talk) (course : Course) (conn : ℕ) (request : Request) (serial now : ℕ) (kind : MarkKind) → acts kind ≡ true
+    → numbered (talk.requests conn) (length (talk.answers conn) + 1) ≡ Some request
+    → MayTake setting course.store (course.sessions conn) request serial
+    → (kind ≡ Home IfAnswered → (carried_out setting course conn request serial).store ≡ course.store)
+    → length (talk.serials conn) ≡ length (talk.answers conn)
+    → IsStep setting (having_said talk conn (carried_out setting course conn request serial).answer serial) course (next_mark now talk conn kind) false
+    (carried_out setting course conn request serial)
+step_made setting talk course conn request serial now kind acting asked free unless serials = record {
+  acting = acting;
+  deed = carries_it_out request serial refl
+      (record {
+        asked = asked;
+        given = numbered_new talk.serials conn serial (length (talk.answers conn)) (sym serials);
+        free = free;
+      })
+      refl;
+  answer = numbered_new talk.answers conn (carried_out setting course conn request serial).answer (length (talk.answers conn)) refl;
+  unless = unless;
+}
+
+-- what acts is no refusal
+not_refused : {may : Type 0} (kind : MarkKind) → acts kind ≡ true → kind ≡ Told Reserved → may
+unfolding acts
+not_refused kind acting is = (let both : true ≡ false = sym acting ∙ ap acts is in cc)
+
+pub told_push : {may : Type 0} (setting : Setting) (now : ℕ) (marks : List Mark) (talk : Talk) (told later_told : ℕ → List Answer) (course : Course)
     (conn : ℕ) (request : Request) (serial : ℕ) (kind : MarkKind) → acts kind ≡ true → TellsOn setting talk conn kind told later_told
     → numbered (talk.requests conn) (length (talk.answers conn) + 1) ≡ Some request
     → MayTake setting course.store (course.sessions conn) request serial
     → (kind ≡ Home IfAnswered → (carried_out setting course conn request serial).store ≡ course.store)
-    → IsTold setting now marks talk told course
-    → IsTold setting now (marks ++ next_mark now talk conn kind ∷ [])
+    → IsToldIn may setting now marks talk told course
+    → IsToldIn may setting now (marks ++ next_mark now talk conn kind ∷ [])
     (having_said talk conn (carried_out setting course conn request serial).answer serial) later_told (next_course setting course conn request serial)
-told_push setting now marks talk told later_told course conn request serial kind acting on asked free unless is =
+told_push {may} setting now marks talk told later_told course conn request serial kind acting on asked free unless is =
     let answer : Answer = (carried_out setting course conn request serial).answer in
     let longer : Talk = having_said talk conn answer serial in
     let mark : Mark = next_mark now talk conn kind in
     record {
-      carries = carries_push setting longer first_course course marks mark request serial
-          (carries_on setting talk longer (said_more talk conn answer serial) first_course course marks is.carries) acting
-          (record {
-            asked = asked;
-            given = numbered_new talk.serials conn serial (length (talk.answers conn)) (sym (is.serials conn));
-            free = free;
-          })
-          (numbered_new talk.answers conn answer (length (talk.answers conn)) refl) unless;
+      carries = carries_push setting longer first_course course marks mark (carried_out setting course conn request serial)
+          (carries_on setting talk longer (said_more talk conn answer serial) first_course course marks is.carries)
+          (step_made setting talk course conn request serial now kind acting asked free unless (is.serials conn));
       once = marked_once_push (λ c. length (talk.answers c)) (λ c. length (longer.answers c)) marks mark acting refl
           (length_with_item talk.answers conn answer) (λ other ne. ap length (with_item-other talk.answers conn answer other ne)) is.once;
       later = marks_push Later marks mark is.later (λ k d h. (
@@ -128,6 +157,7 @@ told_push setting now marks talk told later_told course conn request serial kind
           (cases_eq other conn);
       fit = fit_push (counts_of told) (counts_of later_told) marks mark is.fit
           (λ k d h. fits_still setting talk conn kind told later_told on mark (get_or marks k d) refl refl (is.numbers k d h)) on.own;
+      refused = All-push (RefusesIf may) marks mark is.refused (not_refused kind acting);
     }
 
 abbrev pub telling_mark : ℕ → (ℕ → List Answer) → ℕ → Mark
@@ -159,6 +189,10 @@ pub telling : acts (Told Behind) ≡ false
 unfolding acts
 telling = refl
 
+pub tells_plainly : tells_refusal (Some (Told Behind)) ≡ false
+unfolding tells_refusal
+tells_plainly = refl
+
 fits_now : (number count : ℕ) → number ≤ count → fits (Told Behind) None (nat_le number count) ≡ true
 unfolding fits
 fits_now number count low = grind (arith, nat_tests)
@@ -187,13 +221,13 @@ fits_behind now talk told conn answer said first low = ⊎_elim
     (cases_eq (conn_of first) conn)
 
 -- a client is told behind a home's answer
-pub told_behind_push : (setting : Setting) (now : ℕ) (marks : List Mark) (talk : Talk) (told : ℕ → List Answer) (course : Course) (conn : ℕ)
-    (answer : Answer) → length (talk.answers conn) ≡ length (told conn) + 1 → IsTold setting now marks talk told course
-    → IsTold setting now (marks ++ telling_mark now told conn ∷ []) talk (with_item told conn answer) course
-told_behind_push setting now marks talk told course conn answer said is =
+pub told_behind_push : {may : Type 0} (setting : Setting) (now : ℕ) (marks : List Mark) (talk : Talk) (told : ℕ → List Answer) (course : Course) (conn : ℕ)
+    (answer : Answer) → length (talk.answers conn) ≡ length (told conn) + 1 → IsToldIn may setting now marks talk told course
+    → IsToldIn may setting now (marks ++ telling_mark now told conn ∷ []) talk (with_item told conn answer) course
+told_behind_push {may} setting now marks talk told course conn answer said is =
     let mark : Mark = telling_mark now told conn in
     record {
-      carries = carries_telling setting talk first_course course marks mark telling is.carries;
+      carries = carries_telling setting talk first_course course marks mark telling tells_plainly is.carries;
       once = marked_once_telling (λ c. length (talk.answers c)) marks mark telling is.once;
       later = marks_push Later marks mark is.later (λ k d h. (
         λ e. omega (arith, is.numbers k d h, said, ap (λ c. length (talk.answers c)) e),
@@ -215,13 +249,14 @@ told_behind_push setting now marks talk told course conn answer said is =
       fit = fit_push (counts_of told) (counts_of (with_item told conn answer)) marks mark is.fit
           (λ k d h. fits_behind now talk told conn answer said (get_or marks k d) (is.numbers k d h))
           (fits_now (length (told conn) + 1) (length (with_item told conn answer conn)) (omega (arith, length_with_item told conn answer)));
+      refused = All-push (RefusesIf may) marks mark is.refused (λ kind. cc);
     }
 
 -- more is asked
-pub told_asked : (setting : Setting) (now : ℕ) (marks : List Mark) (talk : Talk) (told : ℕ → List Answer) (course : Course)
-    (requests : ℕ → List Request) → GoesOn talk.requests requests → IsTold setting now marks talk told course
-    → IsTold setting now marks (record { requests = requests; answers = talk.answers; serials = talk.serials }) told course
-told_asked setting now marks talk told course requests more is = record {
+pub told_asked : {may : Type 0} (setting : Setting) (now : ℕ) (marks : List Mark) (talk : Talk) (told : ℕ → List Answer) (course : Course)
+    (requests : ℕ → List Request) → GoesOn talk.requests requests → IsToldIn may setting now marks talk told course
+    → IsToldIn may setting now marks (record { requests = requests; answers = talk.answers; serials = talk.serials }) told course
+told_asked {may} setting now marks talk told course requests more is = record {
   carries = carries_on setting talk (record { requests = requests; answers = talk.answers; serials = talk.serials })
       (record { requests = more; answers = same_lists talk.answers; serials = same_lists talk.serials }) first_course course marks is.carries;
   once = is.once;
@@ -231,12 +266,13 @@ told_asked setting now marks talk told course requests more is = record {
   serials = is.serials;
   ahead = is.ahead;
   fit = is.fit;
+  refused = is.refused;
 }
 
 -- a step begins
-pub told_later : (setting : Setting) (now next : ℕ) (marks : List Mark) (talk : Talk) (told : ℕ → List Answer) (course : Course) → now ≤ next
-    → IsTold setting now marks talk told course → IsTold setting next marks talk told course
-told_later setting now next marks talk told course le is = record {
+pub told_later : {may : Type 0} (setting : Setting) (now next : ℕ) (marks : List Mark) (talk : Talk) (told : ℕ → List Answer) (course : Course) → now ≤ next
+    → IsToldIn may setting now marks talk told course → IsToldIn may setting next marks talk told course
+told_later {may} setting now next marks talk told course le is = record {
   carries = is.carries;
   once = is.once;
   later = is.later;
@@ -245,4 +281,5 @@ told_later setting now next marks talk told course le is = record {
   serials = is.serials;
   ahead = is.ahead;
   fit = is.fit;
+  refused = is.refused;
 }

@@ -6,7 +6,7 @@ use Rattle.std.proofs.lemmas.Bool.Decides.{nat_tests}
 use Rattle.std.proofs.lemmas.List.Elements.{All-cons, All-head, All-nil, All-tail}
 use Rattle.std.proofs.lemmas.List.Kept.{AllPairs-cons}
 use Rattle.link_msg.specs.declared.counts.Counts.TheVariants.{IfAnswered}
-use Rattle.link_msg.specs.declared.how.How.TheVariants.{Here, Behind}
+use Rattle.link_msg.specs.declared.how.How.TheVariants.{Here, Behind, Reserved}
 use Rattle.mur_base.specs.declared.point.AskId.{AskId}
 use Rattle.mark_history.specs.declared.mark.Mark.{Mark}
 use Rattle.mark_history.specs.declared.mark.MarkKind.{MarkKind}
@@ -70,6 +70,7 @@ unfolding fits acts
 acts_by (Home counts) next fit = refl
 acts_by (Told Here) next fit = refl
 acts_by (Told Behind) next fit = cc
+acts_by (Told Reserved) next fit = cc
 
 -- a mark of a command that its client wasn't told of
 abbrev pub ActsUntold : (ℕ → ℕ) → Mark → Type 0

@@ -2,11 +2,11 @@
 use Rattle.std.specs.Prelude.{◌==◌, Bool, ◌&&◌, if◌then◌else◌, List, [], ◌∷◌, ◌++◌, Option, None, Some}
 use Rattle.link_msg.specs.declared.counts.Counts.{Counts}
 use Rattle.link_msg.specs.declared.counts.Counts.TheVariants.{Always, IfAnswered}
-use Rattle.link_msg.specs.declared.how.How.TheVariants.{Here, Behind}
+use Rattle.link_msg.specs.declared.how.How.TheVariants.{Here, Behind, Reserved}
 use Rattle.mur_base.specs.declared.point.AskId.{AskId}
 use Rattle.mur_base.specs.declared.point.Point.{Point}
 use Rattle.mur_base.specs.declared.point.What.{What}
-use Rattle.mur_base.specs.declared.point.What.TheVariants.{Reply as replied, Lost as lost}
+use Rattle.mur_base.specs.declared.point.What.TheVariants.{Reply as replied, Lost as lost, Reserved as reserved}
 use Rattle.mark_history.specs.declared.mark.Mark.{Mark}
 use Rattle.mark_history.specs.declared.mark.MarkKind.{MarkKind}
 use Rattle.mark_history.specs.declared.mark.MarkKind.TheVariants.{Home, Told}
@@ -25,12 +25,21 @@ unfoldable pub untold_as : Counts → Option What
 untold_as Always = Some lost
 untold_as IfAnswered = None
 
--- what a mark counts as, by the next one of its command: a home's step is the point of a command whose client is told behind it
+-- what the step that answered counts as if the client is told that its command was refused: the refusal; but a step that always counts carried the
+-- command out, whatever its client is told
+unfoldable pub refused_as : Counts → What
+refused_as Always = lost
+refused_as IfAnswered = reserved
+
+-- what a mark counts as, by the next one of its command: a home's step is the point of a command whose client is told behind it, and the master's of
+-- one that was refused behind its OK
 unfoldable pub counts_as : MarkKind → Option MarkKind → Option What
 counts_as (Told Here) next = Some replied
 counts_as (Told Behind) next = None
+counts_as (Told Reserved) next = None
 counts_as (Home counts) None = untold_as counts
 counts_as (Home counts) (Some (Told Behind)) = Some replied
+counts_as (Home counts) (Some (Told Reserved)) = Some (refused_as counts)
 counts_as (Home counts) (Some kind) = None
 
 abbrev pub point_as : Mark → What → Point

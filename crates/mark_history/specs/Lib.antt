@@ -1,3 +1,4 @@
 pub mod History
 pub mod FirstCourse
 pub mod Marked
+pub mod Refusals

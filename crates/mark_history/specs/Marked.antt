@@ -1,18 +1,23 @@
 -- How marks come about. Of each connection the first command that its client wasn't told of is open: steps see it, and one may act on it. What a step did
--- on condition that the client is told may be taken back as long as it isn't; then others see the command, or one acts on it anew.
+-- on condition that the client is told may be taken back as long as it isn't; then others see the command, or one acts on it anew. A command that was
+-- only seen may be refused, as its mailbox is being moved; the step that saw it last is then its point.
 use Rattle.std.specs.Prelude.{◌≡◌, ℕ, ◌+◌, ◌≤◌, ◌==◌, if◌then◌else◌, List, [], ◌∷◌, ◌++◌, length, take, Option, None, Some}
+use Rattle.imap_types.specs.declared.command.Command.{Command}
+use Rattle.imap_types.specs.declared.command.Tag.{Tag}
+use Rattle.imap_types.specs.declared.reply.NoText.TheVariants.{BeingMoved}
 use Rattle.imap_types.specs.declared.request.Answer.{Answer}
 use Rattle.imap_types.specs.declared.request.Request.{Request}
 use Rattle.link_msg.specs.declared.counts.Counts.{Counts}
 use Rattle.link_msg.specs.declared.counts.Counts.TheVariants.{IfAnswered}
-use Rattle.link_msg.specs.declared.how.How.TheVariants.{Here, Behind}
+use Rattle.link_msg.specs.declared.how.How.TheVariants.{Here, Behind, Reserved}
 use Rattle.mur_base.specs.declared.point.AskId.{AskId}
 use Rattle.mur_base.specs.declared.point.Point.{Point}
+use Rattle.mur_base.specs.declared.point.What.TheVariants.{Reserved as reserved}
 use Rattle.mur_model.specs.declared.session.Sess.{Sess}
 use Rattle.mur_model.specs.declared.setting.Setting.{Setting}
 use Rattle.mur_model.specs.declared.store.Store.{Store}
 use Rattle.mur_model.specs.Answer.{Answered, MayTake}
-use Rattle.mur_model.specs.History.{Course, Talk, GoesOn, IsLegal, numbered, carried_out, course_after, with_session}
+use Rattle.mur_model.specs.History.{Course, Talk, GoesOn, IsLegal, IsRefused, numbered, carried_out, course_after, refused_out, with_session}
 use Rattle.mark_history.specs.declared.mark.Mark.{Mark}
 use Rattle.mark_history.specs.declared.mark.MarkKind.{MarkKind}
 use Rattle.mark_history.specs.declared.mark.MarkKind.TheVariants.{Home, Told}
@@ -108,6 +113,28 @@ taking_back tale conn = record {
   before = tale.before;
 }
 
+-- the open command was asked and seen, has no reply, and may be refused since its mailbox is being moved: it needs one
+pub record CanRefuse (setting : Setting) (marks : List Mark) (tale : Tale) (conn : ℕ) (tag : Tag) (it : Command) : Type 0 where
+  pub unreplied : IsUnreplied tale conn
+  pub refused : IsRefused setting tale.talk tale.course conn (length (tale.told conn) + 1) tag it reserved BeingMoved
+  pub seen : last_of (open_ask tale conn) marks ≡ Some (Home IfAnswered)
+
+abbrev pub refusal : Tale → ℕ → Tag → Command → Answered
+refusal tale conn tag it = refused_out tale.course conn tag it BeingMoved
+
+-- the open command is refused: the store stays. A UIDVALIDITY was given to it, too, of which nothing comes.
+abbrev pub refusing : Tale → ℕ → Tag → Command → ℕ → Tale
+refusing tale conn tag it serial = record {
+  talk = record {
+    requests = tale.talk.requests;
+    answers = with_list tale.talk.answers conn (tale.told conn ++ (refusal tale conn tag it).answer ∷ []);
+    serials = with_list tale.talk.serials conn (tale.talk.serials conn ++ serial ∷ []);
+  };
+  told = tale.told;
+  course = course_after tale.course conn (refusal tale conn tag it);
+  before = with_session tale.before conn (tale.course.sessions conn);
+}
+
 -- up to a step these marks are made, and are of this
 pub data AreMarked (setting : Setting) : ℕ → List Mark → Tale → Type 0 where
   nothing : AreMarked setting 0 [] first_tale
@@ -131,6 +158,11 @@ pub data AreMarked (setting : Setting) : ℕ → List Mark → Tale → Type 0 w
       → AreMarked setting now marks tale
       → AreMarked setting now (marks ++ mark_now now tale conn (Told Here) ∷ [])
       (telling (acting setting tale conn request serial) conn (done setting tale conn request serial).answer)
+  -- the command is refused, and its client is told at once: the step that saw it last is the point
+  refuses : (now : ℕ) (marks : List Mark) (tale : Tale) (conn : ℕ) (tag : Tag) (it : Command) (serial : ℕ) → CanRefuse setting marks tale conn tag it
+      → AreMarked setting now marks tale
+      → AreMarked setting now (marks ++ mark_now now tale conn (Told Reserved) ∷ [])
+      (telling (refusing tale conn tag it serial) conn (refusal tale conn tag it).answer)
   -- a reply that the client wasn't told of is taken back, if its step doesn't always count
   takes_back : (now : ℕ) (marks : List Mark) (tale : Tale) (conn : ℕ) (answer : Answer) → IsUntold tale conn answer
       → last_of (open_ask tale conn) marks ≡ Some (Home IfAnswered)
@@ -146,7 +178,7 @@ pub record IsLegalTo (setting : Setting) (talk : Talk) (points : List Point) (st
   pub same_store : last.store ≡ store
   pub legal : IsLegal setting first_course talk points last
 
--- whatever was seen, taken back and done anew
+-- whatever was seen, taken back, done anew and refused
 abbrev pub MakesLegalHistories : Type 0
 MakesLegalHistories = (setting : Setting) (now : ℕ) (marks : List Mark) (tale : Tale) → AreMarked setting now marks tale
     → IsLegalTo setting (talk_told tale) (points_of marks) tale.course.store

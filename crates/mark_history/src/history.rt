@@ -45,7 +45,7 @@ fn put_point(mark: &Mark, next: Option<MarkKind>, points: &mut Vec<Point>) -> Re
 }
 
 // What a mark counts as, by the next one of its command.
-#[tactic(auto, unfolding(crate::specs::History::counts_as, crate::specs::History::untold_as))]
+#[tactic(auto, unfolding(crate::specs::History::counts_as, crate::specs::History::untold_as, crate::specs::History::refused_as))]
 fn counts_as(kind: MarkKind, next: Option<MarkKind>) -> Option<What>
     ensures { result ≡ counts_as kind next }
 {
@@ -54,6 +54,10 @@ fn counts_as(kind: MarkKind, next: Option<MarkKind>) -> Option<What>
             Some(What::Reply)
         }
         (MarkKind::Home(Counts::Always), None) => Some(What::Lost),
+        (MarkKind::Home(Counts::Always), Some(MarkKind::Told(How::Reserved))) => Some(What::Lost),
+        (MarkKind::Home(Counts::IfAnswered), Some(MarkKind::Told(How::Reserved))) => {
+            Some(What::Reserved)
+        }
         _ => None,
     }
 }

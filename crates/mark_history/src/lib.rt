@@ -5,7 +5,8 @@
 //!
 //! In a run one step acts on each command (`proofs/Told.antt`). Where steps may also only see a command, and what one did is taken back
 //! (`specs/Marked.antt`), the same holds of the marks without those of such steps (`proofs/ByLast.antt`), and these make the same history
-//! ([`the_last_step_counts`]).
+//! ([`the_last_step_counts`]). Where a command that steps only saw is refused, the mark of the last of them is put back, since what other connections
+//! did since stays as it is behind the refusal (`proofs/Refused.antt`).
 #![tactic(auto)]
 
 mod history;
@@ -13,5 +14,5 @@ mod laws;
 mod mark;
 
 pub use history::{Points, points_of};
-pub use laws::the_last_step_counts;
+pub use laws::{a_refusal_has_two_marks, the_last_step_counts};
 pub use mark::{Mark, MarkKind};

@@ -1,5 +1,5 @@
 -- What is told at every step of a run.
-use Rattle.std.proofs.Common.{◌≡◌, ℕ, zero, suc, ◌+◌, ◌≤◌, ◌<◌, true, false, cond, nat_eq, List, [], ◌∷◌, ◌++◌, length}
+use Rattle.std.proofs.Common.{◌≡◌, Bool, ℕ, zero, suc, ◌+◌, ◌≤◌, ◌<◌, true, false, cond, nat_eq, List, [], ◌∷◌, ◌++◌, length}
 use Rattle.std.proofs.Common.{Some, refl, sym, ◌∙◌, ap, subst, arith, length-append}
 use Rattle.std.specs.Prelude.{All, IfSome, count_by}
 use Rattle.std.proofs.lemmas.Bool.Decides.{nat_tests}
@@ -15,6 +15,7 @@ use Rattle.mur_config.specs.declared.config.Config.{Config}
 use Rattle.mur_config.specs.Nodes.{AreNodes}
 use Rattle.mur_model.specs.declared.setting.Setting.{Setting}
 use Rattle.mur_model.specs.declared.store.Store.{Store}
+use Rattle.mur_model.specs.Answer.{Answered}
 use Rattle.mur_model.specs.History.{Course, Talk, numbered}
 use Rattle.mur_model.specs.Store.{box_at}
 use Rattle.mur_model.proofs.HistoryGrows.{one_up_to}
@@ -51,6 +52,8 @@ use Rattle.store_law.proofs.OthersUnseen.{keeps_to_its_own}
 use Rattle.store_law.proofs.OwnSelected.{none_own, points_own}
 use Rattle.mark_history.proofs.Tally.{acts, conn_of, command_of}
 use Rattle.mark_history.proofs.EachPoint.{count_cons}
+use Rattle.mark_history.proofs.Deeds.{IsDeed}
+use Rattle.mark_history.proofs.Deeds.IsDeed.{carries_it_out, is_refused}
 use Rattle.mark_history.proofs.Marks.{Carries, count_both, counts_of, is_mark, all_points}
 use Rattle.mark_history.proofs.Marks.Carries.{no_marks, a_mark, a_telling}
 use Rattle.store_law.proofs.CausesTold.{have_causes}
@@ -75,14 +78,21 @@ unfolding numbered
 numbered_within items zero item e = omega arith
 numbered_within items (suc number) item e = omega (arith, slice_get_within items number item e)
 
+deed_asked : (setting : Setting) (talk : Talk) (course : Course) (mark : Mark) (refused : Bool) (done : Answered) → IsDeed setting talk course mark refused done
+    → command_of mark ≤ length (talk.requests (conn_of mark))
+deed_asked setting talk course mark refused done (carries_it_out request serial unrefused takes is) =
+    numbered_within (talk.requests (conn_of mark)) (command_of mark) request takes.asked
+deed_asked setting talk course mark refused done (is_refused tag it refusing kind may is) =
+    numbered_within (talk.requests (conn_of mark)) (command_of mark) _ may.asked
+
 -- every step that acts is of a command that was asked
 marks_asked : (setting : Setting) (talk : Talk) (first last : Course) (marks : List Mark) → Carries setting talk first marks last
     → All (λ (m : Mark). acts m.kind ≡ true → command_of m ≤ length (talk.requests (conn_of m))) marks
 marks_asked setting talk first last marks (no_marks course) =
     All-nil (λ (m : Mark). acts m.kind ≡ true → command_of m ≤ length (talk.requests (conn_of m)))
-marks_asked setting talk first last marks (a_mark course end mark request serial rest acting takes answer unless later) =
+marks_asked setting talk first last marks (a_mark course end mark done rest step later) =
     All-cons (λ (m : Mark). acts m.kind ≡ true → command_of m ≤ length (talk.requests (conn_of m))) mark rest
-    (λ a. numbered_within (talk.requests (conn_of mark)) (command_of mark) request takes.asked) (marks_asked setting talk _ end rest later)
+    (λ a. deed_asked setting talk course mark _ done step.deed) (marks_asked setting talk _ end rest later)
 marks_asked setting talk first last marks (a_telling course end mark rest telling later) =
     All-cons (λ (m : Mark). acts m.kind ≡ true → command_of m ≤ length (talk.requests (conn_of m))) mark rest
     (λ a. (let both : false ≡ true = sym telling ∙ a in cc)) (marks_asked setting talk course end rest later)

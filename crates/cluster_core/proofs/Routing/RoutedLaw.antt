@@ -33,7 +33,7 @@ use Rattle.cluster_core.proofs.Connections.ConnectionLaw.{Story, told_of}
 use Rattle.cluster_core.proofs.Connections.Keeps.{KeepsAll, run_keeps}
 use Rattle.cluster_core.proofs.Feeds.FeedStart.{start_feeds}
 use Rattle.mark_history.proofs.EachPoint.{CountsAs, each_point, loss_there, none_count, only_one, reply_there}
-use Rattle.mark_history.proofs.EachPoint.CountsAs.{as_reply, as_loss}
+use Rattle.mark_history.proofs.EachPoint.CountsAs.{as_reply, as_refusal, as_loss}
 use Rattle.cluster_core.proofs.Routing.HomeAnswers.{IsServed, ask_is_served}
 use Rattle.cluster_core.proofs.Histories.InTime.{run_behind}
 use Rattle.mark_history.proofs.Marks.{counts_of, is_mark}
@@ -181,7 +181,7 @@ module _ (config : Config) (are : AreNodes config.nodes) (steps : List Event) wh
         → All (λ (p : Point). is_about (λ what. true) ((taken.ask).id).conn ((taken.ask).id).command p ≡ true → ⊥) (points_of at_end.marks)
     no_point taken high only =
         each_point answered (Contains at_end.marks) (λ (p : Point). is_about (λ what. true) ((taken.ask).id).conn ((taken.ask).id).command p ≡ true → ⊥)
-        by at_end.marks told.fit (λ k d h. Contains-get_or at_end.marks k d h)
+        by at_end.marks told.fit told.refused (λ k d h. Contains-get_or at_end.marks k d h)
       where
         same_ask : (mark : Mark) (what : What) → is_about (λ what. true) ((taken.ask).id).conn ((taken.ask).id).command (point_as mark what) ≡ true
             → (conn_of mark ≡ ((taken.ask).id).conn) × (command_of mark ≡ ((taken.ask).id).command)
@@ -193,11 +193,12 @@ module _ (config : Config) (are : AreNodes config.nodes) (steps : List Event) wh
             both true e false f h = cc
             both false e b f h = cc
 
-        by : (mark : Mark) (what : What) → Contains at_end.marks mark → CountsAs answered mark what
+        by : (mark : Mark) (what : What) → Contains at_end.marks mark → CountsAs ⊥ answered mark what
             → is_about (λ what. true) ((taken.ask).id).conn ((taken.ask).id).command (point_as mark what) ≡ true → ⊥
         by mark what there (as_reply acting low) e =
             let same = same_ask mark replied e in
             absurd (omega (arith, high, low, same.1, ap answered same.0))
+        by mark what there (as_refusal none kind low) e = absurd none
         by mark what there (as_loss always over) e =
             let same = same_ask mark lost e in
             let its : Mark = mark_of taken (served taken).counts in
@@ -215,15 +216,15 @@ module _ (config : Config) (are : AreNodes config.nodes) (steps : List Event) wh
           answers = ap (λ (w : World). on_link w.links taken.home taken.front) (one_more_step (start config) taken.before (Deliver taken.front taken.home))
               ∙ it.answers;
           where_open = it.where_open;
-          told = λ low. reply_there answered mark at_end.marks told.fit (mark_there taken) (home_acts it.counts) low;
-          lost = λ high said. loss_there answered mark at_end.marks told.fit (mark_there taken) (ap Home (it.done said)) high;
+          told = λ low. reply_there answered mark at_end.marks told.fit told.refused (mark_there taken) (home_acts it.counts) low;
+          lost = λ high said. loss_there answered mark at_end.marks told.fit told.refused (mark_there taken) (ap Home (it.done said)) high;
           undone = λ high said. none_count (is_about (λ what. true) ((taken.ask).id).conn ((taken.ask).id).command) (points_of at_end.marks)
               (no_point taken high (it.undone said));
         }
 
     -- ---- a point stands so
 
-    stands : (mark : Mark) (what : What) → Contains at_end.marks mark → CountsAs answered mark what → StandsAt config steps (point_as mark what)
+    stands : (mark : Mark) (what : What) → Contains at_end.marks mark → CountsAs ⊥ answered mark what → StandsAt config steps (point_as mark what)
     stands mark what there (as_reply acting low) = by (is_home_mark mark.kind) refl
       where
         by : (home : Bool) → is_home_mark mark.kind ≡ home → StandsAt config steps (point_as mark replied)
@@ -233,6 +234,7 @@ module _ (config : Config) (are : AreNodes config.nodes) (steps : List Event) wh
             (let its : Mark = mark_of taken (served taken).counts in
             let is : its ≡ mark = unique mark its there (mark_there taken) acting (home_acts (served taken).counts) same in
             let kinds : true ≡ false = sym (is_home (served taken).counts) ∙ just_kind (ap (λ (m : Mark). m.kind) is) ∙ e in cc))
+    stands mark what there (as_refusal none kind low) = absurd none
     stands mark what there (as_loss always high) =
         let made = All-contains IfHomeMade at_end.marks mark all_made there (just_kind always ∙ is_home Always) in at_home made.taken made.its_ask made.its_step
 
@@ -240,6 +242,6 @@ module _ (config : Config) (are : AreNodes config.nodes) (steps : List Event) wh
     unfolding history_of
     routed_points = record {
       asks = asks_answered;
-      points_stand = each_point answered (Contains at_end.marks) (StandsAt config steps) stands at_end.marks told.fit
+      points_stand = each_point answered (Contains at_end.marks) (StandsAt config steps) stands at_end.marks told.fit told.refused
           (λ k d h. Contains-get_or at_end.marks k d h);
     }

@@ -44,7 +44,7 @@ use Rattle.mur_config.proofs.NodesApart.{head_apart, tail_apart}
 use Rattle.cluster_core.proofs.Connections.OthersStay.{booted_tells}
 use Rattle.cluster_core.proofs.Connections.KeepsLaw.{IsHomeFor, KeepsLaw}
 use Rattle.cluster_core.proofs.Connections.KeepsLaw.ConnectionIs.{is_nobody}
-use Rattle.mark_history.proofs.Tally.{Fit, command_of}
+use Rattle.mark_history.proofs.Tally.{Fit, RefusesIf, command_of}
 use Rattle.mark_history.proofs.Marks.{Carries, Later, MarkedOnce}
 use Rattle.mark_history.proofs.Marks.Carries.{no_marks}
 use Rattle.mark_history.specs.declared.mark.Mark.{Mark}
@@ -363,6 +363,7 @@ start_keeps_for config are home_for =
         serials = λ conn. refl;
         ahead = λ conn. omega arith;
         fit = subst (λ m. Fit (λ conn. 0) m) (sym fresh.marks) fits_none;
+        refused = subst (λ m. All (RefusesIf ⊥) m) (sym fresh.marks) (λ k d h. absurd (omega arith));
       };
       requests = λ conn. no_requests (setting_of config);
       connections = λ conn. is_nobody (ap (λ c. value_at nat_cmp c conn) fresh.clients)
