@@ -41,7 +41,8 @@ use Rattle.point_links.specs.Barriers.{is_missing, is_refused, is_asked, EachBar
 use Rattle.point_links.specs.Carried.{turn_at}
 use Rattle.point_links.specs.Commands.{ClientCommand, WaitsOn, refused_turn}
 use Rattle.point_links.proofs.Told.{refused_so, server_waits, told_so}
-use Rattle.point_links.proofs.Works.{IsMissed, about_mailbox, is_make, may_work, misses, of_messages}
+use Rattle.point_links.proofs.Works.{about_mailbox, is_make, may_work, of_messages}
+use Rattle.serve_law.proofs.MissingAlike.{IsMissed, misses}
 use Rattle.session_core.specs.declared.result.OpResult.TheVariants.{Missing}
 
 make_about : (name : List ℕ) (work : Work) → work ≡ Make → ask_for name (asked_for name work).op ≡ about.Create name

@@ -88,21 +88,6 @@ pub about_mailbox : (name : List ℕ) (asks : Op) → is_of_messages asks ≡ tr
 about_mailbox name op.Create of = cc
 about_mailbox name asks of = refl
 
--- ---- a mailbox that the store hasn't
-
-pub record IsMissed (store : Store) (name : List ℕ) (work : Work) (serial : ℕ) (worked : Worked) : Type 0 where
-  pub stays : worked.left ≡ kept
-  pub shown : (session : Sess) → IsOfWork session work → turn_of session (asked_for name work).awaited Missing ≡ Some worked.turn
-
-pub misses : (store : Store) (name : List ℕ) (work : Work) (serial : ℕ) (full : Bool) → work ≢ Make
-    → IsMissed store name work serial (work_on name work serial full None)
-unfolding work_on asked_for turn_of append_on reply_to_append status_on reply_to_status select_on select_turn viewed_on viewed_in viewed_turn IsOfWork
-misses store name Make serial full ne = absurd (ne refl)
-misses store name (append_work message) serial full ne = record { stays = refl; shown = λ session own. refl }
-misses store name (status_work shown items) serial full ne = record { stays = refl; shown = λ session own. refl }
-misses store name (select_work it) serial full ne = record { stays = refl; shown = λ session own. refl }
-misses store name (viewed_work view it) serial full ne = record { stays = refl; shown = λ session own. ap (λ s. viewed_in s it Missing) own }
-
 -- any UIDVALIDITY will do
 pub may_work : (store : Store) (name : List ℕ) (serial : ℕ) (work : Work) → work ≢ Make → MayWork store name serial work
 unfolding MayWork

@@ -37,12 +37,12 @@ alike_of store home name (is_missing box held) = neither box held
 alike_of store home name (is_there held is) = both held is.at is.is_open is.box
 
 -- a session that has ended needs no mailbox
-ended_needs_none : (setting : Setting) (it : Command) (name : List ℕ) (work : Work) → need_of setting Ended it ≡ Mailbox name work → ⊥
+pub ended_needs_none : (setting : Setting) (it : Command) (name : List ℕ) (work : Work) → need_of setting Ended it ≡ Mailbox name work → ⊥
 unfolding need_of is_in
 ended_needs_none setting it name work h = cc
 
 -- a turn of a session that hasn't ended, by whether the turn ends it
-finished_so : (session : Sess) (reply : ReplyOf) (later : Option Sess) → (session ≡ Ended → ⊥)
+pub finished_so : (session : Sess) (reply : ReplyOf) (later : Option Sess) → (session ≡ Ended → ⊥)
     → finished_by session (Some (record { session = later; reply = reply }))
     ≡ record { session = session_after session later; need = Some (given_with reply (session_after session later)) }
 unfolding finished_by told_with given_with

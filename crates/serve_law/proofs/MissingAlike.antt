@@ -81,12 +81,12 @@ work_lacks home ask name (select_work it) ne none = ap (look_step home ask.selec
 work_lacks home ask name (viewed_work view it) ne none = view_lacks home ask view it none
 
 -- what the store does with a name that it hasn't
-record IsMissed (store : Store) (name : List ℕ) (work : Work) (serial : ℕ) (worked : Worked) : Type 0 where
-  free : MayWork store name serial work
-  stays : worked.left ≡ kept
-  shown : (session : Sess) → IsOfWork session work → turn_of session (asked_for name work).awaited Missing ≡ Some worked.turn
+pub record IsMissed (store : Store) (name : List ℕ) (work : Work) (serial : ℕ) (worked : Worked) : Type 0 where
+  pub free : MayWork store name serial work
+  pub stays : worked.left ≡ kept
+  pub shown : (session : Sess) → IsOfWork session work → turn_of session (asked_for name work).awaited Missing ≡ Some worked.turn
 
-misses : (store : Store) (name : List ℕ) (work : Work) (serial : ℕ) (full : Bool) → work ≢ Make
+pub misses : (store : Store) (name : List ℕ) (work : Work) (serial : ℕ) (full : Bool) → work ≢ Make
     → IsMissed store name work serial (work_on name work serial full None)
 unfolding work_on MayWork asked_for turn_of append_on reply_to_append status_on reply_to_status select_on select_turn viewed_on viewed_in viewed_turn IsOfWork
 misses store name Make serial full ne = absurd (ne refl)
