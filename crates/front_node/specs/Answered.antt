@@ -54,6 +54,11 @@ need_behind setting ways conn connection tag how (needs.Reply reply) = reads_on 
 need_behind setting ways conn connection tag how (needs.Leave reply) = ends_with conn connection how (reply_text tag reply)
 need_behind setting ways conn connection tag how (needs.Home name asking) = asks ways conn connection tag name asking
 
+-- the same of the command that the connection's stage tells
+abbrev pub need_at : Setting → Ways → ℕ → Connection → How → Need → Stage → Turned
+need_at setting ways conn connection how need (Waits tag it) = need_behind setting ways conn connection tag how need
+need_at setting ways conn connection how need stage = unchanged connection
+
 -- by what came of it. As long as no link breaks, every refusal is of a reserved name, and nothing is lost.
 abbrev pub by_then : Setting → Ways → ℕ → Connection → Tag → Waiting → Then → Turned
 by_then setting ways conn connection tag it (then.Sends sent) = waits_with connection tag it sent
