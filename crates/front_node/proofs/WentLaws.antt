@@ -1,6 +1,11 @@
 -- What comes of an answer, or of the master's OK: where the command waits on without a message, it waits as it did; and only a session that has begun
 -- asks a home.
-use Rattle.std.proofs.Common.{◌≡◌, ℕ, List, Option, None, Some, refl, sym, ap, ◌∙◌, subst}
+use Rattle.std.proofs.Common.{◌≡◌, ℕ, ◌+◌, nat_eq, Bool, true, List, Option, None, Some, refl, sym, ap, ◌∙◌, subst, arith}
+use Rattle.std.proofs.lemmas.Bool.Decides.{nat_tests}
+use Rattle.std.specs.Prelude.{◌==◌}
+use Rattle.link_msg.specs.declared.answer.BackAnswer.{BackAnswer}
+use Rattle.asking_core.specs.declared.waiting.At.{At}
+use Rattle.asking_core.specs.declared.waiting.At.TheVariants.{Home as at_home, Barrier as at_barrier}
 use Rattle.feed_core.specs.Feed.{Recs}
 use Rattle.link_msg.specs.declared.answer.AnswerBody.{AnswerBody}
 use Rattle.link_msg.specs.declared.answer.AnswerBody.TheVariants as answer
@@ -31,9 +36,10 @@ use Rattle.link_msg.specs.declared.how.How.TheVariants as how
 use Rattle.front_node.specs.declared.connection.Connection.{Connection}
 use Rattle.front_node.specs.declared.connection.Stage.{Stage}
 use Rattle.front_node.specs.declared.connection.Stage.TheVariants.{Waits}
-use Rattle.front_node.specs.Answered.{by_then, goes_on_by, need_at, need_behind, unchanged}
+use Rattle.front_node.specs.Answered.{answer_by, answer_comes, by_then, clears_at, goes_on_by, need_at, need_behind, ok_by, ok_comes, unchanged}
 use Rattle.front_node.specs.Behind.{ThenFits, does}
-use Rattle.front_node.specs.Taken.{Turned, Ways}
+use Rattle.front_node.specs.Stages.{clears}
+use Rattle.front_node.specs.Taken.{Turned, Ways, next_of}
 
 abbrev pub FitAt : Sess → Waiting → Sess → Waiting → Then → Type 0
 FitAt was it session later (then.Sends sent) = session ≡ was
@@ -118,3 +124,43 @@ module _ (setting : Setting) (ways : Ways) (conn : ℕ) (c : Connection) (tag : 
   went_done it later session what on is same fit =
       done_by session it later what is (subst (λ (w : WentOn). IsFit c.session it w) (sym same) fit)
       ∙ ap (λ (w : WentOn). goes_on_by setting ways conn c tag w) same
+
+-- the numbers are the same
+same_number : (one other : ℕ) → one ≡ other → (one == other) ≡ true
+same_number one other is = grind (arith, nat_tests, is)
+
+is_barrier : (at : At) (why : Why) → Some why ≡ clears at → at ≡ at_barrier why
+is_barrier (at_home server) why is = cc
+is_barrier (at_barrier other) why is = cc
+
+module _ (setting : Setting) (ways : Ways) (conn : ℕ) (c : Connection) (tag : Tag) (it later : Waiting) (session : Sess) (what : Then) (id : AskId)
+    (is : c.stage ≡ Waits tag it) (numbered : id ≡ next_of conn c) where
+  pub answer_done : (answer : BackAnswer) (master : List ℕ) → (answer.id).command ≡ c.answered + 1 → master ≡ ways.master
+      → record { session = session; waiting = later; then = what } ≡ answered master id c.session it answer.body
+      → does setting ways conn (record c { session = session; stage = Waits tag later }) what ≡ answer_comes setting ways conn c answer
+  unfolding answer_comes answer_by
+  answer_done answer master fits known came =
+      went_done setting ways conn c tag it later session what (answered master id c.session it answer.body) is came
+      (answered_fit master id c.session it answer.body)
+      ∙ ap (λ m. goes_on_by setting ways conn c tag (answered m id c.session it answer.body)) known
+      ∙ ap (λ i. goes_on_by setting ways conn c tag (answered ways.master i c.session it answer.body)) numbered
+      ∙ sym (
+      ap (λ b. answer_by setting ways conn c answer b c.stage) (same_number (answer.id).command (c.answered + 1) fits)
+      ∙ ap (answer_by setting ways conn c answer true) is)
+
+  pub ok_done : (ok : AskId) (why : Why) (recs : Recs) (master first : List ℕ) → ok.command ≡ c.answered + 1 → Some why ≡ clears it.at
+      → recs ≡ ways.recs → master ≡ ways.master → first ≡ ways.first
+      → record { session = session; waiting = later; then = what } ≡ cleared recs master first id c.session it why
+      → does setting ways conn (record c { session = session; stage = Waits tag later }) what ≡ ok_comes setting ways conn c ok
+  unfolding ok_comes ok_by
+  ok_done ok why recs master first fits at known asks begins came =
+      went_done setting ways conn c tag it later session what (cleared recs master first id c.session it why) is came
+      (cleared_fit recs master first id c.session it why)
+      ∙ ap (λ r. goes_on_by setting ways conn c tag (cleared r master first id c.session it why)) known
+      ∙ ap (λ m. goes_on_by setting ways conn c tag (cleared ways.recs m first id c.session it why)) asks
+      ∙ ap (λ f. goes_on_by setting ways conn c tag (cleared ways.recs ways.master f id c.session it why)) begins
+      ∙ ap (λ i. goes_on_by setting ways conn c tag (cleared ways.recs ways.master ways.first i c.session it why)) numbered
+      ∙ sym (
+      ap (λ b. ok_by setting ways conn c b c.stage) (same_number ok.command (c.answered + 1) fits)
+      ∙ ap (ok_by setting ways conn c true) is
+      ∙ ap (clears_at setting ways conn c tag it) (is_barrier it.at why at))

@@ -1,5 +1,6 @@
 use Rattle.std.proofs.Common.{sym, ◌∙◌, ap, arith}
 use Rattle.front_node.specs.Ended.{with_released}
+use Rattle.front_node.specs.Taken.{ways_by}
 use Rattle.front_node.proofs.PieceLaws.{rest_on, rest_some, still_read, piece_over, reader_over, ended_over, next_counts}
 use Rattle.front_node.proofs.connection.Connection.inputs_come.Goals as goal
 

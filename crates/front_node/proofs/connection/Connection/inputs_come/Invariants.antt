@@ -1,5 +1,6 @@
 use Rattle.std.proofs.Common.{◌≡◌, ◌+◌, ◌-◌, ◌≤◌, length, drop}
 use Rattle.front_node.specs.Room.{commands_of}
+use Rattle.front_node.specs.Taken.{ways_by}
 use Rattle.front_node.proofs.PieceLaws.{rest_comes}
 use Rattle.front_node.proofs.connection.Connection.inputs_come.Given as goal
 

@@ -1,4 +1,5 @@
 use Rattle.std.proofs.Common.{sym, ◌∙◌, arith}
+use Rattle.front_node.specs.Taken.{ways_by}
 use Rattle.front_node.proofs.WaitingLaws.{waiting_on, waiting_over, waiting_dropped, waiting_stays, taken_counts, taken_shortens}
 use Rattle.front_node.proofs.connection.Connection.waiting_come.Goals as goal
 

@@ -1,5 +1,6 @@
 use Rattle.std.proofs.Common.{◌≡◌, ◌≤◌, length}
 use Rattle.front_node.specs.Room.{commands_of}
+use Rattle.front_node.specs.Taken.{ways_by}
 use Rattle.front_node.proofs.WaitingLaws.{waiting_comes}
 use Rattle.front_node.proofs.connection.Connection.waiting_come.Given as goal
 
