@@ -1,5 +1,5 @@
 -- A connection whose command waits has a session that has begun, whatever comes.
-use Rattle.std.proofs.Common.{◌≡◌, ℕ, ◌+◌, Bool, true, false, List, [], ◌∷◌, Option, None, Some, refl, sym, ap, subst}
+use Rattle.std.proofs.Common.{◌≡◌, ℕ, ◌+◌, Bool, true, false, List, [], ◌∷◌, refl, sym, subst}
 use Rattle.std.specs.Prelude.{◌==◌}
 use Rattle.asking_core.specs.Answered.{WentOn, answered}
 use Rattle.asking_core.specs.Cleared.{cleared}
@@ -28,7 +28,7 @@ use Rattle.front_node.specs.declared.connection.Stage.{Stage}
 use Rattle.front_node.specs.declared.connection.Stage.TheVariants.{Reading, Waits, Ended}
 use Rattle.front_node.specs.Answered.{answer_by, answer_comes, by_then, clears_at, goes_on_by, need_behind, ok_by, ok_comes, reading_again}
 use Rattle.front_node.specs.Begun.{BegunAt, IsBegun}
-use Rattle.front_node.specs.Ended.{released, released_at, with_released}
+use Rattle.front_node.specs.Ended.{released_at, with_released}
 use Rattle.front_node.specs.Taken.{Turned, Ways, answers_last, answers_now, comes_at, input_comes, input_in, inputs_come, next_of, request_in, turned_by_need}
 use Rattle.front_node.proofs.WentLaws.{IsFit, FitAt, answered_fit, cleared_fit}
 

@@ -1,6 +1,6 @@
 -- What comes of an answer, or of the master's OK: where the command waits on without a message, it waits as it did; and only a session that has begun
 -- asks a home.
-use Rattle.std.proofs.Common.{◌≡◌, ℕ, ◌+◌, nat_eq, Bool, true, List, Option, None, Some, refl, sym, ap, ◌∙◌, subst, arith}
+use Rattle.std.proofs.Common.{◌≡◌, ℕ, ◌+◌, true, List, Option, None, Some, refl, sym, ap, ◌∙◌, subst, arith}
 use Rattle.std.proofs.lemmas.Bool.Decides.{nat_tests}
 use Rattle.std.specs.Prelude.{◌==◌}
 use Rattle.link_msg.specs.declared.answer.BackAnswer.{BackAnswer}
@@ -36,10 +36,10 @@ use Rattle.link_msg.specs.declared.how.How.TheVariants as how
 use Rattle.front_node.specs.declared.connection.Connection.{Connection}
 use Rattle.front_node.specs.declared.connection.Stage.{Stage}
 use Rattle.front_node.specs.declared.connection.Stage.TheVariants.{Waits}
-use Rattle.front_node.specs.Answered.{answer_by, answer_comes, by_then, clears_at, goes_on_by, need_at, need_behind, ok_by, ok_comes, unchanged}
+use Rattle.front_node.specs.Answered.{answer_by, answer_comes, by_then, clears_at, goes_on_by, need_behind, ok_by, ok_comes, unchanged}
 use Rattle.front_node.specs.Behind.{ThenFits, does}
 use Rattle.front_node.specs.Stages.{clears}
-use Rattle.front_node.specs.Taken.{Turned, Ways, next_of}
+use Rattle.front_node.specs.Taken.{Ways, next_of}
 
 abbrev pub FitAt : Sess → Waiting → Sess → Waiting → Then → Type 0
 FitAt was it session later (then.Sends sent) = session ≡ was

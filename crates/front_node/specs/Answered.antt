@@ -1,7 +1,6 @@
 -- What comes of an answer for the command that waits for it, and of the master's OK: it waits on, or its client is given its reply, and the inputs that
 -- waited come.
-use Rattle.std.specs.Prelude.{ℕ, ◌+◌, Bool, true, false, ◌==◌, List, [], ◌∷◌, ◌++◌}
-use Rattle.ask_routes.specs.declared.next.Why.{Why}
+use Rattle.std.specs.Prelude.{ℕ, ◌+◌, Bool, true, ◌==◌, List, [], ◌∷◌, ◌++◌}
 use Rattle.asking_core.specs.Answered.{WentOn, answered}
 use Rattle.asking_core.specs.Cleared.{cleared}
 use Rattle.asking_core.specs.declared.then.Then.{Then}

@@ -229,8 +229,8 @@ impl Front {
                     alloc,
                     setting: &self.setting,
                     replica: &self.replica,
-            master: &self.master,
-            first: &self.first,
+                    master: &self.master,
+                    first: &self.first,
                     conn,
                 };
                 let outs = slot.answer_comes(desk, answer)?;

@@ -6,8 +6,8 @@ ghost use Rattle.asking_core.specs.Cleared.{cleared};
 ghost use Rattle.asking_core.specs.declared.waiting.At.TheVariants.{Barrier};
 ghost use Rattle.front_node.specs.Stages.{asks_at, clears};
 
-use asking_core::{At, Routes, Then, Waiting};
 use ask_routes::Why;
+use asking_core::{At, Routes, Then, Waiting};
 use link_msg::AnswerBody;
 use mur_base::{Memory, NodeName};
 use session_core::Session;

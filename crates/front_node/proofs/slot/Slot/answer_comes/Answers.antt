@@ -1,4 +1,4 @@
-use Rattle.std.proofs.Common.{◌≡◌, sym, subst}
+use Rattle.std.proofs.Common.{sym, subst}
 use Rattle.front_node.specs.declared.connection.Connection.{Connection}
 use Rattle.front_node.specs.declared.slot.Held.{Held}
 use Rattle.front_node.specs.Begun.{IsBegun}
