@@ -1,0 +1,10 @@
+pub mod FrameLaws
+pub mod FramesLaws
+pub mod CommandLaws
+pub mod PieceLaws
+pub mod WaitingLaws
+pub mod WentLaws
+pub mod BegunLaws
+pub mod SlotLaws
+pub mod Counts
+pub mod StrangerLaw
