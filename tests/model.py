@@ -524,6 +524,8 @@ class Cluster:
         if word == b'CREATE':
             if box:
                 return False, b'NO [ALREADYEXISTS] mailbox exists'
+            if len(self.boxes) >= 4_096:
+                return False, LIMIT
             self.serial += 1
             self.boxes[name] = Box(self.serial)
             return True, b'OK CREATE completed'

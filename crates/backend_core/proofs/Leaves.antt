@@ -1,5 +1,7 @@
 -- What a step leaves of a home: it stays as it was, a mailbox is made, or one that is Open goes on with another content.
-use Rattle.std.proofs.Common.{◌≡◌, ℕ, ◌-◌, ◌^◌, Bool, true, false, nat_eq, List, Option, None, Some, refl, subst, sym}
+use Rattle.std.proofs.Common.{◌≡◌, ℕ, ◌-◌, ◌^◌, Bool, true, false, nat_eq, nat_le, List, length, Option, None, Some, refl, subst, sym}
+use Rattle.std.proofs.lemmas.Bool.{or_parts}
+use Rattle.mur_base.specs.declared.limits.TheConstants.{MAILBOX_LIMIT}
 use Rattle.mur_base.specs.declared.home.Phase.{Phase}
 use Rattle.mur_base.specs.declared.home.Phase.TheVariants.{Open, Pointer}
 use Rattle.mail_message.specs.Boxes.{Content}
@@ -12,7 +14,7 @@ use Rattle.backend_core.specs.HomeStep.{HomeStep, BoxStep, held_at, with_content
 use Rattle.backend_core.specs.HomeLaws.{is_open}
 use Rattle.mail_store.specs.Kept.{IsLaterContent, AreUidsBelowNext}
 use Rattle.backend_core.specs.Refusal.{refusal, refusal_in, is_other}
-use Rattle.backend_core.specs.Create.{create_step, make_at_home, with_new}
+use Rattle.backend_core.specs.Create.{create_step, is_full, make_at_home, with_new}
 use Rattle.backend_core.specs.Served.{served, served_unless}
 use Rattle.backend_core.specs.Step.{home_step}
 use Rattle.backend_core.proofs.Serves.{Serves, creates, works, tells, serves}
@@ -23,15 +25,20 @@ pub data Leaves (home : Backend) (name : List ℕ) (after : Backend) : Type 0 wh
   turns : (held : Held) (content : Content) → held_at home name ≡ Some held → is_open held.phase ≡ true → IsLaterContent held.content content
       → (AreUidsBelowNext held.content → AreUidsBelowNext content) → after ≡ with_content home name held content → Leaves home name after
 
-make_leaves : (home : Backend) (name : List ℕ) (spent : Bool) → nat_eq home.last_serial (2 ^ 32 - 1) ≡ spent → held_at home name ≡ None
-    → Leaves home name (make_at_home home name spent).home
+-- a home that isn't full has a UIDVALIDITY left
+pub not_last : (home : Backend) → is_full home ≡ false → nat_eq home.last_serial (2 ^ 32 - 1) ≡ false
+unfolding is_full
+not_last home room = (or_parts (nat_le MAILBOX_LIMIT (length home.held)) (nat_eq home.last_serial (2 ^ 32 - 1)) room).1
+
+make_leaves : (home : Backend) (name : List ℕ) (full : Bool) → is_full home ≡ full → held_at home name ≡ None
+    → Leaves home name (make_at_home home name full).home
 unfolding make_at_home
 make_leaves home name true e none = stays refl
-make_leaves home name false e none = makes none e refl
+make_leaves home name false e none = makes none (not_last home e) refl
 
 create_leaves : (home : Backend) (name : List ℕ) (found : Option Held) → held_at home name ≡ found → Leaves home name (create_step home name found).home
 unfolding create_step
-create_leaves home name None found = make_leaves home name (nat_eq home.last_serial (2 ^ 32 - 1)) refl found
+create_leaves home name None found = make_leaves home name (is_full home) refl found
 create_leaves home name (Some held) found = stays refl
 
 -- an operation on messages is carried out only where the name is Open

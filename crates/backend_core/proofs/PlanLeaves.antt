@@ -29,7 +29,7 @@ use Rattle.backend_core.specs.declared.op_plan.OpPlan.{OpPlan}
 use Rattle.backend_core.specs.declared.response.Response.{Response}
 use Rattle.backend_core.specs.Append.{adds_within_limits, append_plan, with_uids}
 use Rattle.backend_core.specs.AskPlan.{ask_plan, op_plan}
-use Rattle.backend_core.specs.Create.{create_plan, make_plan, with_new}
+use Rattle.backend_core.specs.Create.{create_plan, is_full, make_plan, with_new}
 use Rattle.backend_core.specs.Expunge.{expunge_plan}
 use Rattle.backend_core.specs.Flags.{differing, flags_plan, relabels_unless}
 use Rattle.backend_core.specs.HomeLaws.{is_open}
@@ -41,7 +41,7 @@ use Rattle.backend_core.specs.Refusal.{refusal, is_other}
 use Rattle.backend_core.specs.Summaries.{summaries_plan}
 use Rattle.backend_core.proofs.AddedLaw.{added_makes}
 use Rattle.backend_core.proofs.Entries.{entry_makes, make_makes}
-use Rattle.backend_core.proofs.Leaves.{Leaves, stays, makes, turns, served_open}
+use Rattle.backend_core.proofs.Leaves.{Leaves, stays, makes, turns, not_last, served_open}
 
 -- ---- the entry of each operation
 
@@ -157,15 +157,15 @@ gone_by home name held only found opened =
     writes_changes held (removals (expunged_uids held.content only)) found opened (expunged_follows held.content only) (expunged_below held.content only)
     (gone_home home name held only found opened)
 
-make_by : (home : Backend) (name : List ℕ) (spent : Bool) → nat_eq home.last_serial (2 ^ 32 - 1) ≡ spent → held_at home name ≡ None
-    → Left home name (make_plan home.last_serial name spent)
+make_by : (home : Backend) (name : List ℕ) (full : Bool) → is_full home ≡ full → held_at home name ≡ None
+    → Left home name (make_plan home.last_serial name full)
 unfolding make_plan
 make_by home name true e none = writes_nothing refl
-make_by home name false e none = writes_new none e (make_makes home name)
+make_by home name false e none = writes_new none (not_last home e) (make_makes home name)
 
-create_by : (home : Backend) (name : List ℕ) (found : Option Held) → held_at home name ≡ found → Left home name (create_plan home.last_serial name found)
+create_by : (home : Backend) (name : List ℕ) (found : Option Held) → held_at home name ≡ found → Left home name (create_plan home name found)
 unfolding create_plan
-create_by home name None found = make_by home name (nat_eq home.last_serial (2 ^ 32 - 1)) refl found
+create_by home name None found = make_by home name (is_full home) refl found
 create_by home name (Some held) found = writes_nothing refl
 
 -- ---- each ask

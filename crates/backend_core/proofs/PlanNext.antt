@@ -74,15 +74,15 @@ unfolding relabels_unless
 next_relabels name content uids mode flags true = tt
 next_relabels name content uids mode flags false = next_one _ _ tt
 
-next_make : (last : ℕ) (name : List ℕ) (spent : Bool) → Next (make_plan last name spent)
+next_make : (last : ℕ) (name : List ℕ) (full : Bool) → Next (make_plan last name full)
 unfolding make_plan
 next_make last name true = tt
 next_make last name false = (tt, (tt, tt))
 
-next_create : (last : ℕ) (name : List ℕ) (found : Option Held) → Next (create_plan last name found)
+next_create : (home : Backend) (name : List ℕ) (found : Option Held) → Next (create_plan home name found)
 unfolding create_plan
-next_create last name None = next_make last name _
-next_create last name (Some held) = tt
+next_create home name None = next_make home.last_serial name _
+next_create home name (Some held) = tt
 
 abbrev NextIf : Option OpPlan → Type 0
 NextIf None = Unit {0}
@@ -90,7 +90,7 @@ NextIf (Some plan) = Next plan
 
 next_op : (home : Backend) (ask : FrontAsk) (op : Op) → NextIf (op_plan home ask op)
 unfolding op_plan append_plan look_plan read_plan summaries_plan flags_plan expunge_plan
-next_op home ask Create = next_create home.last_serial ask.name (held_at home ask.name)
+next_op home ask Create = next_create home ask.name (held_at home ask.name)
 next_op home ask (Append messages) =
     next_plans ask.selected _ (held_at home ask.name) (λ content. next_adds ask.name content messages (append_fault content messages) refl)
 next_op home ask (Read uids sees) = next_plans ask.selected _ (held_at home ask.name) (λ content. next_seen ask.name content uids sees)

@@ -1,5 +1,5 @@
 -- A step as its entries make it is the operation that was asked for.
-use Rattle.std.proofs.Common.{◌≡◌, ℕ, ◌+◌, ◌-◌, ◌^◌, Bool, true, false, nat_eq, List, [], length, Option, None, Some, refl, sym, ◌∙◌, ap}
+use Rattle.std.proofs.Common.{◌≡◌, ℕ, ◌+◌, Bool, true, false, List, [], length, Option, None, Some, refl, sym, ◌∙◌, ap}
 use Rattle.std.specs.Ordering.{nat_cmp}
 use Rattle.std.specs.Cmp.Lexicographic.{slice_cmp}
 use Rattle.mur_base.proofs.MapLaws.{names_apart, value_at-with_value}
@@ -26,7 +26,7 @@ use Rattle.backend_core.specs.declared.op_plan.Telling.TheVariants.{Look as look
 use Rattle.backend_core.specs.declared.response.Response.{Response}
 use Rattle.backend_core.specs.Append.{adds_within_limits, append_plan, append_step, append_within_limits}
 use Rattle.backend_core.specs.AskPlan.{ask_plan, op_plan}
-use Rattle.backend_core.specs.Create.{create_plan, create_step, make_at_home, make_plan}
+use Rattle.backend_core.specs.Create.{create_plan, create_step, is_full, make_at_home, make_plan}
 use Rattle.backend_core.specs.Expunge.{expunge_plan, expunge_step, expunge_to, removes}
 use Rattle.backend_core.specs.Flags.{differing, flags_plan, flags_step, flags_to, flags_unless, relabels_to, relabels_unless}
 use Rattle.backend_core.specs.HomeLaws.{is_open, RisesAt}
@@ -171,14 +171,14 @@ summaries_do home name selected uids (Some held) found = summaries_unless_do hom
 
 -- ---- CREATE
 
-make_does : (home : Backend) (name : List ℕ) (spent : Bool) → carried home (make_plan home.last_serial name spent) ≡ make_at_home home name spent
+make_does : (home : Backend) (name : List ℕ) (full : Bool) → carried home (make_plan home.last_serial name full) ≡ make_at_home home name full
 unfolding make_plan make_at_home told_after
 make_does home name true = refl
 make_does home name false = ap (λ (h : Backend). answers h (done nothing no_snapshot)) (make_makes home name)
 
-create_does : (home : Backend) (name : List ℕ) (found : Option Held) → carried home (create_plan home.last_serial name found) ≡ create_step home name found
+create_does : (home : Backend) (name : List ℕ) (found : Option Held) → carried home (create_plan home name found) ≡ create_step home name found
 unfolding create_plan create_step told_after
-create_does home name None = make_does home name (nat_eq home.last_serial (2 ^ 32 - 1))
+create_does home name None = make_does home name (is_full home)
 create_does home name (Some held) = refl
 
 -- ---- each ask

@@ -15,7 +15,7 @@ use Rattle.backend_core.specs.Read.{read_plan}
 use Rattle.backend_core.specs.Summaries.{summaries_plan}
 
 unfoldable pub op_plan : Backend → FrontAsk → Op → Option OpPlan
-op_plan home ask Create = Some (create_plan home.last_serial ask.name (held_at home ask.name))
+op_plan home ask Create = Some (create_plan home ask.name (held_at home ask.name))
 op_plan home ask (Append messages) = Some (append_plan ask.name ask.selected messages (held_at home ask.name))
 op_plan home ask Look = Some (look_plan ask.name ask.selected (held_at home ask.name))
 op_plan home ask (Read uids sees) = Some (read_plan ask.name ask.selected uids sees (held_at home ask.name))

@@ -1,7 +1,8 @@
 -- CREATE at a home of mailboxes (RFC 9051, 6.3.4): the new mailbox's UIDVALIDITY is one more than the last.
-use Rattle.std.specs.Prelude.{ℕ, ◌+◌, ◌-◌, ◌^◌, Bool, true, false, ◌==◌, List, [], ◌∷◌, Option, None, Some}
+use Rattle.std.specs.Prelude.{ℕ, ◌+◌, ◌-◌, ◌^◌, Bool, true, false, ◌||◌, ◌==◌, nat_le, List, [], ◌∷◌, length, Option, None, Some}
 use Rattle.std.specs.Ordering.{nat_cmp}
 use Rattle.std.specs.Cmp.Lexicographic.{slice_cmp}
+use Rattle.mur_base.specs.declared.limits.TheConstants.{MAILBOX_LIMIT}
 use Rattle.mur_base.specs.Map.{with_entry}
 use Rattle.mur_base.specs.declared.home.Phase.{Phase}
 use Rattle.mur_base.specs.declared.home.Phase.TheVariants.{Open}
@@ -29,7 +30,11 @@ with_new home name = record home {
   last_serial = home.last_serial + 1;
 }
 
--- where no mailbox is, by whether every UIDVALIDITY was given
+-- as many mailboxes as there may be: this server's limit; or the last UIDVALIDITY was given, which no home of so few ever comes to
+unfoldable pub is_full : Backend → Bool
+is_full home = nat_le MAILBOX_LIMIT (length home.held) || home.last_serial == 2 ^ 32 - 1
+
+-- where no mailbox is, by whether the home is full
 unfoldable pub make_at_home : Backend → List ℕ → Bool → HomeStep
 make_at_home home name true = answers home (refused_by_home Limit)
 make_at_home home name false = answers (with_new home name) (done nothing no_snapshot)
@@ -40,7 +45,7 @@ created_in Open = refused_by_home Exists
 created_in _ = not_now
 
 unfoldable pub create_step : Backend → List ℕ → Option Held → HomeStep
-create_step home name None = make_at_home home name (home.last_serial == 2 ^ 32 - 1)
+create_step home name None = make_at_home home name (is_full home)
 create_step home name (Some held) = answers home (created_in held.phase)
 
 -- what is written where no mailbox is: it is made, and open at once
@@ -48,7 +53,7 @@ unfoldable pub make_plan : ℕ → List ℕ → Bool → OpPlan
 make_plan last name true = tells_at_once (refused_by_home Limit)
 make_plan last name false = record { entries = Make name (last + 1) (first_acl name) ∷ Opened name ∷ []; telling = Now (done nothing no_snapshot) }
 
--- by the last UIDVALIDITY, and by what the home has of the name
-unfoldable pub create_plan : ℕ → List ℕ → Option Held → OpPlan
-create_plan last name None = make_plan last name (last == 2 ^ 32 - 1)
-create_plan last name (Some held) = tells_at_once (created_in held.phase)
+-- by what the home has of the name
+unfoldable pub create_plan : Backend → List ℕ → Option Held → OpPlan
+create_plan home name None = make_plan home.last_serial name (is_full home)
+create_plan home name (Some held) = tells_at_once (created_in held.phase)

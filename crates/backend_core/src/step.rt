@@ -30,7 +30,7 @@ pub fn serve(alloc: Global, home: &Backend, ask: FrontAsk) -> Result<Option<OpPl
     } = ask;
     let found = home.held.get(&name);
     let plan = match op {
-        Op::Create => create(alloc, home.last_serial, name, found),
+        Op::Create => create(alloc, home, name, found),
         Op::Append(messages) => append(alloc, name, selected, messages, found),
         Op::Look => look(alloc, name, selected, found),
         Op::Read(uids, sees) => read(alloc, name, selected, &uids, sees, found),

@@ -5,7 +5,7 @@ use ask_routes::{
 use case_base::{Fault, Steps, bytes_of, put_steps, wide_number_of};
 use feed_core::Replica;
 use link_msg::{AnswerBody, Op};
-use mur_base::{AskId, Bytes, MailName, Memory, NodeName, mail_name, node_name, put_number};
+use mur_base::{AskId, Bytes, Memory, NodeName, mail_name, node_name, put_number};
 use schedule_text::put_text;
 use std::alloc::Global;
 
@@ -44,16 +44,30 @@ impl Steps for Stage {
 
 /// Prints what is done behind an answer of a home.
 fn put_behind_answer(alloc: Global, text: &str, out: &mut Bytes) -> Result<(), Fault> {
-    let body = match text.split_once(' ') {
-        Some(("moved", server)) => AnswerBody::Moved(node_name(alloc, server.as_bytes())?),
-        Some(("unreached", node)) => AnswerBody::Unreached(node_name(alloc, node.as_bytes())?),
-        Some(_) => return Err(Fault::Unreadable("no such answer")),
-        None if text == "lost" => AnswerBody::Lost,
-        None => AnswerBody::NotNow,
-    };
-    match behind_answer(alloc, &body)? {
-        Some(next) => Ok(put_next(&next, out)?),
+    match &next_behind(alloc, text)? {
+        Some(next) => Ok(put_next(next, out)?),
         None => Ok(out.extend_from_slice(b"nothing")?),
+    }
+}
+
+fn next_behind(alloc: Global, text: &str) -> Result<Option<Next>, Fault> {
+    let body = body_of(alloc, text)?;
+    Ok(behind_answer(alloc, &body)?)
+}
+
+fn body_of(alloc: Global, text: &str) -> Result<AnswerBody, Fault> {
+    let Some((word, node)) = text.split_once(' ') else {
+        return Ok(if text == "lost" {
+            AnswerBody::Lost
+        } else {
+            AnswerBody::NotNow
+        });
+    };
+    let node = node_name(alloc, node.as_bytes())?;
+    match word {
+        "moved" => Ok(AnswerBody::Moved(node)),
+        "unreached" => Ok(AnswerBody::Unreached(node)),
+        _ => Err(Fault::Unreadable("no such answer")),
     }
 }
 
@@ -73,17 +87,20 @@ fn put_behind_ok(alloc: Global, stage: &Stage, text: &str, out: &mut Bytes) -> R
 
 /// What a command is about.
 fn about(alloc: Global, text: &str) -> Result<AskFor, Fault> {
-    match text.split_once(' ') {
-        Some(("look", name)) => Ok(AskFor::at(named(alloc, name)?, &Op::Look)),
-        Some(("delete", name)) => Ok(AskFor::at(named(alloc, name)?, &Op::Delete)),
-        Some(("create", name)) => Ok(AskFor::at(named(alloc, name)?, &Op::Create)),
-        Some(_) => Err(Fault::Unreadable("no such command")),
-        None => Ok(AskFor::List),
-    }
+    let Some((word, name)) = text.split_once(' ') else {
+        return Ok(AskFor::List);
+    };
+    let name = mail_name(alloc, name.as_bytes())?;
+    Ok(AskFor::at(name, &op_of(word)?))
 }
 
-fn named(alloc: Global, name: &str) -> Result<MailName, Fault> {
-    Ok(mail_name(alloc, name.as_bytes())?)
+fn op_of(word: &str) -> Result<Op, Fault> {
+    match word {
+        "look" => Ok(Op::Look),
+        "delete" => Ok(Op::Delete),
+        "create" => Ok(Op::Create),
+        _ => Err(Fault::Unreadable("no such command")),
+    }
 }
 
 fn put_next(next: &Next, out: &mut Bytes) -> Result<(), Memory> {

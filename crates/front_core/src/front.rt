@@ -193,7 +193,8 @@ impl Front {
     }
 }
 
-fn greeting(alloc: Global) -> Result<Bytes, Memory>
+/// What a client that connects is given.
+pub fn greeting(alloc: Global) -> Result<Bytes, Memory>
     ensures { IfOk result (λ line. line ≡ greeting) }
 {
     let mut line = Bytes::new(alloc);

@@ -13,7 +13,9 @@ mod slot;
 mod taken;
 mod waiting;
 
+pub use answered::given;
 pub use connection::{Connection, OpenAsk, Stage};
-pub use front::Front;
+pub use front::{Front, greeting};
 pub use reader::Reader;
 pub use slot::Slot;
+pub use taken::{bye_line, goes_on, reply_bytes, reply_of};

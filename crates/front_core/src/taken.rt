@@ -150,7 +150,7 @@ impl Connection {
 }
 
 /// The client is asked to go on.
-fn goes_on(alloc: Global, conn: u64, why: Continuation, outs: &mut Outs) -> Result<(), Memory>
+pub fn goes_on(alloc: Global, conn: u64, why: Continuation, outs: &mut Outs) -> Result<(), Memory>
     ensures { OnOk result (outs.new ≡ outs.old ++ Client conn (continuation_line why) ∷ []) }
 {
     outs.push(Out::Client(conn, continuation_line(alloc, why)?))
@@ -164,7 +164,8 @@ fn continuation_line(alloc: Global, why: Continuation) -> Result<Bytes, Memory>
     Ok(line)
 }
 
-fn bye_line(alloc: Global, fault: FrameFault) -> Result<Bytes, Memory>
+/// The BYE line that tells of a fault.
+pub fn bye_line(alloc: Global, fault: FrameFault) -> Result<Bytes, Memory>
     ensures { IfOk result (λ line. line ≡ bye_line (bye_of fault)) }
 {
     let mut line = Bytes::new(alloc);
@@ -182,7 +183,8 @@ fn bye_of(fault: FrameFault) -> Bye
     }
 }
 
-fn reply_of(alloc: Global, verdict: Verdict) -> Reply
+/// A reply without lines of its own.
+pub fn reply_of(alloc: Global, verdict: Verdict) -> Reply
     ensures { result ≡ reply_of verdict }
 {
     Reply {

@@ -1,7 +1,6 @@
 -- What comes of an answer for the command that waits for it, and of the master's OK: it waits on, or its client is given its reply, and the inputs that
 -- waited come.
-use Rattle.std.specs.Prelude.{ℕ, ◌+◌, Bool, true, false, ◌==◌, List, [], ◌∷◌, ◌++◌}
-use Rattle.ask_routes.specs.declared.next.Why.{Why}
+use Rattle.std.specs.Prelude.{ℕ, ◌+◌, Bool, true, ◌==◌, List, [], ◌∷◌, ◌++◌}
 use Rattle.asking_core.specs.Answered.{WentOn, answered}
 use Rattle.asking_core.specs.Cleared.{cleared}
 use Rattle.asking_core.specs.declared.then.Then.{Then}
@@ -53,6 +52,11 @@ abbrev pub need_behind : Setting → Ways → ℕ → Connection → Tag → How
 need_behind setting ways conn connection tag how (needs.Reply reply) = reads_on setting ways conn connection how (reply_text tag reply)
 need_behind setting ways conn connection tag how (needs.Leave reply) = ends_with conn connection how (reply_text tag reply)
 need_behind setting ways conn connection tag how (needs.Home name asking) = asks ways conn connection tag name asking
+
+-- the same of the command that the connection's stage tells
+abbrev pub need_at : Setting → Ways → ℕ → Connection → How → Need → Stage → Turned
+need_at setting ways conn connection how need (Waits tag it) = need_behind setting ways conn connection tag how need
+need_at setting ways conn connection how need stage = unchanged connection
 
 -- by what came of it. As long as no link breaks, every refusal is of a reserved name, and nothing is lost.
 abbrev pub by_then : Setting → Ways → ℕ → Connection → Tag → Waiting → Then → Turned

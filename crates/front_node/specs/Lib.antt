@@ -1,5 +1,7 @@
 pub mod Taken
 pub mod Answered
+pub mod Behind
+pub mod Begun
 pub mod Ended
 pub mod Slots
 pub mod Front

@@ -1,6 +1,7 @@
 -- What a connection is at, as tests.
-use Rattle.std.specs.Prelude.{ℕ, nat_eq, Bool, true, false, List}
+use Rattle.std.specs.Prelude.{ℕ, nat_eq, Bool, true, false, List, Option, None, Some}
 use Rattle.std.specs.Cmp.Lexicographic.{pointwise}
+use Rattle.ask_routes.specs.declared.next.Why.{Why}
 use Rattle.asking_core.specs.declared.waiting.At.{At}
 use Rattle.asking_core.specs.declared.waiting.At.TheVariants.{Home, Barrier}
 use Rattle.front_node.specs.declared.connection.Stage.{Stage}
@@ -22,3 +23,8 @@ asks_at (Barrier why) node = false
 unfoldable pub has_asked : Stage → List ℕ → Bool
 has_asked (Waits tag it) node = asks_at it.at node
 has_asked stage node = false
+
+-- why the master is asked for a command that waits for its OK
+abbrev pub clears : At → Option Why
+clears (Home server) = None
+clears (Barrier why) = Some why

@@ -42,6 +42,9 @@ pub record Ways : Type 0 where
   pub master : List ℕ
   pub first : List ℕ
 
+abbrev pub ways_by : Recs → List ℕ → List ℕ → Ways
+ways_by recs master first = record { recs = recs; master = master; first = first }
+
 -- a connection, and what it let out
 pub record Turned : Type 0 where
   pub connection : Connection

@@ -55,7 +55,7 @@ use Rattle.mur_model.specs.Select.{select_on, select_told, unselected}
 use Rattle.mur_model.specs.Search.{search_told}
 use Rattle.mur_model.specs.Selected.{gone, rows_of, with_news}
 use Rattle.mur_model.specs.Status.{status_on, status_reply}
-use Rattle.mur_model.specs.Store.{box_at, is_spent}
+use Rattle.mur_model.specs.Store.{box_at, is_full}
 use Rattle.mur_model.specs.StoreFlags.{stored_at, store_told, store_refused, own_lines}
 use Rattle.mur_model.specs.Viewing.{found_gone, viewed_on, work_there}
 use Rattle.mur_model.proofs.EachNeed.{OfAnswers, OfWorks, each_by_works, of_refusals}
@@ -142,15 +142,15 @@ count_ends shown items seen = refl
 
 -- the work at a mailbox
 
-made_ends : (name : List ℕ) (serial : ℕ) (spent : Bool) → TurnEnds (make name serial spent).turn
+made_ends : (name : List ℕ) (serial : ℕ) (full : Bool) → TurnEnds (make name serial full).turn
 unfolding make ends
 made_ends name serial true = refl
 made_ends name serial false = refl
 
-created_ends : (name : List ℕ) (serial : ℕ) (spent : Bool) (box : Option Content) → TurnEnds (create_on name serial spent box).turn
+created_ends : (name : List ℕ) (serial : ℕ) (full : Bool) (box : Option Content) → TurnEnds (create_on name serial full box).turn
 unfolding create_on ends
-created_ends name serial spent (Some there) = refl
-created_ends name serial spent None = made_ends name serial spent
+created_ends name serial full (Some there) = refl
+created_ends name serial full None = made_ends name serial full
 
 appended_by : (message : Message) (box : Content) (fault : Option StoreFault) → TurnEnds (append_to message box fault).turn
 unfolding append_to append_reply ends
@@ -208,16 +208,16 @@ view_ends view work None = gone_ends
 view_ends view work (Some box) =
     either_ends (box.serial == view.serial) (work_there view work box) found_gone (there_ends view work box) gone_ends
 
-pub work_ends : (name : List ℕ) (work : Work) (serial : ℕ) (spent : Bool) (box : Option Content) → TurnEnds (work_on name work serial spent box).turn
+pub work_ends : (name : List ℕ) (work : Work) (serial : ℕ) (full : Bool) (box : Option Content) → TurnEnds (work_on name work serial full box).turn
 unfolding work_on
-work_ends name Make serial spent box = created_ends name serial spent box
-work_ends name (append_work message) serial spent box = appended_ends message box
-work_ends name (status_work shown items) serial spent box = counted_ends shown items box
-work_ends name (select_work it) serial spent box = selected_ends it name box
-work_ends name (viewed_work view it) serial spent box = view_ends view it box
+work_ends name Make serial full box = created_ends name serial full box
+work_ends name (append_work message) serial full box = appended_ends message box
+work_ends name (status_work shown items) serial full box = counted_ends shown items box
+work_ends name (select_work it) serial full box = selected_ends it name box
+work_ends name (viewed_work view it) serial full box = view_ends view it box
 
 pub worked_ends : (store : Store) (name : List ℕ) (work : Work) (serial : ℕ) → TurnEnds (worked_at store name work serial).turn
-worked_ends store name work serial = work_ends name work serial (is_spent store.given) (box_at store name)
+worked_ends store name work serial = work_ends name work serial (is_full store) (box_at store name)
 
 -- what a command needs
 

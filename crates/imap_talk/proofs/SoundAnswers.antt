@@ -24,7 +24,7 @@ use Rattle.mur_model.specs.Answer.{answer_of}
 use Rattle.mur_model.specs.AtOnce.{told_at_once}
 use Rattle.mur_model.specs.History.{Course}
 use Rattle.mur_model.specs.Relocation.{refused_for}
-use Rattle.mur_model.specs.Store.{box_at, is_spent}
+use Rattle.mur_model.specs.Store.{box_at, is_full}
 use Rattle.mur_model.proofs.EachNeed.{OfAnswers, OfBegun, OfViewed, each_need}
 use Rattle.mur_model.proofs.EachAnswer.{Keeps}
 use Rattle.imap_command.specs.Ruled.{IsDate, IsRuled}
@@ -100,7 +100,7 @@ need_sound setting session it date_is sound = each_need (begun_sound setting dat
 
 worked_sound : (store : Store) (name : List ℕ) (work : Work) (serial : ℕ) → IsSoundStore store → SoundWork work
     → SoundWorked (worked_at store name work serial)
-worked_sound store name work serial all sound = work_sound name work serial (is_spent store.given) (box_at store name) sound (box_is store name all)
+worked_sound store name work serial all sound = work_sound name work serial (is_full store) (box_at store name) sound (box_is store name all)
 
 act_sound : (store : Store) (session : Sess) (serial : ℕ) (need : Needed) → IsSoundStore store → SoundNeed need
     → SoundReply (act_by store session serial need).reply

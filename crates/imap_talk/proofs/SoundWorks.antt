@@ -169,15 +169,15 @@ SoundWork (status_work shown items) = IsPlain shown
 SoundWork (select_work it) = IsPlain it.shown
 SoundWork (viewed_work view work) = SoundViewWork work
 
-made_sound : (name : List ℕ) (serial : ℕ) (spent : Bool) → SoundWorked (make name serial spent)
+made_sound : (name : List ℕ) (serial : ℕ) (full : Bool) → SoundWorked (make name serial full)
 unfolding make IsSoundVerdict
 made_sound name serial true = record { left = tt; reply = record { lines = All-nil IsSoundLine; verdict = tt } }
 made_sound name serial false = record { left = All-nil IsSoundMessage; reply = record { lines = All-nil IsSoundLine; verdict = refl } }
 
-created_sound : (name : List ℕ) (serial : ℕ) (spent : Bool) (box : Option Content) → SoundWorked (create_on name serial spent box)
+created_sound : (name : List ℕ) (serial : ℕ) (full : Bool) (box : Option Content) → SoundWorked (create_on name serial full box)
 unfolding create_on IsSoundVerdict
-created_sound name serial spent (Some there) = record { left = tt; reply = record { lines = All-nil IsSoundLine; verdict = tt } }
-created_sound name serial spent None = made_sound name serial spent
+created_sound name serial full (Some there) = record { left = tt; reply = record { lines = All-nil IsSoundLine; verdict = tt } }
+created_sound name serial full None = made_sound name serial full
 
 appended_by : (message : Message) (box : Content) (fault : Option StoreFault) → IsSoundMessage message → IsSoundBox box
     → SoundWorked (append_to message box fault)
@@ -304,11 +304,11 @@ view_sound view work None sound all = gone_sound
 view_sound view work (Some box) sound all =
     either_sound (box.serial == view.serial) (work_there view work box) found_gone (there_sound view work box sound all) gone_sound
 
-pub work_sound : (name : List ℕ) (work : Work) (serial : ℕ) (spent : Bool) (box : Option Content) → SoundWork work → IfSome box IsSoundBox
-    → SoundWorked (work_on name work serial spent box)
+pub work_sound : (name : List ℕ) (work : Work) (serial : ℕ) (full : Bool) (box : Option Content) → SoundWork work → IfSome box IsSoundBox
+    → SoundWorked (work_on name work serial full box)
 unfolding work_on
-work_sound name Make serial spent box sound all = created_sound name serial spent box
-work_sound name (append_work message) serial spent box sound all = appended_sound message box sound all
-work_sound name (status_work shown items) serial spent box sound all = counted_sound shown items box sound
-work_sound name (select_work it) serial spent box sound all = selected_sound it name box sound all
-work_sound name (viewed_work view it) serial spent box sound all = view_sound view it box sound all
+work_sound name Make serial full box sound all = created_sound name serial full box
+work_sound name (append_work message) serial full box sound all = appended_sound message box sound all
+work_sound name (status_work shown items) serial full box sound all = counted_sound shown items box sound
+work_sound name (select_work it) serial full box sound all = selected_sound it name box sound all
+work_sound name (viewed_work view it) serial full box sound all = view_sound view it box sound all

@@ -20,8 +20,7 @@ use Rattle.back_links.specs.OneHome.{IsNamedAt}
 use Rattle.back_links.specs.Validities.{HasValidity}
 use Rattle.back_links.proofs.OneHome.{validities_differ}
 use Rattle.store_links.specs.Shown.{Homes, IsMailboxOf, RecordShows, StateShows, content_at}
-use Rattle.store_links.proofs.BoxesLaw.{as_many, same_names}
-use Rattle.store_links.proofs.GivenLaw.{not_spent}
+use Rattle.store_links.proofs.BoxesLaw.{as_many, full_alike, same_names}
 use Rattle.many_links.specs.Murder.{Murder, held_in, homes_of}
 use Rattle.many_links.specs.ManyHold.{ManyHold}
 use Rattle.many_links.specs.OpenNames.{MailboxesAreBoxes, BoxesDiffer}
@@ -30,7 +29,7 @@ pub mailboxes_are_boxes : MailboxesAreBoxes
 mailboxes_are_boxes murder given store hold = record {
   names = same_names murder.master.table (homes_of murder.nodes) store hold.shows;
   many = as_many murder.master.table (homes_of murder.nodes) store hold.shows hold.counted;
-  left = λ below. not_spent murder.master.table store given hold.gave hold.serials below;
+  full = full_alike murder.master.table (homes_of murder.nodes) store hold.shows hold.counted;
 }
 
 -- ---- a box is at the backend of its record

@@ -1,12 +1,13 @@
 -- What follows for names and mailboxes.
-use Rattle.std.specs.Prelude.{◌≡◌, ℕ, ◌<◌, ◌-◌, ◌^◌, true, false, List, length, None, Some}
+use Rattle.std.specs.Prelude.{◌≡◌, ℕ, nat_le, true, false, List, length, None, Some}
 use Rattle.std.specs.Map.{keys_of}
+use Rattle.mur_base.specs.declared.limits.TheConstants.{MAILBOX_LIMIT}
 use Rattle.mail_message.specs.Boxes.{Content}
 use Rattle.backend_core.specs.HomeLaws.{is_open_here}
 use Rattle.backend_core.specs.HomeStep.{held_at}
 use Rattle.link_msg.specs.declared.ask.FrontAsk.{FrontAsk}
 use Rattle.mur_model.specs.declared.store.Store.{Store}
-use Rattle.mur_model.specs.Store.{box_at, is_spent}
+use Rattle.mur_model.specs.Store.{box_at, is_full}
 use Rattle.back_node.specs.declared.node.BackNode.{BackNode}
 use Rattle.back_node.specs.NodeLaws.{IsCarriedOut, is_of_messages}
 use Rattle.home_law.specs.ManyNames.{Mailbox}
@@ -43,11 +44,11 @@ abbrev pub NoMailboxIsNowhere : Type 0
 NoMailboxIsNowhere = (murder : Murder) (given : Given) (store : Store) (n : Mailbox) → ManyHold murder given store → IsNoMailbox murder.master.table n
     → IsNowhere murder store n
 
--- the table's mailboxes are the store's boxes, and as many; while the master has a serial left, so has the store
+-- the table's mailboxes are the store's boxes, and as many, so the store is full where the master takes no name more
 pub record AreTheBoxes (murder : Murder) (store : Store) : Type 0 where
   pub names : mailbox_names murder.master.table.records ≡ keys_of store.boxes
   pub many : murder.master.table.mailboxes ≡ length store.boxes
-  pub left : murder.master.table.serial < 2 ^ 32 - 1 → is_spent store.given ≡ false
+  pub full : is_full store ≡ nat_le MAILBOX_LIMIT murder.master.table.mailboxes
 
 abbrev pub MailboxesAreBoxes : Type 0
 MailboxesAreBoxes = (murder : Murder) (given : Given) (store : Store) → ManyHold murder given store → AreTheBoxes murder store

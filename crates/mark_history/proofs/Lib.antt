@@ -2,6 +2,7 @@ pub mod Tally
 pub mod NextMarks
 pub mod EachPoint
 pub mod Deeds
+pub mod StepPoints
 pub mod Marks
 pub mod Told
 pub mod Legal

@@ -252,8 +252,11 @@ record Holds (setting : Setting) (now : ℕ) (marks : List Mark) (tale : Tale) :
 holds : (setting : Setting) (now : ℕ) (marks : List Mark) (tale : Tale) → AreMarked setting now marks tale → Holds setting now marks tale
 holds setting now marks tale nothing = record { so = λ conn. all_told [] [] refl; law = first_by_last setting; order = order_none }
 holds setting now marks tale (a_step earlier later those its le made) =
-    let before = holds setting earlier those its made in record { so = before.so; law = later_by_last setting earlier later those its le before.law;
-    order = order_later earlier later those its.told le before.order }
+    let before = holds setting earlier those its made in record {
+      so = before.so;
+      law = later_by_last setting earlier later those its le before.law;
+      order = order_later earlier later those its.told le before.order;
+    }
 holds setting now marks tale (asks at those its requests more made) =
     let before = holds setting at those its made in record { so = before.so; law = asked_by_last setting at those its requests more before.law; order = before.order }
 holds setting now marks tale (sees at those its conn unreplied made) =
@@ -273,8 +276,11 @@ holds setting now marks tale (carries_out at those its conn counts request seria
     }
 holds setting now marks tale (tells at those its conn answer untold made) =
     let before = holds setting at those its made in
-    record { so = telling_one its conn answer untold before.so; law = tells_by_last setting at those its conn answer untold before.law;
-    order = order_push at those its conn (Told Behind) _ (telling_more its conn answer) before.order }
+    record {
+      so = telling_one its conn answer untold before.so;
+      law = tells_by_last setting at those its conn answer untold before.law;
+      order = order_push at those its conn (Told Behind) _ (telling_more its conn answer) before.order;
+    }
 holds setting now marks tale (tells_at_once at those its conn request serial can made) =
     let before = holds setting at those its made in
     let answer : Answer = (done setting its conn request serial).answer in
@@ -295,8 +301,11 @@ holds setting now marks tale (refuses at those its conn tag it serial can made) 
     }
 holds setting now marks tale (takes_back at those its conn answer untold last made) =
     let before = holds setting at those its made in
-    record { so = taken_one its conn before.so; law = taken_back_by_last setting at those its conn answer untold last before.law;
-    order = before.order }
+    record {
+      so = taken_one its conn before.so;
+      law = taken_back_by_last setting at those its conn answer untold last before.law;
+      order = before.order;
+    }
 
 pub legal_by_last : (setting : Setting) (now : ℕ) (marks : List Mark) (tale : Tale) → IsToldByLast setting now marks tale
     → ((conn : ℕ) → IsToldSo (tale.told conn) (tale.talk.answers conn)) → IsLegalTo setting (talk_told tale) (points_of marks) tale.course.store

@@ -22,7 +22,7 @@ use Rattle.mur_model.specs.declared.setting.Setting.{Setting}
 use Rattle.mur_model.specs.declared.store.Store.{Store}
 use Rattle.mur_model.specs.Answer.{Answered}
 use Rattle.mur_model.specs.History.{Course, Talk, TalkGoesOn, IsRefused, Takes, numbered, with_session, carried_out, course_after, refused_out, Follows, answers_its_command, loses, reads, is_about}
-use Rattle.mur_model.specs.History.Follows.{no_points, a_reply, a_loss, a_refusal}
+use Rattle.mur_model.specs.History.Follows.{no_points}
 use Rattle.mur_model.proofs.HistoryGrows.{one_up_to}
 use Rattle.mark_history.specs.declared.mark.Mark.{Mark}
 use Rattle.mark_history.specs.declared.mark.MarkKind.{MarkKind}
@@ -30,6 +30,7 @@ use Rattle.mark_history.specs.declared.mark.MarkKind.TheVariants.{Home, Told}
 use Rattle.mark_history.specs.History.{is_of, next_of, counts_as, point_as, points_by, points_of}
 use Rattle.mark_history.proofs.Deeds.{IsDeed, IsStep, same_step, step_as, step_on}
 use Rattle.mark_history.proofs.Deeds.IsDeed.{carries_it_out, is_refused}
+use Rattle.mark_history.proofs.StepPoints.{loss_point, refusal_point, reply_point}
 use Rattle.mark_history.proofs.EachPoint.{beyond, count_cons, within}
 use Rattle.mark_history.proofs.Tally.{acts, conn_of, command_of, Fit, IsUnrefusedBy, Verdict, acting_unrefused, none_next, of_both, still_unrefused, tells_refusal, verdict}
 use Rattle.mark_history.proofs.Tally.Verdict.{replies, refuses, is_lost, is_open, tells}
@@ -268,30 +269,6 @@ IsFollowed setting talk marks course store = (other : Course) → Agrees marks c
 
 abbrev pub counts_of : (ℕ → List Answer) → ℕ → ℕ
 counts_of told conn = length (told conn)
-
--- what a step did, as a point
-reply_point : (setting : Setting) (talk : Talk) (course last : Course) (mark : Mark) (request : Request) (serial : ℕ) (done : Answered) (points : List Point)
-    → Takes setting talk course (conn_of mark) (command_of mark) request serial → done ≡ carried_out setting course (conn_of mark) request serial
-    → numbered (talk.answers (conn_of mark)) (command_of mark) ≡ Some done.answer → Follows setting talk (course_after course (conn_of mark) done) points last
-    → Follows setting talk course (point_as mark replied ∷ points) last
-reply_point setting talk course last mark request serial done points takes is answer later =
-    a_reply course last mark.step (conn_of mark) (command_of mark) request serial points takes (answer ∙ ap (λ (a : Answered). Some a.answer) is)
-    (subst (λ d. Follows setting talk (course_after course (conn_of mark) d) points last) is later)
-
-loss_point : (setting : Setting) (talk : Talk) (course last : Course) (mark : Mark) (request : Request) (serial : ℕ) (done : Answered) (points : List Point)
-    → Takes setting talk course (conn_of mark) (command_of mark) request serial → done ≡ carried_out setting course (conn_of mark) request serial
-    → Follows setting talk (course_after course (conn_of mark) done) points last → Follows setting talk course (point_as mark lost ∷ points) last
-loss_point setting talk course last mark request serial done points takes is later =
-    a_loss course last mark.step (conn_of mark) (command_of mark) request serial points takes
-    (subst (λ d. Follows setting talk (course_after course (conn_of mark) d) points last) is later)
-
-refusal_point : (setting : Setting) (talk : Talk) (course last : Course) (mark : Mark) (tag : Tag) (it : Command) (done : Answered) (points : List Point)
-    → IsRefused setting talk course (conn_of mark) (command_of mark) tag it reserved BeingMoved → done ≡ refused_out course (conn_of mark) tag it BeingMoved
-    → numbered (talk.answers (conn_of mark)) (command_of mark) ≡ Some done.answer → Follows setting talk (course_after course (conn_of mark) done) points last
-    → Follows setting talk course (point_as mark reserved ∷ points) last
-refusal_point setting talk course last mark tag it done points may is answer later =
-    a_refusal course last mark.step (conn_of mark) (command_of mark) tag it reserved BeingMoved points may (answer ∙ ap (λ (a : Answered). Some a.answer) is)
-    (subst (λ d. Follows setting talk (course_after course (conn_of mark) d) points last) is later)
 
 -- by what the mark counts as
 answered_point : (setting : Setting) (talk : Talk) (told : ℕ → List Answer) (course last : Course) (mark : Mark) (done : Answered) (points : List Point)

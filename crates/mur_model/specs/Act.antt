@@ -30,7 +30,7 @@ use Rattle.imap_types.specs.Reply.{reply_of, completed}
 use Rattle.mur_model.specs.Search.{search}
 use Rattle.mur_model.specs.Select.{select, select_on}
 use Rattle.mur_model.specs.Status.{status, status_on}
-use Rattle.mur_model.specs.Store.{box_at, is_spent, IsFree}
+use Rattle.mur_model.specs.Store.{box_at, is_full, IsFree}
 use Rattle.mur_model.specs.StoreFlags.{store}
 use Rattle.mur_model.specs.Traits.{is_in, traits_of}
 use Rattle.mur_model.specs.Viewing.{viewed_on}
@@ -105,13 +105,13 @@ need_taken setting Ended it = Refusal (bad_reply State)
 unfoldable pub need_of : Setting → Sess → Command → Needed
 need_of setting session it = if is_in session (traits_of it).states then need_taken setting session it else Refusal (bad_reply State)
 
--- what work leaves of the mailbox that stands there; a CREATE gives it the serial as its UIDVALIDITY, if one is left
+-- what work leaves of the mailbox that stands there; a CREATE gives a new one the serial as its UIDVALIDITY, unless the store is full
 unfoldable pub work_on : List ℕ → Work → ℕ → Bool → Option Content → Worked
-work_on name Make serial spent box = create_on name serial spent box
-work_on name (append_work message) serial spent box = append_on message box
-work_on name (status_work shown items) serial spent box = status_on shown items box
-work_on name (select_work it) serial spent box = select_on it name box
-work_on name (viewed_work view it) serial spent box = viewed_on view it box
+work_on name Make serial full box = create_on name serial full box
+work_on name (append_work message) serial full box = append_on message box
+work_on name (status_work shown items) serial full box = status_on shown items box
+work_on name (select_work it) serial full box = select_on it name box
+work_on name (viewed_work view it) serial full box = viewed_on view it box
 
 -- store, session and reply after a command
 pub record Acted : Type 0 where
@@ -121,7 +121,7 @@ pub record Acted : Type 0 where
 
 -- work at a mailbox of the store
 abbrev pub worked_at : Store → List ℕ → Work → ℕ → Worked
-worked_at store name work serial = work_on name work serial (is_spent store.given) (box_at store name)
+worked_at store name work serial = work_on name work serial (is_full store) (box_at store name)
 
 -- the session behind a turn
 abbrev pub session_after : Sess → Option Sess → Sess
@@ -140,7 +140,7 @@ unfoldable pub act_of : Setting → Store → Sess → Command → ℕ → Acted
 act_of setting store session command serial = act_by store session serial (need_of setting session command)
 
 unfoldable pub MayWork : Store → List ℕ → ℕ → Work → Type 0
-MayWork store name serial Make = box_at store name ≡ None → is_spent store.given ≡ false → IsFree store name serial
+MayWork store name serial Make = box_at store name ≡ None → is_full store ≡ false → IsFree store name serial
 MayWork store name serial (append_work message) = ⊤
 MayWork store name serial (status_work shown items) = ⊤
 MayWork store name serial (select_work it) = ⊤

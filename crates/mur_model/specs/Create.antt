@@ -42,11 +42,11 @@ create_meant setting user text =
 unfoldable pub create : Setting → List ℕ → List ℕ → Needed
 create setting user text = create_meant setting user (without_separator text)
 
--- the mailbox is made, unless no UIDVALIDITY is left
+-- the mailbox is made, unless there are as many mailboxes as there may be
 unfoldable pub make : List ℕ → ℕ → Bool → Worked
 make name serial true = record { left = kept; turn = replied (refused Limit) }
 make name serial false = record { left = made (empty_box serial (first_acl name)); turn = replied (completed (codes "CREATE")) }
 
 unfoldable pub create_on : List ℕ → ℕ → Bool → Option Content → Worked
-create_on name serial spent (Some there) = record { left = kept; turn = replied (refused AlreadyExists) }
-create_on name serial spent None = make name serial spent
+create_on name serial full (Some there) = record { left = kept; turn = replied (refused AlreadyExists) }
+create_on name serial full None = make name serial full

@@ -1,9 +1,9 @@
 -- The mailbox store (RFC 9051, 2.3): a map from names to mailboxes, and every UIDVALIDITY that was ever given.
-use Rattle.std.specs.Prelude.{◌≡◌, ◌≢◌, ℕ, ◌<◌, ◌-◌, ◌^◌, ◌==◌, Bool, List, [], ◌∷◌, ◌++◌, Option, All}
-use Rattle.std.specs.List.{list_any}
+use Rattle.std.specs.Prelude.{◌≡◌, ◌≢◌, ℕ, ◌<◌, nat_le, Bool, List, [], ◌∷◌, ◌++◌, length, Option, All}
 use Rattle.std.specs.Ordering.{nat_cmp}
 use Rattle.std.specs.Cmp.Lexicographic.{slice_cmp}
 use Rattle.mail_message.specs.Boxes.{Content}
+use Rattle.mur_base.specs.declared.limits.TheConstants.{MAILBOX_LIMIT}
 use Rattle.mur_base.specs.Map.{value_at, with_entry, with_value}
 use Rattle.mur_model.specs.declared.store.Pair.{Pair}
 use Rattle.mur_model.specs.declared.store.Store.{Store}
@@ -27,9 +27,9 @@ with_new_box store name box = record {
 abbrev pub with_box : Store → List ℕ → Content → Store
 with_box store name box = record store { boxes = with_value (slice_cmp nat_cmp) store.boxes name box }
 
--- no UIDVALIDITY is left once the last was given (RFC 9051, 2.3.1.1: 32 bits that strictly rise)
-unfoldable pub is_spent : List Pair → Bool
-is_spent given = list_any (λ (pair : Pair). pair.serial == 2 ^ 32 - 1) given
+-- as many mailboxes as there may be: this server's limit, each name counted once
+unfoldable pub is_full : Store → Bool
+is_full store = nat_le MAILBOX_LIMIT (length store.boxes)
 
 -- a UIDVALIDITY that a new mailbox of this name may get: no mailbox ever had it, and it is above those that this name had
 -- (RFC 9051, 2.3.1.1)

@@ -22,7 +22,7 @@ use Rattle.mur_model.specs.Asking.{asked_for}
 use Rattle.mur_model.specs.Left.{store_after}
 use Rattle.mur_model.specs.Needed.{Mailbox, Work, Make}
 use Rattle.mur_model.specs.Relocation.{NeedsMailbox, refused_for}
-use Rattle.mur_model.specs.Store.{box_at, is_spent}
+use Rattle.mur_model.specs.Store.{box_at, is_full}
 use Rattle.mur_model.proofs.OwnView.{IsOfNeeded, IsOfWork, work_own}
 use Rattle.name_links.specs.Serials.{Given}
 use Rattle.node_record.specs.declared.table.Record.{Record}
@@ -41,7 +41,8 @@ use Rattle.point_links.specs.Barriers.{is_missing, is_refused, is_asked, EachBar
 use Rattle.point_links.specs.Carried.{turn_at}
 use Rattle.point_links.specs.Commands.{ClientCommand, WaitsOn, refused_turn}
 use Rattle.point_links.proofs.Told.{refused_so, server_waits, told_so}
-use Rattle.point_links.proofs.Works.{IsMissed, about_mailbox, is_make, may_work, misses, of_messages}
+use Rattle.point_links.proofs.Works.{about_mailbox, is_make, may_work, of_messages}
+use Rattle.serve_law.proofs.MissingAlike.{IsMissed, misses}
 use Rattle.session_core.specs.declared.result.OpResult.TheVariants.{Missing}
 
 make_about : (name : List ℕ) (work : Work) → work ≡ Make → ask_for name (asked_for name work).op ≡ about.Create name
@@ -107,8 +108,8 @@ module _ (murder : Murder) (given : Given) (store : Store) (front master first :
   missed : c.work ≢ Make → box_at store c.name ≡ None → (serial : ℕ)
       → IsMissed store c.name c.work serial (worked_at store c.name c.work serial)
   missed ne none serial =
-      subst (λ (b : Option Content). IsMissed store c.name c.work serial (work_on c.name c.work serial (is_spent store.given) b)) (sym none)
-      (misses store c.name c.work serial (is_spent store.given) ne)
+      subst (λ (b : Option Content). IsMissed store c.name c.work serial (work_on c.name c.work serial (is_full store) b)) (sym none)
+      (misses store c.name c.work serial (is_full store) ne)
 
   missing : (cause : Why) → c.work ≢ Make → found_at ≡ None → IsMissing murder given store front master first c cause
   unfolding store_after

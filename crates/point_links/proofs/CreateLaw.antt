@@ -1,5 +1,5 @@
 -- The master takes the line of a CREATE.
-use Rattle.std.proofs.Common.{◌≡◌, ◌≢◌, ℕ, ◌<◌, ◌-◌, ◌^◌, Bool, true, false, cond, is_some, List, [], ◌∷◌, ◌++◌, filter, Option, None, Some, refl}
+use Rattle.std.proofs.Common.{◌≡◌, ◌≢◌, ℕ, ◌&&◌, nat_le, Bool, true, false, cond, is_some, List, [], ◌∷◌, ◌++◌, filter, Option, None, Some, refl}
 use Rattle.std.proofs.Common.{sym, ◌∙◌, ap, subst}
 use Rattle.std.specs.Prelude.{not}
 use Rattle.std.specs.List.{AllByRecursion}
@@ -46,7 +46,8 @@ use Rattle.mur_model.specs.Asking.{asked_for}
 use Rattle.mur_model.specs.Create.{create_on, make}
 use Rattle.mur_model.specs.Left.{Worked, kept, store_after}
 use Rattle.mur_model.specs.Needed.{Work, Make}
-use Rattle.mur_model.specs.Store.{box_at, is_spent, IsFree}
+use Rattle.mur_base.specs.declared.limits.TheConstants.{MAILBOX_LIMIT}
+use Rattle.mur_model.specs.Store.{box_at, is_full as store_is_full, IsFree}
 use Rattle.name_commands.specs.Moves.{ends, heard_move}
 use Rattle.name_commands.specs.MasterSteps.{IsTaken, flow_reply}
 use Rattle.name_commands.specs.Places.{answer_message, flow_line, flow_message, stage_command}
@@ -120,16 +121,21 @@ same_bytes one other e = cc
 
 -- ---- what the store does with a CREATE
 
-spent_none : (store : Store) (name : List ℕ) (serial : ℕ) → box_at store name ≡ None → is_spent store.given ≡ false
+-- where the name is no mailbox, the table isn't full only if it has room
+room_of : (mailbox many : Bool) → mailbox ≡ false → (not mailbox && many) ≡ false → many ≡ false
+room_of false many e room = room
+room_of true many e room = cc
+
+room_none : (store : Store) (name : List ℕ) (serial : ℕ) → box_at store name ≡ None → store_is_full store ≡ false
     → worked_at store name Make serial ≡ make name serial false
 unfolding work_on create_on
-spent_none store name serial none left =
-    ap (λ (b : Option Content). create_on name serial (is_spent store.given) b) none ∙ ap (λ (s : Bool). make name serial s) left
+room_none store name serial none left =
+    ap (λ (b : Option Content). create_on name serial (store_is_full store) b) none ∙ ap (λ (s : Bool). make name serial s) left
 
 there_kept : (store : Store) (name : List ℕ) (serial : ℕ) (box : Content) → box_at store name ≡ Some box
-    → worked_at store name Make serial ≡ create_on name serial (is_spent store.given) (Some box)
+    → worked_at store name Make serial ≡ create_on name serial (store_is_full store) (Some box)
 unfolding work_on
-there_kept store name serial box is = ap (λ (b : Option Content). create_on name serial (is_spent store.given) b) is
+there_kept store name serial box is = ap (λ (b : Option Content). create_on name serial (store_is_full store) b) is
 
 -- the answer to a CREATE tells nothing of the mailbox
 abbrev nothing_seen : Snapshot
@@ -140,23 +146,23 @@ created_shown : (session : Sess) (name : List ℕ) (serial : ℕ)
 unfolding asked_for turn_of reply_to_create reply_to_created make
 created_shown session name serial = refl
 
-exists_shown : (session : Sess) (name : List ℕ) (serial : ℕ) (spent : Bool) (box : Content)
-    → turn_of session (asked_for name Make).awaited (Done Exists nothing_seen) ≡ Some (create_on name serial spent (Some box)).turn
+exists_shown : (session : Sess) (name : List ℕ) (serial : ℕ) (full : Bool) (box : Content)
+    → turn_of session (asked_for name Make).awaited (Done Exists nothing_seen) ≡ Some (create_on name serial full (Some box)).turn
 unfolding asked_for turn_of reply_to_create reply_to_created create_on
-exists_shown session name serial spent box = refl
+exists_shown session name serial full box = refl
 
 made_so : (store : Store) (name : List ℕ) (serial : ℕ) → store_with store name serial ≡ store_after store name (make name serial false).left
 unfolding make store_after
 made_so store name serial = refl
 
-stays_so : (store : Store) (name : List ℕ) (serial : ℕ) (spent : Bool) (box : Content)
-    → store ≡ store_after store name (create_on name serial spent (Some box)).left
+stays_so : (store : Store) (name : List ℕ) (serial : ℕ) (full : Bool) (box : Content)
+    → store ≡ store_after store name (create_on name serial full (Some box)).left
 unfolding create_on store_after
-stays_so store name serial spent box = refl
+stays_so store name serial full box = refl
 
-left_so : (name : List ℕ) (serial : ℕ) (spent : Bool) (box : Content) → (create_on name serial spent (Some box)).left ≡ kept
+left_so : (name : List ℕ) (serial : ℕ) (full : Bool) (box : Content) → (create_on name serial full (Some box)).left ≡ kept
 unfolding create_on
-left_so name serial spent box = refl
+left_so name serial full box = refl
 
 -- ---- records
 
@@ -251,7 +257,7 @@ module _ (murder : Murder) (given : Given) (store : Store) (c : ClientCommand) (
   activated making room (name_reserved stage none is heard) = absurd (let no : Making ≡ Reserving = sym making ∙ stage in cc)
   activated making room (was_active stage active is heard) = absurd (let no : Making ≡ Reserving = sym making ∙ stage in cc)
   activated making room (was_reserved stage reserved is heard) = absurd (let no : Making ≡ Reserving = sym making ∙ stage in cc)
-  activated making room (serials_spent stage none spent is heard) = absurd (let no : Making ≡ Reserving = sym making ∙ stage in cc)
+  activated making room (serials_spent stage none full is heard) = absurd (let no : Making ≡ Reserving = sym making ∙ stage in cc)
   activated making room (name_closed stage is heard) = absurd (let no : Making ≡ Deactivating = sym making ∙ stage in cc)
   activated making room (name_deleted stage is heard) = absurd (let no : Making ≡ Deleting = sym making ∙ stage in cc)
 
@@ -260,7 +266,7 @@ module _ (murder : Murder) (given : Given) (store : Store) (c : ClientCommand) (
   refuses reserving active (was_active stage too is heard) = record { are = ap (λ (r : Reply). r.counts) is; heard = heard }
   refuses reserving active (was_reserved stage reserved is heard) = absurd (not_both found_at active reserved)
   refuses reserving active (name_reserved stage none is heard) = absurd (let no : false ≡ true = sym (ap is_active none) ∙ active in cc)
-  refuses reserving active (serials_spent stage none spent is heard) = absurd (let no : false ≡ true = sym (ap is_active none) ∙ active in cc)
+  refuses reserving active (serials_spent stage none full is heard) = absurd (let no : false ≡ true = sym (ap is_active none) ∙ active in cc)
   refuses reserving active (name_activated stage full is heard) = absurd (let no : Reserving ≡ Making = sym reserving ∙ stage in cc)
   refuses reserving active (table_full stage full is heard) = absurd (let no : Reserving ≡ Making = sym reserving ∙ stage in cc)
   refuses reserving active (name_closed stage is heard) = absurd (let no : Reserving ≡ Deactivating = sym reserving ∙ stage in cc)
@@ -270,7 +276,7 @@ module _ (murder : Murder) (given : Given) (store : Store) (c : ClientCommand) (
   put_off reserving reserved (was_reserved stage too is heard) = record { are = ap (λ (r : Reply). r.counts) is; heard = heard }
   put_off reserving reserved (was_active stage active is heard) = absurd (not_both found_at active reserved)
   put_off reserving reserved (name_reserved stage none is heard) = absurd (let no : false ≡ true = sym (ap is_reserved none) ∙ reserved in cc)
-  put_off reserving reserved (serials_spent stage none spent is heard) = absurd (let no : false ≡ true = sym (ap is_reserved none) ∙ reserved in cc)
+  put_off reserving reserved (serials_spent stage none full is heard) = absurd (let no : false ≡ true = sym (ap is_reserved none) ∙ reserved in cc)
   put_off reserving reserved (name_activated stage full is heard) = absurd (let no : Reserving ≡ Making = sym reserving ∙ stage in cc)
   put_off reserving reserved (table_full stage full is heard) = absurd (let no : Reserving ≡ Making = sym reserving ∙ stage in cc)
   put_off reserving reserved (name_closed stage is heard) = absurd (let no : Reserving ≡ Deactivating = sym reserving ∙ stage in cc)
@@ -337,14 +343,16 @@ module _ (murder : Murder) (given : Given) (store : Store) (c : ClientCommand) (
       → CarriesOut store later c.name c.work serial counts
   carries_as later serial counts carries = subst (λ (w : Work). CarriesOut store later c.name w serial counts) (sym comes.makes) carries
 
-  is_created : flow.stage ≡ Making → is_full table found_at ≡ false → table.serial < 2 ^ 32 - 1 → IsCreated murder given store c name message flow
+  is_created : flow.stage ≡ Making → is_full table found_at ≡ false → IsCreated murder given store c name message flow
   unfolding MayWork
-  is_created making room left =
+  is_created making room =
       let reply : HasReply (Some Always) (done nothing_told) = activated making room taken.replied in
       let does : DoesCreate = creates making reply.are one.later one.does one.hold in
       let serial : ℕ = does.serial in
       let worked : worked_at store c.name Make serial ≡ make c.name serial false =
-      spent_none store c.name serial does.none ((mailboxes_are_boxes murder given store comes.holds).left left) in
+      room_none store c.name serial does.none ((mailboxes_are_boxes murder given store comes.holds).full
+      ∙ room_of (is_mailbox_if found_at) (nat_le MAILBOX_LIMIT table.mailboxes)
+      (each_is_a_box table (homes_of murder.nodes) store comes.holds.shows c.name ∙ ap is_some does.none) room) in
       record {
         serial = serial;
         none = does.none;
@@ -378,13 +386,13 @@ module _ (murder : Murder) (given : Given) (store : Store) (c : ClientCommand) (
           then_holds = does_nothing reserving one.later one.does one.hold;
           carries = carries_as store serial IfAnswered (record {
             free = λ none. λ _. absurd (let no : false ≡ true = ap is_some (sym none ∙ there) in cc);
-            later_is = stays_so store c.name serial (is_spent store.given) found.0
+            later_is = stays_so store c.name serial (store_is_full store) found.0
                 ∙ ap (λ (w : Worked). store_after store c.name w.left) (sym worked);
-            stays = λ _. ap (λ (w : Worked). w.left) worked ∙ left_so c.name serial (is_spent store.given) found.0;
+            stays = λ _. ap (λ (w : Worked). w.left) worked ∙ left_so c.name serial (store_is_full store) found.0;
           });
           heard = reply.heard;
-          told = λ master. told_as master Exists serial (create_on c.name serial (is_spent store.given) (Some found.0)) worked
-              (exists_shown c.was c.name serial (is_spent store.given) found.0);
+          told = λ master. told_as master Exists serial (create_on c.name serial (store_is_full store) (Some found.0)) worked
+              (exists_shown c.was c.name serial (store_is_full store) found.0);
         });
       }
 
@@ -400,8 +408,8 @@ module _ (murder : Murder) (given : Given) (store : Store) (c : ClientCommand) (
       }
 
 pub activate_creates : ActivateCreates
-activate_creates murder given store c name node message rest flow comes making room left =
-    is_created murder given store c name node message rest flow comes making room left
+activate_creates murder given store c name node message rest flow comes making room =
+    is_created murder given store c name node message rest flow comes making room
 
 pub reserve_of_one_there : ReserveOfOneThere
 reserve_of_one_there murder given store c name node message rest flow comes reserving active =

@@ -1,8 +1,6 @@
 -- A backend takes the ask of a command at a mailbox: where it has the name open it does what the one store does, and else the command is sent on.
-use Rattle.std.proofs.Common.{◌≡◌, ◌≢◌, ℕ, ◌+◌, ◌-◌, ◌^◌, ◌≤◌, ◌&&◌, ◌||◌, nat_eq, suc, zero, Bool, true, false, List, [], ◌∷◌, length, Option, None}
-use Rattle.std.proofs.Common.{Some, refl, sym, ◌∙◌, ap, subst, arith}
-use Rattle.std.specs.Prelude.{All}
-use Rattle.std.proofs.lemmas.List.Elements.{All-cons, All-nil}
+use Rattle.std.proofs.Common.{◌≡◌, ◌≢◌, ℕ, ◌+◌, ◌&&◌, Bool, true, false, List, Option, None}
+use Rattle.std.proofs.Common.{Some, refl, sym, ◌∙◌, ap, subst}
 use Rattle.std.specs.Ordering.{nat_cmp}
 use Rattle.std.specs.Cmp.Lexicographic.{slice_cmp}
 use Rattle.asking_core.specs.Answered.{answered}
@@ -27,13 +25,12 @@ use Rattle.link_msg.specs.declared.out.Out.{Out}
 use Rattle.mail_message.specs.Boxes.{Content}
 use Rattle.mur_model.specs.declared.need.Asking.{Asking}
 use Rattle.mur_model.specs.declared.session.Turn.{Turn}
-use Rattle.mur_model.specs.declared.store.Pair.{Pair}
 use Rattle.mur_model.specs.declared.store.Store.{Store}
 use Rattle.mur_model.specs.Act.{work_on, worked_at}
 use Rattle.mur_model.specs.Asking.{asked_for}
 use Rattle.mur_model.specs.Left.{Left, Worked, kept, made, changed, store_after}
 use Rattle.mur_model.specs.Needed.{Mailbox, Work, Make}
-use Rattle.mur_model.specs.Store.{box_at, is_spent}
+use Rattle.mur_model.specs.Store.{box_at, is_full}
 use Rattle.mur_model.proofs.OwnView.{IsOfNeeded, IsOfWork, work_own}
 use Rattle.name_flows.specs.declared.ask.AskKind.{AskKind}
 use Rattle.name_flows.specs.Phases.{pointer_in}
@@ -45,10 +42,10 @@ use Rattle.session_core.specs.Results.{result_of, turn_behind, turn_by}
 use Rattle.session_core.specs.declared.result.OpResult.TheVariants.{Done}
 use Rattle.serve_law.specs.AsTheStore.{HaveAlike}
 use Rattle.serve_law.specs.AsTheStore.HaveAlike.{neither, both}
-use Rattle.serve_law.proofs.HomeStore.{AreSerialsTo, IsStoreOf, other_boxes}
+use Rattle.serve_law.proofs.HomeStore.{IsStoreOf, other_boxes}
 use Rattle.serve_law.proofs.HomeStore.IsStoreOf.{is_missing, is_there}
 use Rattle.serve_law.proofs.ServedAlike.{ServesAlike}
-use Rattle.serve_law.proofs.ServeLaw.{plain_ask, serves_alike}
+use Rattle.serve_law.proofs.ServeLaw.{plain_ask, serves_others}
 use Rattle.many_links.specs.Murder.{Murder, home_takes}
 use Rattle.many_links.specs.ManyHold.{ManyHold}
 use Rattle.many_links.specs.HomeEvents.{IsStoreWith, is_served}
@@ -58,59 +55,17 @@ use Rattle.point_links.specs.AtHome.{AskComes, ClosedSendsOn, IsElsewhere, IsSen
 use Rattle.point_links.specs.Carried.{CarriesOut, turn_at}
 use Rattle.point_links.specs.Commands.{ClientCommand, WaitsOn, told_turn}
 use Rattle.point_links.proofs.Told.{done_so, moved_waits, not_now_waits}
-use Rattle.point_links.proofs.Works.{MakesNone, given_stays, may_work, of_messages, order_stays, same_boxes, same_work, work_makes_none}
+use Rattle.point_links.proofs.Works.{MakesNone, given_stays, may_work, of_messages, order_stays, same_work, work_makes_none}
 
--- ---- UIDVALIDITYs as those that a backend counts. Only a CREATE reads them.
+-- ---- what the store has
 
-pairs_of : ℕ → ℕ → List Pair
-pairs_of serial zero = []
-pairs_of serial (suc n) = (record { name = []; serial = serial }) ∷ pairs_of serial n
-
-pairs_low : (serial n : ℕ) → All (λ (pair : Pair). pair.serial ≤ serial) (pairs_of serial n)
-unfolding pairs_of
-pairs_low serial zero = All-nil (λ (pair : Pair). pair.serial ≤ serial)
-pairs_low serial (suc n) =
-    All-cons (λ (pair : Pair). pair.serial ≤ serial) (record { name = []; serial = serial }) (pairs_of serial n) (omega arith) (pairs_low serial n)
-
-pairs_many : (serial n : ℕ) → n ≡ length (pairs_of serial n)
-unfolding pairs_of
-pairs_many serial zero = refl
-pairs_many serial (suc n) = ap suc (pairs_many serial n)
-
-pairs_left : (serial n : ℕ) → nat_eq serial (2 ^ 32 - 1) ≡ false → is_spent (pairs_of serial n) ≡ false
-unfolding is_spent pairs_of
-pairs_left serial zero e = refl
-pairs_left serial (suc n) e = ap (λ (b : Bool). b || is_spent (pairs_of serial n)) e ∙ pairs_left serial n e
-
-pairs_spent : (serial : ℕ) (found : Bool) → nat_eq serial (2 ^ 32 - 1) ≡ found → is_spent (pairs_of serial serial) ≡ found
-unfolding is_spent pairs_of
-pairs_spent serial false e = pairs_left serial serial e
-pairs_spent zero true e = absurd (let no : ⊥ = grind (arith, e) in no)
-pairs_spent (suc n) true e = ap (λ (b : Bool). b || is_spent (pairs_of (suc n) n)) e
-
-counted_so : (last : ℕ) → AreSerialsTo (pairs_of last last) last
-counted_so last = record {
-  serials = pairs_low last last;
-  spent = pairs_spent last (nat_eq last (2 ^ 32 - 1)) refl;
-  counted = pairs_many last last;
-}
-
-abbrev counted_store : Store → ℕ → Store
-counted_store store last = record { boxes = store.boxes; given = pairs_of last last }
-
-store_of_home : (store : Store) (home : Backend) (name : List ℕ) (last : ℕ) → HaveAlike store home name → IsStoreOf (counted_store store last) home name
-store_of_home store home name last (neither box held) = is_missing box held
-store_of_home store home name last (both held at is_open box) = is_there held (record { at = at; is_open = is_open; box = box })
+store_of_home : (store : Store) (home : Backend) (name : List ℕ) → HaveAlike store home name → IsStoreOf store home name
+store_of_home store home name (neither box held) = is_missing box held
+store_of_home store home name (both held at is_open box) = is_there held (record { at = at; is_open = is_open; box = box })
 
 alike_after : (store : Store) (home : Backend) (name : List ℕ) → IsStoreOf store home name → HaveAlike store home name
 alike_after store home name (is_missing box held) = neither box held
 alike_after store home name (is_there held is) = both held is.at is.is_open is.box
-
-alike_boxes : (store other : Store) (home : Backend) (name : List ℕ) → store.boxes ≡ other.boxes → HaveAlike store home name → HaveAlike other home name
-alike_boxes store other home name same (neither box held) =
-    neither (subst (λ b. box_at (record { boxes = b; given = other.given }) name ≡ None) same box) held
-alike_boxes store other home name same (both held at is_open box) =
-    both held at is_open (subst (λ b. box_at (record { boxes = b; given = other.given }) name ≡ Some held.content) same box)
 
 -- ---- what is answered where it is done
 
@@ -158,9 +113,6 @@ module _ (murder : Murder) (given : Given) (store : Store) (c : ClientCommand) (
     abbrev step : HomeStep
     step = home_step home plain
 
-    abbrev counted : Store
-    counted = counted_store store home.last_serial
-
     abbrev worked : ℕ → Worked
     worked serial = worked_at store c.name c.work serial
 
@@ -170,31 +122,30 @@ module _ (murder : Murder) (given : Given) (store : Store) (c : ClientCommand) (
     done_at : IsCarriedOut node from plain
     done_at = subst (λ (a : FrontAsk). IsCarriedOut node from a) ask_is open_at
 
-    serves : ServesAlike counted home c.name c.work (worked_at counted c.name c.work (home.last_serial + 1)) step
+    serves : ServesAlike store home c.name c.work (worked_at store c.name c.work (home.last_serial + 1)) step
     serves =
-        serves_alike counted home c.id (user_of c.was) c.name c.work
-        (store_of_home store home c.name home.last_serial (open_is_the_stores murder given store name node c.name comes.holds comes.there is_here).alike)
-        (counted_so home.last_serial)
+        serves_others store home c.id (user_of c.was) c.name c.work
+        (store_of_home store home c.name (open_is_the_stores murder given store name node c.name comes.holds comes.there is_here).alike)
+        comes.no_make
 
     -- of a UIDVALIDITY the work reads nothing
-    same : (serial : ℕ) → worked_at counted c.name c.work (home.last_serial + 1) ≡ worked serial
+    same : (serial : ℕ) → worked_at store c.name c.work (home.last_serial + 1) ≡ worked serial
     same serial =
-        same_work c.name c.work (home.last_serial + 1) serial (is_spent counted.given) (is_spent store.given) (box_at store c.name) comes.no_make
+        same_work c.name c.work (home.last_serial + 1) serial (is_full store) (is_full store) (box_at store c.name) comes.no_make
 
     abbrev left : Left
     left = (worked 0).left
 
     none_made : MakesNone left
-    none_made = work_makes_none c.name c.work 0 (is_spent store.given) (box_at store c.name) comes.no_make
+    none_made = work_makes_none c.name c.work 0 (is_full store) (box_at store c.name) comes.no_make
 
     abbrev later : Store
     later = store_after store c.name left
 
     still : HaveAlike later step.home c.name
     still =
-        alike_boxes (store_after counted c.name left) later step.home c.name (sym (same_boxes store counted c.name left none_made refl))
-        (subst (λ (w : Worked). HaveAlike (store_after counted c.name w.left) step.home c.name) (same 0)
-        (alike_after (store_after counted c.name (worked_at counted c.name c.work (home.last_serial + 1)).left) step.home c.name serves.still))
+        subst (λ (w : Worked). HaveAlike (store_after store c.name w.left) step.home c.name) (same 0)
+        (alike_after (store_after store c.name (worked_at store c.name c.work (home.last_serial + 1)).left) step.home c.name serves.still)
 
     -- what the backend has after the step
     store_with_it : IsStoreWith store later (node_takes node from (Ask ask)).state.home ask.name

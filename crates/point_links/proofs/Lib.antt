@@ -1,4 +1,3 @@
-pub mod RefusedTold
 pub mod Told
 pub mod Works
 pub mod BarrierLaw

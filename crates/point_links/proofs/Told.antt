@@ -27,28 +27,9 @@ use Rattle.session_core.specs.declared.result.OpResult.TheVariants.{Done}
 use Rattle.session_core.specs.Finish.{finish, finished_by, turn_of}
 use Rattle.session_core.specs.Need.{Behind}
 use Rattle.session_core.specs.Relocated.{relocated}
-use Rattle.point_links.proofs.RefusedTold.{refused_as_told}
-use Rattle.serve_law.specs.AsTheStore.{given_with}
+use Rattle.session_core.proofs.RefusedLaw.{refused_as_told}
+use Rattle.serve_law.proofs.AnswersAsActed.{ended_needs_none, finished_so}
 use Rattle.point_links.specs.Commands.{ClientCommand, WaitsOn, refused_turn, told_turn}
-
--- a session that has ended needs no mailbox
-ended_needs_none : (setting : Setting) (it : Command) (name : List ℕ) (work : Work) → need_of setting Ended it ≡ Mailbox name work → ⊥
-unfolding need_of is_in
-ended_needs_none setting it name work h = cc
-
--- a turn of a session that hasn't ended, by whether the turn ends it
-finished_so : (session : Sess) (reply : ReplyOf) (later : Option Sess) → (session ≡ Ended → ⊥)
-    → finished_by session (Some (record { session = later; reply = reply }))
-    ≡ record { session = session_after session later; need = Some (given_with reply (session_after session later)) }
-unfolding finished_by told_with given_with
-finished_so Off reply None goes_on = refl
-finished_so (In user) reply None goes_on = refl
-finished_so (Selected view) reply None goes_on = refl
-finished_so Ended reply None goes_on = absurd (goes_on refl)
-finished_so session reply (Some Off) goes_on = refl
-finished_so session reply (Some (In user)) goes_on = refl
-finished_so session reply (Some (Selected view)) goes_on = refl
-finished_so session reply (Some Ended) goes_on = refl
 
 module _ (c : ClientCommand) where
   not_ended : c.was ≡ Ended → ⊥

@@ -88,21 +88,6 @@ pub about_mailbox : (name : List ℕ) (asks : Op) → is_of_messages asks ≡ tr
 about_mailbox name op.Create of = cc
 about_mailbox name asks of = refl
 
--- ---- a mailbox that the store hasn't
-
-pub record IsMissed (store : Store) (name : List ℕ) (work : Work) (serial : ℕ) (worked : Worked) : Type 0 where
-  pub stays : worked.left ≡ kept
-  pub shown : (session : Sess) → IsOfWork session work → turn_of session (asked_for name work).awaited Missing ≡ Some worked.turn
-
-pub misses : (store : Store) (name : List ℕ) (work : Work) (serial : ℕ) (spent : Bool) → work ≢ Make
-    → IsMissed store name work serial (work_on name work serial spent None)
-unfolding work_on asked_for turn_of append_on reply_to_append status_on reply_to_status select_on select_turn viewed_on viewed_in viewed_turn IsOfWork
-misses store name Make serial spent ne = absurd (ne refl)
-misses store name (append_work message) serial spent ne = record { stays = refl; shown = λ session own. refl }
-misses store name (status_work shown items) serial spent ne = record { stays = refl; shown = λ session own. refl }
-misses store name (select_work it) serial spent ne = record { stays = refl; shown = λ session own. refl }
-misses store name (viewed_work view it) serial spent ne = record { stays = refl; shown = λ session own. ap (λ s. viewed_in s it Missing) own }
-
 -- any UIDVALIDITY will do
 pub may_work : (store : Store) (name : List ℕ) (serial : ℕ) (work : Work) → work ≢ Make → MayWork store name serial work
 unfolding MayWork
@@ -112,14 +97,14 @@ may_work store name serial (status_work shown items) ne = tt
 may_work store name serial (select_work it) ne = tt
 may_work store name serial (viewed_work view it) ne = tt
 
-pub same_work : (name : List ℕ) (work : Work) (one other : ℕ) (spent left : Bool) (box : Option Content) → work ≢ Make
-    → work_on name work one spent box ≡ work_on name work other left box
+pub same_work : (name : List ℕ) (work : Work) (one other : ℕ) (full left : Bool) (box : Option Content) → work ≢ Make
+    → work_on name work one full box ≡ work_on name work other left box
 unfolding work_on
-same_work name Make one other spent left box ne = absurd (ne refl)
-same_work name (append_work message) one other spent left box ne = refl
-same_work name (status_work shown items) one other spent left box ne = refl
-same_work name (select_work it) one other spent left box ne = refl
-same_work name (viewed_work view it) one other spent left box ne = refl
+same_work name Make one other full left box ne = absurd (ne refl)
+same_work name (append_work message) one other full left box ne = refl
+same_work name (status_work shown items) one other full left box ne = refl
+same_work name (select_work it) one other full left box ne = refl
+same_work name (viewed_work view it) one other full left box ne = refl
 
 -- ---- no mailbox is made
 
@@ -151,18 +136,18 @@ there_none view (view_work.Store asked) box =
 there_none view (view_work.Fetch asked) box = either_none (sees view asked) _ _ tt tt
 there_none view (view_work.Search asked) box = tt
 
-pub work_makes_none : (name : List ℕ) (work : Work) (serial : ℕ) (spent : Bool) (found : Option Content) → work ≢ Make
-    → MakesNone (work_on name work serial spent found).left
+pub work_makes_none : (name : List ℕ) (work : Work) (serial : ℕ) (full : Bool) (found : Option Content) → work ≢ Make
+    → MakesNone (work_on name work serial full found).left
 unfolding work_on append_on status_on select_on viewed_on MakesNone
-work_makes_none name Make serial spent found ne = absurd (ne refl)
-work_makes_none name (append_work message) serial spent None ne = tt
-work_makes_none name (status_work shown items) serial spent None ne = tt
-work_makes_none name (select_work opened) serial spent None ne = tt
-work_makes_none name (viewed_work view work) serial spent None ne = tt
-work_makes_none name (append_work message) serial spent (Some box) ne = append_none message box (append_fault box (message ∷ []))
-work_makes_none name (status_work shown items) serial spent (Some box) ne = tt
-work_makes_none name (select_work opened) serial spent (Some box) ne = tt
-work_makes_none name (viewed_work view work) serial spent (Some box) ne =
+work_makes_none name Make serial full found ne = absurd (ne refl)
+work_makes_none name (append_work message) serial full None ne = tt
+work_makes_none name (status_work shown items) serial full None ne = tt
+work_makes_none name (select_work opened) serial full None ne = tt
+work_makes_none name (viewed_work view work) serial full None ne = tt
+work_makes_none name (append_work message) serial full (Some box) ne = append_none message box (append_fault box (message ∷ []))
+work_makes_none name (status_work shown items) serial full (Some box) ne = tt
+work_makes_none name (select_work opened) serial full (Some box) ne = tt
+work_makes_none name (viewed_work view work) serial full (Some box) ne =
     either_none (box.serial == view.serial) (work_there view work box) found_gone (there_none view work box) tt
 
 -- so none is given, and the boxes stay in order
@@ -179,11 +164,3 @@ unfolding store_after MakesNone
 order_stays store name kept none order = order
 order_stays store name (made box) none order = absurd none
 order_stays store name (changed box) none order = with_value-in_order (slice_cmp nat_cmp) store.boxes name box order
-
--- what another store has of one name tells what the work leaves of it
-pub same_boxes : (store other : Store) (name : List ℕ) (left : Left) → MakesNone left → store.boxes ≡ other.boxes
-    → (store_after store name left).boxes ≡ (store_after other name left).boxes
-unfolding store_after MakesNone
-same_boxes store other name kept none same = same
-same_boxes store other name (made box) none same = absurd none
-same_boxes store other name (changed box) none same = rw same refl

@@ -1,6 +1,6 @@
 -- The points of a CREATE (RFC 9051, 6.3.4) behind its backend: the step in which the master takes ACTIVATE for it, or refuses RESERVE since the name is active
 -- (RFC 3656, 4.1 and 4.9). The body is that with which the backend answers at the master's response (name_commands, `heard_move`).
-use Rattle.std.specs.Prelude.{◌≡◌, ℕ, ◌<◌, ◌-◌, ◌^◌, true, false, List, [], ◌∷◌, ◌++◌, filter, Some, None}
+use Rattle.std.specs.Prelude.{◌≡◌, ℕ, true, false, List, [], ◌∷◌, ◌++◌, filter, Some, None}
 use Rattle.asking_core.specs.Answered.{answered}
 use Rattle.back_links.specs.MasterEvents.{given_in}
 use Rattle.back_node.specs.declared.node.BackNode.{BackNode}
@@ -65,11 +65,11 @@ pub record IsCreated (murder : Murder) (given : Given) (store : Store) (c : Clie
   pub none : box_at store c.name ≡ None
   pub point : LineIsPoint murder given store c name message flow (store_with store c.name serial) serial Always (done nothing)
 
--- while the table isn't full and the master has a UIDVALIDITY left
+-- while the table isn't full
 abbrev pub ActivateCreates : Type 0
 ActivateCreates = (murder : Murder) (given : Given) (store : Store) (c : ClientCommand) (name : List ℕ) (node : BackNode) (message : LinkMsg)
     (rest : List LinkMsg) (flow : Flow) → LineComes murder given store c name node message rest flow
-    → flow.stage ≡ Making → is_full murder.master.table (record_at murder.master.table c.name) ≡ false → murder.master.table.serial < 2 ^ 32 - 1
+    → flow.stage ≡ Making → is_full murder.master.table (record_at murder.master.table c.name) ≡ false
     → IsCreated murder given store c name message flow
 
 -- ---- it is refused as the mailbox is there

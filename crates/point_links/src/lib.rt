@@ -13,7 +13,7 @@
 //! That of a command which is told that its mailbox is missing, or that its name is reserved, is where the master takes its NOOP
 //! ([`a_barrier_is_the_point_of_what_is_told_behind_it`]). In each the step's mark, the store after it and the reply at the frontend are told together.
 //! An answer by which a command only waits on carries nothing out. Left out are DELETE and LIST, a CREATE that the master refuses since its table is full
-//! or its UIDVALIDITYs are spent, one that is activated once the last UIDVALIDITY was reserved, and a CREATE whose backend hasn't reached the master.
+//! or its serials are spent, and a CREATE whose backend hasn't reached the master.
 #![tactic(auto)]
 
 mod laws;

@@ -1,5 +1,5 @@
 -- The mailboxes that the talks are about, and how far the clients are with them.
-use Rattle.std.specs.Prelude.{ℕ, true, false, List, [], ◌∷◌, ◌^◌, ◌-◌, codes}
+use Rattle.std.specs.Prelude.{ℕ, true, false, List, [], ◌∷◌, codes}
 use Rattle.mail_message.specs.Boxes.{Content}
 use Rattle.mail_message.specs.declared.message.Message.{Message}
 use Rattle.mail_message.specs.declared.system_flags.SystemFlags.{SystemFlags}
@@ -141,6 +141,6 @@ replaced = record selected { store = store_with (empty 8) }
 unfoldable pub as_bob_with : Content → Scene
 as_bob_with box = after (scene_with (store_with box)) ((one, "l LOGIN bob y") ∷ [])
 
--- the last UIDVALIDITY was given
-unfoldable pub spent : Scene
-spent = after (scene_with (store_with (empty (2 ^ 32 - 1)))) ((one, "l LOGIN adm x") ∷ [])
+-- the administrator, with any store
+unfoldable pub as_admin_at : Store → Scene
+as_admin_at store = after (scene_with store) ((one, "l LOGIN adm x") ∷ [])

@@ -1,6 +1,9 @@
 // CREATE (RFC 9051, 6.3.4).
-ghost use Rattle.std.specs.Prelude.{[], ◌∷◌};
-ghost use Rattle.reply_law.specs.Scenes.{as_admin, as_amy, as_bob, spent};
+ghost use Rattle.std.specs.Prelude.{◌≡◌, [], ◌∷◌, None, Some, codes, length};
+ghost use Rattle.mail_message.specs.Boxes.{Content};
+ghost use Rattle.mur_model.specs.Store.{box_at};
+ghost use Rattle.mur_model.specs.declared.store.Store.{Store};
+ghost use Rattle.reply_law.specs.Scenes.{as_admin, as_admin_at, as_amy, as_bob};
 ghost use Rattle.reply_law.specs.Talk.{IsAnswered, IsTalk, first};
 
 /// A new mailbox is empty, its first message will get UID 1, and it has the UIDVALIDITY that it was given.
@@ -34,7 +37,10 @@ pub fn a_mailbox_is_not_created()
     ensures rights_before_there { IsAnswered as_amy "a CREATE user.bob" ("a NO [NOPERM] not permitted" ∷ []) }
     ensures there { IsAnswered as_admin "a CREATE user.bob" ("a NO [ALREADYEXISTS] mailbox exists" ∷ []) }
     ensures there_below { IsAnswered as_bob "a CREATE \"INBOX.To do\"" ("a NO [ALREADYEXISTS] mailbox exists" ∷ []) }
-    ensures spent { IsTalk spent (first "a CREATE top" ("a NO [LIMIT] too large or too many" ∷ [])
-        ∷ first "b STATUS top (MESSAGES)" ("b NO [NONEXISTENT] no such mailbox" ∷ []) ∷ []) }
-    ensures there_before_spent { IsAnswered spent "a CREATE user.bob" ("a NO [ALREADYEXISTS] mailbox exists" ∷ []) }
+    ensures full { (store : Store) → length store.boxes ≡ 4096 → box_at store (codes "top") ≡ None
+        → IsAnswered (as_admin_at store) "a CREATE top" ("a NO [LIMIT] too large or too many" ∷ []) }
+    ensures room_for_one { (store : Store) → length store.boxes ≡ 4095 → box_at store (codes "top") ≡ None
+        → IsAnswered (as_admin_at store) "a CREATE top" ("a OK CREATE completed" ∷ []) }
+    ensures there_before_full { (store : Store) (box : Content) → length store.boxes ≡ 4096 → box_at store (codes "top") ≡ Some box
+        → IsAnswered (as_admin_at store) "a CREATE top" ("a NO [ALREADYEXISTS] mailbox exists" ∷ []) }
 {}

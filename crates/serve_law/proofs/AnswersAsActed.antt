@@ -37,12 +37,12 @@ alike_of store home name (is_missing box held) = neither box held
 alike_of store home name (is_there held is) = both held is.at is.is_open is.box
 
 -- a session that has ended needs no mailbox
-ended_needs_none : (setting : Setting) (it : Command) (name : List ℕ) (work : Work) → need_of setting Ended it ≡ Mailbox name work → ⊥
+pub ended_needs_none : (setting : Setting) (it : Command) (name : List ℕ) (work : Work) → need_of setting Ended it ≡ Mailbox name work → ⊥
 unfolding need_of is_in
 ended_needs_none setting it name work h = cc
 
 -- a turn of a session that hasn't ended, by whether the turn ends it
-finished_so : (session : Sess) (reply : ReplyOf) (later : Option Sess) → (session ≡ Ended → ⊥)
+pub finished_so : (session : Sess) (reply : ReplyOf) (later : Option Sess) → (session ≡ Ended → ⊥)
     → finished_by session (Some (record { session = later; reply = reply }))
     ≡ record { session = session_after session later; need = Some (given_with reply (session_after session later)) }
 unfolding finished_by told_with given_with
@@ -74,7 +74,7 @@ unfolding act_of
 acted_as setting store session it name work serial need = ap (act_by store session serial) need
 
 pub answers_as_acted : (setting : Setting) (store : Store) (home : Backend) (session : Sess) (it : Command) (name : List ℕ) (work : Work) (id : AskId) (user : List ℕ)
-    → need_of setting session it ≡ Mailbox name work → HaveAlike store home name → GaveThose store.given home.last_serial
+    → need_of setting session it ≡ Mailbox name work → HaveAlike store home name → GaveThose store home
     → AnswersAsActed session name (asked_for name work).awaited (home_step home (ask_of id user name (asked_for name work)))
     (act_of setting store session it (home.last_serial + 1))
 unfolding act_by IsOfNeeded
@@ -83,7 +83,7 @@ answers_as_acted setting store home session it name work id user need alike gave
     let awaited : Awaited = (asked_for name work).awaited in
     let turn : Turn = (worked_at store name work serial).turn in
     let serves = serves_alike store home id user name work (store_of_home store home name alike)
-    (record { serials = gave.at_most; spent = gave.spent; counted = gave.counted }) in
+    (record { serials = gave.at_most; counted = gave.counted; boxes = gave.boxes; held = gave.held }) in
     let by = of_result session awaited serves.body turn (result_of serves.body) refl
     (serves.shown session (work_own setting session it (Mailbox name work) need)) in
     let goes_on = λ (e : session ≡ Ended). ended_needs_none setting it name work (ap (λ (s : Sess). need_of setting s it) (sym e) ∙ need) in

@@ -18,7 +18,7 @@ use Rattle.mur_model.specs.Asking.{asked_for}
 use Rattle.session_core.specs.Finish.{turn_of}
 use Rattle.session_core.specs.Results.{result_of, turn_by}
 use Rattle.backend_core.specs.OpenBox.{open_content}
-use Rattle.serve_law.proofs.HomeStore.{IsAtHome, opened, changed_alike, kept_alike}
+use Rattle.serve_law.proofs.HomeStore.{IsAtHome, opened, changed_alike, changed_gives, kept_alike, kept_gives}
 use Rattle.serve_law.proofs.ServedAlike.{ServesAlike, apart, not_refused}
 
 abbrev pub AppendsAlike : Store → Backend → List ℕ → Message → Option Held → Type 0
@@ -41,7 +41,7 @@ fault_by store home name message held (Some fault) is = record {
   is_body = refl;
   shown = λ session own. refl;
   still = kept_alike store home name held is;
-  gives = λ given. given;
+  gives = kept_gives store home name held held.content;
   unless = λ _. refl;
 }
 fault_by store home name message held None is = record {
@@ -50,7 +50,7 @@ fault_by store home name message held None is = record {
   is_body = refl;
   shown = λ session own. refl;
   still = changed_alike store home name held (appended held.content (message ∷ [])) is;
-  gives = λ given. given;
+  gives = changed_gives store home name held (appended held.content (message ∷ [])) (appended held.content (message ∷ []));
   unless = λ h. absurd (apart h);
 }
 

@@ -81,28 +81,28 @@ work_lacks home ask name (select_work it) ne none = ap (look_step home ask.selec
 work_lacks home ask name (viewed_work view it) ne none = view_lacks home ask view it none
 
 -- what the store does with a name that it hasn't
-record IsMissed (store : Store) (name : List ℕ) (work : Work) (serial : ℕ) (worked : Worked) : Type 0 where
-  free : MayWork store name serial work
-  stays : worked.left ≡ kept
-  shown : (session : Sess) → IsOfWork session work → turn_of session (asked_for name work).awaited Missing ≡ Some worked.turn
+pub record IsMissed (store : Store) (name : List ℕ) (work : Work) (serial : ℕ) (worked : Worked) : Type 0 where
+  pub free : MayWork store name serial work
+  pub stays : worked.left ≡ kept
+  pub shown : (session : Sess) → IsOfWork session work → turn_of session (asked_for name work).awaited Missing ≡ Some worked.turn
 
-misses : (store : Store) (name : List ℕ) (work : Work) (serial : ℕ) (spent : Bool) → work ≢ Make
-    → IsMissed store name work serial (work_on name work serial spent None)
+pub misses : (store : Store) (name : List ℕ) (work : Work) (serial : ℕ) (full : Bool) → work ≢ Make
+    → IsMissed store name work serial (work_on name work serial full None)
 unfolding work_on MayWork asked_for turn_of append_on reply_to_append status_on reply_to_status select_on select_turn viewed_on viewed_in viewed_turn IsOfWork
-misses store name Make serial spent ne = absurd (ne refl)
-misses store name (append_work message) serial spent ne = record { free = tt; stays = refl; shown = λ session own. refl }
-misses store name (status_work shown items) serial spent ne = record { free = tt; stays = refl; shown = λ session own. refl }
-misses store name (select_work it) serial spent ne = record { free = tt; stays = refl; shown = λ session own. refl }
-misses store name (viewed_work view it) serial spent ne = record { free = tt; stays = refl; shown = λ session own. ap (λ s. viewed_in s it Missing) own }
+misses store name Make serial full ne = absurd (ne refl)
+misses store name (append_work message) serial full ne = record { free = tt; stays = refl; shown = λ session own. refl }
+misses store name (status_work shown items) serial full ne = record { free = tt; stays = refl; shown = λ session own. refl }
+misses store name (select_work it) serial full ne = record { free = tt; stays = refl; shown = λ session own. refl }
+misses store name (viewed_work view it) serial full ne = record { free = tt; stays = refl; shown = λ session own. ap (λ s. viewed_in s it Missing) own }
 
-pub misses_alike : (store : Store) (home : Backend) (ask : FrontAsk) (work : Work) (spent : Bool) → work ≢ Make → ask.op ≡ (asked_for ask.name work).op
+pub misses_alike : (store : Store) (home : Backend) (ask : FrontAsk) (work : Work) (full : Bool) → work ≢ Make → ask.op ≡ (asked_for ask.name work).op
     → box_at store ask.name ≡ None → held_at home ask.name ≡ None
-    → ServesAlike store home ask.name work (work_on ask.name work (home.last_serial + 1) spent None) (home_step home ask)
+    → ServesAlike store home ask.name work (work_on ask.name work (home.last_serial + 1) full None) (home_step home ask)
 unfolding home_step store_after turn_by result_of
-misses_alike store home ask work spent ne op box none =
+misses_alike store home ask work full ne op box none =
     let name : List ℕ = ask.name in
-    let is = misses store name work (home.last_serial + 1) spent ne in
-    subst (λ s. ServesAlike store home name work (work_on name work (home.last_serial + 1) spent None) s)
+    let is = misses store name work (home.last_serial + 1) full ne in
+    subst (λ s. ServesAlike store home name work (work_on name work (home.last_serial + 1) full None) s)
     (sym (ap (op_step home ask) op ∙ work_lacks home ask name work ne none))
     (record {
       free = is.free;
@@ -110,7 +110,7 @@ misses_alike store home ask work spent ne op box none =
       is_body = refl;
       shown = is.shown;
       still = subst (λ l. IsStoreOf (store_after store name l) home name) (sym is.stays) (is_missing box none);
-      gives = subst (λ l. AreSerialsTo store.given home.last_serial → AreSerialsTo (store_after store name l).given home.last_serial) (sym is.stays)
+      gives = subst (λ l. AreSerialsTo store home → AreSerialsTo (store_after store name l) home) (sym is.stays)
           (λ given. given);
       unless = λ _. is.stays;
     })

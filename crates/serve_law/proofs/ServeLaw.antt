@@ -1,5 +1,5 @@
 -- What the home does with work at a mailbox is what the one store does with it. Each command has its law in a file of its own.
-use Rattle.std.proofs.Common.{◌≡◌, ℕ, ◌+◌, List, None, Some, refl, sym, ◌∙◌, ap, subst}
+use Rattle.std.proofs.Common.{◌≡◌, ◌≢◌, ℕ, ◌+◌, List, None, Some, refl, sym, ◌∙◌, ap, subst}
 use Rattle.backend_core.specs.declared.backend.Backend.{Backend}
 use Rattle.backend_core.specs.Create.{create_step}
 use Rattle.backend_core.specs.Expunge.{expunge_step}
@@ -20,7 +20,7 @@ use Rattle.mur_model.specs.FetchRows.{asks_rows}
 use Rattle.mur_model.specs.FetchSummaries.{asks_summaries}
 use Rattle.mur_model.specs.SearchRows.{are_keys_in_rows}
 use Rattle.mur_model.specs.Create.{create_on}
-use Rattle.mur_model.specs.Store.{box_at, is_spent}
+use Rattle.mur_model.specs.Store.{box_at, is_full}
 use Rattle.mur_model.specs.Asking.{asked_for}
 use Rattle.mur_model.specs.Asking.{fetch_op, search_op, view_op}
 use Rattle.backend_core.specs.OpenBox.{open_content}
@@ -48,7 +48,7 @@ plain_ask id user name work =
 -- work at what the home has of the name
 abbrev OpensAlike : Store → Backend → AskId → List ℕ → List ℕ → Work → Type 0
 OpensAlike store home id user name work =
-    ServesAlike store home name work (work_on name work (home.last_serial + 1) (is_spent store.given) (open_content (held_at home name)))
+    ServesAlike store home name work (work_on name work (home.last_serial + 1) (is_full store) (open_content (held_at home name)))
     (home_step home (plain_ask id user name work))
 
 views : (store : Store) (home : Backend) (id : AskId) (user name : List ℕ) (view : View) (it : ViewWork) (held : Held) → IsAtHome store home name held
@@ -70,12 +70,12 @@ views store home id user name view (Fetch it) held is =
 views store home id user name view (Search it) held is =
     searches store home id user name view it (search_op view (are_keys_in_rows it.keys)) (are_keys_in_rows it.keys) held refl is
 
--- a mailbox that is there
+-- a mailbox that is there. Only a CREATE depends on what was given
 there_alike : (store : Store) (home : Backend) (id : AskId) (user name : List ℕ) (work : Work) (held : Held) → IsAtHome store home name held
-    → AreSerialsTo store.given home.last_serial → OpensAlike store home id user name work
+    → (work ≡ Make → AreSerialsTo store home) → OpensAlike store home id user name work
 unfolding home_step op_step asked_for work_on
 there_alike store home id user name Make held is given =
-    subst (λ f. CreatesAlike store home name f) (sym is.at) (creates_alike store home name held is given)
+    subst (λ f. CreatesAlike store home name f) (sym is.at) (creates_alike store home name held is (given refl))
 there_alike store home id user name (append_work message) held is given =
     subst (λ f. AppendsAlike store home name message f) (sym is.at) (appends_alike store home name message held is)
 there_alike store home id user name (status_work shown items) held is given =
@@ -86,32 +86,41 @@ there_alike store home id user name (viewed_work view it) held is given = views 
 
 abbrev MissedAlike : Store → Backend → AskId → List ℕ → List ℕ → Work → Type 0
 MissedAlike store home id user name work =
-    ServesAlike store home name work (work_on name work (home.last_serial + 1) (is_spent store.given) None) (home_step home (plain_ask id user name work))
+    ServesAlike store home name work (work_on name work (home.last_serial + 1) (is_full store) None) (home_step home (plain_ask id user name work))
 
 -- one that is missing
 missing_alike : (store : Store) (home : Backend) (id : AskId) (user name : List ℕ) (work : Work) → box_at store name ≡ None → held_at home name ≡ None
-    → AreSerialsTo store.given home.last_serial → MissedAlike store home id user name work
+    → (work ≡ Make → AreSerialsTo store home) → MissedAlike store home id user name work
 unfolding home_step op_step asked_for work_on
 missing_alike store home id user name Make box none given =
-    subst (λ f. ServesAlike store home name Make (create_on name (home.last_serial + 1) (is_spent store.given) None) (create_step home name f)) (sym none)
-    (creates_missing store home name box none given)
+    subst (λ f. ServesAlike store home name Make (create_on name (home.last_serial + 1) (is_full store) None) (create_step home name f)) (sym none)
+    (creates_missing store home name box none (given refl))
 missing_alike store home id user name (append_work message) box none given =
-    misses_alike store home (plain_ask id user name (append_work message)) (append_work message) (is_spent store.given) (λ e. cc) refl box none
+    misses_alike store home (plain_ask id user name (append_work message)) (append_work message) (is_full store) (λ e. cc) refl box none
 missing_alike store home id user name (status_work shown items) box none given =
-    misses_alike store home (plain_ask id user name (status_work shown items)) (status_work shown items) (is_spent store.given) (λ e. cc) refl box none
+    misses_alike store home (plain_ask id user name (status_work shown items)) (status_work shown items) (is_full store) (λ e. cc) refl box none
 missing_alike store home id user name (select_work it) box none given =
-    misses_alike store home (plain_ask id user name (select_work it)) (select_work it) (is_spent store.given) (λ e. cc) refl box none
+    misses_alike store home (plain_ask id user name (select_work it)) (select_work it) (is_full store) (λ e. cc) refl box none
 missing_alike store home id user name (viewed_work view it) box none given =
-    misses_alike store home (plain_ask id user name (viewed_work view it)) (viewed_work view it) (is_spent store.given) (λ e. cc) refl box none
+    misses_alike store home (plain_ask id user name (viewed_work view it)) (viewed_work view it) (is_full store) (λ e. cc) refl box none
 
-pub serves_alike : (store : Store) (home : Backend) (id : AskId) (user name : List ℕ) (work : Work) → IsStoreOf store home name
-    → AreSerialsTo store.given home.last_serial
+served_alike : (store : Store) (home : Backend) (id : AskId) (user name : List ℕ) (work : Work) → IsStoreOf store home name
+    → (work ≡ Make → AreSerialsTo store home)
     → ServesAlike store home name work (worked_at store name work (home.last_serial + 1)) (home_step home (plain_ask id user name work))
-serves_alike store home id user name work (is_missing box none) given =
-    subst (λ b. ServesAlike store home name work (work_on name work (home.last_serial + 1) (is_spent store.given) b)
+served_alike store home id user name work (is_missing box none) given =
+    subst (λ b. ServesAlike store home name work (work_on name work (home.last_serial + 1) (is_full store) b)
     (home_step home (plain_ask id user name work))) (sym box)
     (missing_alike store home id user name work box none given)
-serves_alike store home id user name work (is_there held is) given =
-    subst (λ b. ServesAlike store home name work (work_on name work (home.last_serial + 1) (is_spent store.given) b)
+served_alike store home id user name work (is_there held is) given =
+    subst (λ b. ServesAlike store home name work (work_on name work (home.last_serial + 1) (is_full store) b)
     (home_step home (plain_ask id user name work))) (ap open_content is.at ∙ opened held held.content is.is_open ∙ sym is.box)
     (there_alike store home id user name work held is given)
+
+pub serves_alike : (store : Store) (home : Backend) (id : AskId) (user name : List ℕ) (work : Work) → IsStoreOf store home name → AreSerialsTo store home
+    → ServesAlike store home name work (worked_at store name work (home.last_serial + 1)) (home_step home (plain_ask id user name work))
+serves_alike store home id user name work is given = served_alike store home id user name work is (λ e. given)
+
+-- any other command than CREATE needs nothing of what was given
+pub serves_others : (store : Store) (home : Backend) (id : AskId) (user name : List ℕ) (work : Work) → IsStoreOf store home name → work ≢ Make
+    → ServesAlike store home name work (worked_at store name work (home.last_serial + 1)) (home_step home (plain_ask id user name work))
+serves_others store home id user name work is ne = served_alike store home id user name work is (λ e. absurd (ne e))

@@ -31,7 +31,7 @@ pub record ServesAlike (store : Store) (home : Backend) (name : List ℕ) (work 
   pub is_body : step.body ≡ Some body
   pub shown : (session : Sess) → IsOfWork session work → turn_behind session (asked_for name work).awaited body ≡ Some worked.turn
   pub still : IsStoreOf (store_after store name worked.left) step.home name
-  pub gives : AreSerialsTo store.given home.last_serial → AreSerialsTo (store_after store name worked.left).given (step.home).last_serial
+  pub gives : AreSerialsTo store home → AreSerialsTo (store_after store name worked.left) step.home
   pub unless : step.counts ≡ IfAnswered → worked.left ≡ kept
 
 -- a home serves a mailbox that is open to a session without one selected

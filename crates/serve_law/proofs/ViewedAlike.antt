@@ -43,7 +43,7 @@ pub record AnswersAlike (store : Store) (home : Backend) (name : List ℕ) (view
     : Type 0 where
   pub shown : turn_behind (Selected view) (Viewed it) response.body ≡ Some worked.turn
   pub still : IsStoreOf (store_after store name worked.left) behind name
-  pub gives : AreSerialsTo store.given home.last_serial → AreSerialsTo (store_after store name worked.left).given behind.last_serial
+  pub gives : AreSerialsTo store home → AreSerialsTo (store_after store name worked.left) behind
   pub unless : response.counts ≡ IfAnswered → worked.left ≡ kept
 
 serves_as : (store : Store) (home : Backend) (name : List ℕ) (view : View) (it : ViewWork) (worked : Worked) (behind : Backend) (response : Response)

@@ -1,5 +1,5 @@
 -- What a session makes of the answer of a mailbox's home is what one store replies that has the same mailbox (RFC 9051, 6).
-use Rattle.std.specs.Prelude.{◌≡◌, ℕ, ◌≤◌, ◌-◌, ◌^◌, nat_eq, List, length, None, Some, All}
+use Rattle.std.specs.Prelude.{◌≡◌, ◌≤◌, List, ℕ, length, None, Some, All}
 use Rattle.backend_core.specs.declared.backend.Backend.{Backend}
 use Rattle.backend_core.specs.HomeStep.{HomeStep, held_at}
 use Rattle.imap_types.specs.declared.reply.Reply.{Reply as ReplyOf}
@@ -8,7 +8,7 @@ use Rattle.link_msg.specs.declared.ask.FrontAsk.{FrontAsk}
 use Rattle.mur_base.specs.declared.home.Phase.TheVariants.{Open as open_here}
 use Rattle.mur_base.specs.declared.point.AskId.{AskId}
 use Rattle.mur_model.specs.Act.{Acted}
-use Rattle.mur_model.specs.Store.{box_at, is_spent}
+use Rattle.mur_model.specs.Store.{box_at}
 use Rattle.mur_model.specs.declared.need.Asking.{Asking}
 use Rattle.mur_model.specs.declared.need.Awaited.{Awaited}
 use Rattle.mur_model.specs.declared.need.Need.{Need}
@@ -27,11 +27,12 @@ pub data HaveAlike (store : Store) (home : Backend) (name : List ℕ) : Type 0 w
   neither : box_at store name ≡ None → held_at home name ≡ None → HaveAlike store home name
   both : (held : Held) → held_at home name ≡ Some held → held.phase ≡ open_here → box_at store name ≡ Some held.content → HaveAlike store home name
 
--- the home gave the UIDVALIDITYs that the store gave: as many, and none above its last one
-pub record GaveThose (given : List Pair) (last : ℕ) : Type 0 where
-  pub at_most : All (λ (pair : Pair). pair.serial ≤ last) given
-  pub spent : is_spent given ≡ nat_eq last (2 ^ 32 - 1)
-  pub counted : last ≡ length given
+-- the home gave the UIDVALIDITYs that the store gave: as many, and none above its last one; and both have as many mailboxes as were given one
+pub record GaveThose (store : Store) (home : Backend) : Type 0 where
+  pub at_most : All (λ (pair : Pair). pair.serial ≤ home.last_serial) store.given
+  pub counted : home.last_serial ≡ length store.given
+  pub boxes : length store.boxes ≡ length store.given
+  pub held : length home.held ≡ length store.given
 
 -- a frontend's ask for what a session asked
 abbrev pub ask_of : AskId → List ℕ → List ℕ → Asking → FrontAsk

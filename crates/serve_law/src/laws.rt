@@ -20,7 +20,7 @@ ghost use Rattle.serve_law.specs.DoneHere.{IsDoneWhereOpen};
 /// (RFC 9051, 6). Both have the same after it, too.
 pub fn a_home_answers_as_the_store()
     ensures { (setting : Setting) (store : Store) (home : Backend) (session : Sess) (it : Command) (name : List ℕ) (work : Work) (id : AskId) (user : List ℕ)
-        → need_of setting session it ≡ Mailbox name work → HaveAlike store home name → GaveThose store.given home.last_serial
+        → need_of setting session it ≡ Mailbox name work → HaveAlike store home name → GaveThose store home
         → AnswersAsActed session name (asked_for name work).awaited (home_step home (ask_of id user name (asked_for name work)))
         (act_of setting store session it (home.last_serial + 1)) }
 {}

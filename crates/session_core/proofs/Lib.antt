@@ -2,4 +2,4 @@ pub mod AtOnceLaw
 pub mod NeedLaw
 pub mod NumbersLaw
 pub mod NoExpungeLaw
-mod RefusedLaw
+pub mod RefusedLaw

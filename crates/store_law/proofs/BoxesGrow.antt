@@ -32,7 +32,7 @@ use Rattle.mur_model.specs.Fetch.{seen_flags, sees}
 use Rattle.mur_model.specs.Left.{Left, Worked, kept, made, changed, store_after}
 use Rattle.mur_model.specs.Select.{select_on}
 use Rattle.mur_model.specs.Status.{status_on}
-use Rattle.mur_model.specs.Store.{box_at, is_spent}
+use Rattle.mur_model.specs.Store.{box_at, is_full}
 use Rattle.mur_model.specs.StoreFlags.{stored_at}
 use Rattle.mur_model.specs.Viewing.{found_gone, viewed_on, work_there}
 use Rattle.store_law.proofs.NoneLost.{others_stay}
@@ -164,13 +164,13 @@ there_grows view (view_work.Fetch asked) box =
     either_grows box (sees view asked) _ _ (labels_grow box (rows_stored box asked.uids Add seen_flags)) tt
 there_grows view (view_work.Search asked) box = tt
 
-work_grows : (name : List ℕ) (work : Work) (serial : ℕ) (spent : Bool) (box : Content) → LeftGrows box (work_on name work serial spent (Some box)).left
+work_grows : (name : List ℕ) (work : Work) (serial : ℕ) (full : Bool) (box : Content) → LeftGrows box (work_on name work serial full (Some box)).left
 unfolding work_on create_on append_on status_on select_on viewed_on
-work_grows name Make serial spent box = tt
-work_grows name (append_work message) serial spent box = append_grows message box (append_fault box (message ∷ []))
-work_grows name (status_work shown items) serial spent box = tt
-work_grows name (select_work opened) serial spent box = tt
-work_grows name (viewed_work view work) serial spent box =
+work_grows name Make serial full box = tt
+work_grows name (append_work message) serial full box = append_grows message box (append_fault box (message ∷ []))
+work_grows name (status_work shown items) serial full box = tt
+work_grows name (select_work opened) serial full box = tt
+work_grows name (viewed_work view work) serial full box =
     either_grows box (box.serial == view.serial) (work_there view work box) found_gone (there_grows view work box) tt
 
 -- ---- each mailbox goes on so
@@ -207,6 +207,6 @@ unfolding act_by
 act_grows store session serial (Refusal verdict) = unchanged store
 act_grows store session serial (Turned turn) = unchanged store
 act_grows store session serial (Mailbox name work) =
-    left_grows store name (work_on name work serial (is_spent store.given) (box_at store name)).left
-    (λ box at. subst (λ (found : Option Content). LeftGrows box (work_on name work serial (is_spent store.given) found).left) (sym at)
-    (work_grows name work serial (is_spent store.given) box))
+    left_grows store name (work_on name work serial (is_full store) (box_at store name)).left
+    (λ box at. subst (λ (found : Option Content). LeftGrows box (work_on name work serial (is_full store) found).left) (sym at)
+    (work_grows name work serial (is_full store) box))

@@ -27,7 +27,7 @@ use Rattle.mur_model.specs.Act.{act_by, act_of, need_begun, need_in, need_of, ne
 use Rattle.mur_model.specs.Create.{create, create_as, create_by, create_meant, create_on, is_inbox, make, without_separator}
 use Rattle.mur_model.specs.Left.{store_after}
 use Rattle.mur_model.specs.Rights.{may_create}
-use Rattle.mur_model.specs.Store.{box_at, is_spent}
+use Rattle.mur_model.specs.Store.{box_at, is_full}
 use Rattle.mur_model.specs.Traits.{is_in, may_be, traits_of}
 use Rattle.store_law.specs.Appended.{name_meant}
 use Rattle.store_law.specs.DoneIsDone.{Creates, IsDone, IsMade, IsMadeAt, SpellsName}
@@ -49,8 +49,8 @@ spells text =
 -- ---- it is made
 
 module _ (store : Store) (session : Sess) (serial : ℕ) (code : Code) (command_name : List ℕ) where
-  make_done : (name : List ℕ) (spent : Bool) → box_at store name ≡ None → (make name serial spent).turn.reply.verdict ≡ ok_reply code command_name
-      → IsMade name store (store_after store name (make name serial spent).left)
+  make_done : (name : List ℕ) (full : Bool) → box_at store name ≡ None → (make name serial full).turn.reply.verdict ≡ ok_reply code command_name
+      → IsMade name store (store_after store name (make name serial full).left)
   unfolding make store_after
   make_done name true none is = cc
   make_done name false none is = record {
@@ -60,16 +60,16 @@ module _ (store : Store) (session : Sess) (serial : ℕ) (code : Code) (command_
     empty = refl;
   }
 
-  on_done : (name : List ℕ) (spent : Bool) (found : Option Content) → box_at store name ≡ found
-      → (create_on name serial spent found).turn.reply.verdict ≡ ok_reply code command_name
-      → IsMade name store (store_after store name (create_on name serial spent found).left)
+  on_done : (name : List ℕ) (full : Bool) (found : Option Content) → box_at store name ≡ found
+      → (create_on name serial full found).turn.reply.verdict ≡ ok_reply code command_name
+      → IsMade name store (store_after store name (create_on name serial full found).left)
   unfolding create_on
-  on_done name spent None none is = make_done name spent none is
-  on_done name spent (Some there) none is = cc
+  on_done name full None none is = make_done name full none is
+  on_done name full (Some there) none is = cc
 
   by_does : (name : List ℕ) (may : Bool) → Does store session serial code command_name (IsMade name store) (create_by name may)
   unfolding create_by act_by work_on
-  by_does name true is = on_done name (is_spent store.given) (box_at store name) refl is
+  by_does name true is = on_done name (is_full store) (box_at store name) refl is
   by_does name false is = cc
 
   as_does : (setting : Setting) (user name : List ℕ) (inbox : Bool) (fault : Option NameFault)

@@ -27,7 +27,7 @@ use Rattle.mur_model.specs.Fetch.{fetch_at, sees}
 use Rattle.mur_model.specs.Left.{Left, Worked, kept, made, changed, store_after}
 use Rattle.mur_model.specs.Select.{select_on}
 use Rattle.mur_model.specs.Status.{status_on}
-use Rattle.mur_model.specs.Store.{box_at, is_spent, with_box}
+use Rattle.mur_model.specs.Store.{box_at, is_full, with_box}
 use Rattle.mur_model.specs.StoreFlags.{stored_at}
 use Rattle.mur_model.specs.Viewing.{found_gone, viewed_on, work_there}
 use Rattle.mur_model.proofs.OwnView.{IsOfNeeded, IsOfWork, need_own}
@@ -84,14 +84,14 @@ module _ (view : View) (it : Command) (name : List ℕ) (reads : view.is_writabl
   there_whole (view_work.Fetch asked) box fits = fetched_whole asked box
   there_whole (view_work.Search asked) box fits = tt
 
-  work_whole : (work : Work) (serial : ℕ) (spent : Bool) (box : Content) → adds it ≡ false → IsOfWork (selected view) work
-      → FitsWork (selected view) it name work → IsWhole box (work_on name work serial spent (Some box)).left
+  work_whole : (work : Work) (serial : ℕ) (full : Bool) (box : Content) → adds it ≡ false → IsOfWork (selected view) work
+      → FitsWork (selected view) it name work → IsWhole box (work_on name work serial full (Some box)).left
   unfolding work_on create_on append_on status_on select_on viewed_on IsOfWork
-  work_whole Make serial spent box more own fits = tt
-  work_whole (append_work message) serial spent box more own fits = (let both : false ≡ true = sym more ∙ fits in cc)
-  work_whole (status_work shown items) serial spent box more own fits = tt
-  work_whole (select_work opened) serial spent box more own fits = tt
-  work_whole (viewed_work other work) serial spent box more own fits =
+  work_whole Make serial full box more own fits = tt
+  work_whole (append_work message) serial full box more own fits = (let both : false ≡ true = sym more ∙ fits in cc)
+  work_whole (status_work shown items) serial full box more own fits = tt
+  work_whole (select_work opened) serial full box more own fits = tt
+  work_whole (viewed_work other work) serial full box more own fits =
       let same : view ≡ other = cc in
       subst (λ (v : View). IsWhole box (viewed_on v work (Some box)).left) same
       (either_whole box (box.serial == view.serial) (work_there view work box) found_gone
@@ -103,18 +103,18 @@ IsNone kept = Unit {0}
 IsNone (made content) = Unit {0}
 IsNone (changed content) = ⊥
 
-made_none : (name : List ℕ) (serial : ℕ) (spent : Bool) → IsNone (make name serial spent).left
+made_none : (name : List ℕ) (serial : ℕ) (full : Bool) → IsNone (make name serial full).left
 unfolding make
 made_none name serial true = tt
 made_none name serial false = tt
 
-work_none : (name : List ℕ) (work : Work) (serial : ℕ) (spent : Bool) → IsNone (work_on name work serial spent None).left
+work_none : (name : List ℕ) (work : Work) (serial : ℕ) (full : Bool) → IsNone (work_on name work serial full None).left
 unfolding work_on create_on append_on status_on select_on viewed_on
-work_none name Make serial spent = made_none name serial spent
-work_none name (append_work message) serial spent = tt
-work_none name (status_work shown items) serial spent = tt
-work_none name (select_work opened) serial spent = tt
-work_none name (viewed_work view work) serial spent = tt
+work_none name Make serial full = made_none name serial full
+work_none name (append_work message) serial full = tt
+work_none name (status_work shown items) serial full = tt
+work_none name (select_work opened) serial full = tt
+work_none name (viewed_work view work) serial full = tt
 
 stays_by : (found later : Option Content) → later ≡ found → IfSome found (λ box. later ≡ Some box)
 stays_by None later same = tt
@@ -146,10 +146,10 @@ none_stays store name (changed content) none is = absurd is
 
 found_stays : (store : Store) (view : View) (it : Command) (name : List ℕ) (work : Work) (serial : ℕ) (found : Option Content)
     → view.is_writable ≡ false → adds it ≡ false → box_at store name ≡ found → IsOfWork (selected view) work → FitsWork (selected view) it name work
-    → AllStay store (store_after store name (work_on name work serial (is_spent store.given) found).left)
-found_stays store view it name work serial None reads more at own fits = none_stays store name _ at (work_none name work serial (is_spent store.given))
+    → AllStay store (store_after store name (work_on name work serial (is_full store) found).left)
+found_stays store view it name work serial None reads more at own fits = none_stays store name _ at (work_none name work serial (is_full store))
 found_stays store view it name work serial (Some box) reads more at own fits =
-    whole_stays store name box _ at (work_whole view it name reads work serial (is_spent store.given) box more own fits)
+    whole_stays store name box _ at (work_whole view it name reads work serial (is_full store) box more own fits)
 
 need_stays : (store : Store) (view : View) (it : Command) (serial : ℕ) (need : Needed) → view.is_writable ≡ false → adds it ≡ false
     → IsOfNeeded (selected view) need → Fits (selected view) it need → AllStay store (act_by store (selected view) serial need).store

@@ -37,7 +37,7 @@ use Rattle.mur_model.specs.Left.{Left, Worked, box_after, changed, kept, made, s
 use Rattle.mur_model.specs.Select.{select_on, unselected}
 use Rattle.mur_model.specs.Selected.{rows_of}
 use Rattle.mur_model.specs.Status.{status_on, status_reply}
-use Rattle.mur_model.specs.Store.{box_at, is_spent}
+use Rattle.mur_model.specs.Store.{box_at, is_full}
 use Rattle.mur_model.specs.StoreFlags.{own_lines, stored_at}
 use Rattle.mur_model.specs.Viewing.{found_gone, viewed_on, work_there}
 use Rattle.mur_model.proofs.EachNeed.{AnyCommand, OfBegun, OfViewed, OfWorks, each_by_works, each_need, of_refusals}
@@ -97,15 +97,15 @@ viewed_speaks view work box = either_speaks view box (box.serial == view.serial)
 abbrev AreQuiet : List ReplyLine → Type 0
 AreQuiet lines = (box : Content) (known : Known) → LinesSpeak box known lines
 
-made_quiet : (name : List ℕ) (serial : ℕ) (spent : Bool) → AreQuiet (make name serial spent).turn.reply.lines
+made_quiet : (name : List ℕ) (serial : ℕ) (full : Bool) → AreQuiet (make name serial full).turn.reply.lines
 unfolding make LinesSpeak
 made_quiet name serial true = λ box known. tt
 made_quiet name serial false = λ box known. tt
 
-created_quiet : (name : List ℕ) (serial : ℕ) (spent : Bool) (found : Option Content) → AreQuiet (create_on name serial spent found).turn.reply.lines
+created_quiet : (name : List ℕ) (serial : ℕ) (full : Bool) (found : Option Content) → AreQuiet (create_on name serial full found).turn.reply.lines
 unfolding create_on LinesSpeak
-created_quiet name serial spent None = made_quiet name serial spent
-created_quiet name serial spent (Some there) = λ box known. tt
+created_quiet name serial full None = made_quiet name serial full
+created_quiet name serial full (Some there) = λ box known. tt
 
 appended_quiet : (message : Message) (there : Content) (fault : Option StoreFault) → AreQuiet (append_to message there fault).turn.reply.lines
 unfolding append_to append_reply LinesSpeak
@@ -244,19 +244,19 @@ module _ (store : Store) (view : View) where
       left_speaks box (viewed_on view work (Some box)).left (viewed_on view work (Some box)).turn.reply.lines at (viewed_speaks view work box)
       (viewed_not_made view work box)
 
-  work_speaks : (name : List ℕ) (work : Work) (serial : ℕ) (spent : Bool) → IsAtOwn (Mailbox name work) → IsOfWork (selected view) work
-      → let worked = work_on name work serial spent (box_at store name) in Speaks (store_after store name worked.left) worked.turn.reply.lines
+  work_speaks : (name : List ℕ) (work : Work) (serial : ℕ) (full : Bool) → IsAtOwn (Mailbox name work) → IsOfWork (selected view) work
+      → let worked = work_on name work serial full (box_at store name) in Speaks (store_after store name worked.left) worked.turn.reply.lines
   unfolding work_on IsOfWork
-  work_speaks name Make serial spent at own = let worked = create_on name serial spent (box_at store name) in
-      quiet_speaks (store_after store name worked.left) worked.turn.reply.lines (created_quiet name serial spent (box_at store name))
-  work_speaks name (append_work message) serial spent at own = let worked = append_on message (box_at store name) in
+  work_speaks name Make serial full at own = let worked = create_on name serial full (box_at store name) in
+      quiet_speaks (store_after store name worked.left) worked.turn.reply.lines (created_quiet name serial full (box_at store name))
+  work_speaks name (append_work message) serial full at own = let worked = append_on message (box_at store name) in
       quiet_speaks (store_after store name worked.left) worked.turn.reply.lines (append_quiet message (box_at store name))
-  work_speaks name (status_work shown items) serial spent at own = let worked = status_on shown items (box_at store name) in
+  work_speaks name (status_work shown items) serial full at own = let worked = status_on shown items (box_at store name) in
       quiet_speaks (store_after store name worked.left) worked.turn.reply.lines (status_quiet shown items (box_at store name))
-  work_speaks name (select_work it) serial spent at own = let worked = select_on it name (box_at store name) in
+  work_speaks name (select_work it) serial full at own = let worked = select_on it name (box_at store name) in
       quiet_speaks (store_after store name worked.left) worked.turn.reply.lines
       (opened_quiet it.was_selected it.is_writable it name (box_at store name))
-  work_speaks name (viewed_work other work) serial spent at own =
+  work_speaks name (viewed_work other work) serial full at own =
       let same : view ≡ other = cc in
       let here : name ≡ view.name = at ∙ ap (λ (v : View). v.name) (sym same) in
       subst (λ n. Speaks (store_after store n (viewed_on other work (box_at store n)).left) (viewed_on other work (box_at store n)).turn.reply.lines) (sym here)
@@ -268,7 +268,7 @@ module _ (store : Store) (view : View) where
   unfolding act_by IsOfNeeded LinesSpeak
   need_speaks serial (Refusal verdict) quiet at own = quiet_speaks store [] (λ box known. tt)
   need_speaks serial (Turned turn) quiet at own = quiet_speaks store turn.reply.lines quiet
-  need_speaks serial (Mailbox name work) quiet at own = work_speaks name work serial (is_spent store.given) at own
+  need_speaks serial (Mailbox name work) quiet at own = work_speaks name work serial (is_full store) at own
 
 pub speaks_by_numbers : (setting : Setting) → SpeaksByNumbers setting
 unfolding act_of

@@ -39,7 +39,7 @@ use Rattle.mur_model.specs.Rights.{has_rights}
 use Rattle.mur_model.specs.Select.{opening, select, select_as, select_by, select_on, select_told}
 use Rattle.mur_model.specs.Selected.{rows_of}
 use Rattle.mur_model.specs.Status.{status_on, status_reply}
-use Rattle.mur_model.specs.Store.{box_at, is_spent}
+use Rattle.mur_model.specs.Store.{box_at, is_full}
 use Rattle.mur_model.specs.Traits.{is_in, may_be, traits_of}
 use Rattle.mur_model.specs.Viewing.{found_gone, viewed_on, work_there}
 use Rattle.mur_model.proofs.EachNeed.{OfWorks, each_by_works, of_refusals}
@@ -103,15 +103,15 @@ works_still = record {
   work = λ name it. tt;
 }
 
-made_still : (name : List ℕ) (serial : ℕ) (spent : Bool) → IsStill (make name serial spent).turn
+made_still : (name : List ℕ) (serial : ℕ) (full : Bool) → IsStill (make name serial full).turn
 unfolding make
 made_still name serial true = λ mirror. refl
 made_still name serial false = λ mirror. refl
 
-pub created_still : (name : List ℕ) (serial : ℕ) (spent : Bool) (found : Option Content) → IsStill (create_on name serial spent found).turn
+pub created_still : (name : List ℕ) (serial : ℕ) (full : Bool) (found : Option Content) → IsStill (create_on name serial full found).turn
 unfolding create_on
-created_still name serial spent None = made_still name serial spent
-created_still name serial spent (Some box) = λ mirror. refl
+created_still name serial full None = made_still name serial full
+created_still name serial full (Some box) = λ mirror. refl
 
 appended_still : (message : Message) (box : Content) (fault : Option StoreFault) → IsStill (append_to message box fault).turn
 unfolding append_to append_reply
@@ -227,15 +227,15 @@ module _ (R : Mirror → List Row → Type 0) (keeps : Keeps R) where
     viewed_behind name view work (Some box) rises own so fits =
         either_behind view (box.serial == view.serial) (work_there view work box) found_gone (there_behind name view work box rises own so fits) tt
 
-    work_behind : (name : List ℕ) (work : Work) (spent : Bool) (found : Option Content) → IfSome found Rises → IsOfWork session work
+    work_behind : (name : List ℕ) (work : Work) (full : Bool) (found : Option Content) → IfSome found Rises → IsOfWork session work
         → FitsWork session it name work
-        → let turn = (work_on name work serial spent found).turn in OfView R (read_lines mirror turn.reply.lines) (session_after session turn.session)
+        → let turn = (work_on name work serial full found).turn in OfView R (read_lines mirror turn.reply.lines) (session_after session turn.session)
     unfolding work_on IsOfWork OfView
-    work_behind name Make spent found rises own fits = still_behind mirror session _ _ is (created_still name serial spent found)
-    work_behind name (append_work message) spent found rises own fits = still_behind mirror session _ _ is (append_still message found)
-    work_behind name (status_work shown items) spent found rises own fits = still_behind mirror session _ _ is (status_still shown items found)
-    work_behind name (select_work opened) spent found rises own fits = absurd (no_select opened.is_writable fits)
-    work_behind name (viewed_work view work) spent found rises own fits =
+    work_behind name Make full found rises own fits = still_behind mirror session _ _ is (created_still name serial full found)
+    work_behind name (append_work message) full found rises own fits = still_behind mirror session _ _ is (append_still message found)
+    work_behind name (status_work shown items) full found rises own fits = still_behind mirror session _ _ is (status_still shown items found)
+    work_behind name (select_work opened) full found rises own fits = absurd (no_select opened.is_writable fits)
+    work_behind name (viewed_work view work) full found rises own fits =
         let so : OfView R mirror (selected view) = subst (OfView R mirror) own is in
         let turn = (viewed_on view work found).turn in
         subst (λ (s : Sess). OfView R (read_lines mirror turn.reply.lines) (session_after s turn.session)) (sym own)
@@ -247,7 +247,7 @@ module _ (R : Mirror → List Row → Type 0) (keeps : Keeps R) where
     need_behind (Refusal verdict) still own fits = is
     need_behind (Turned turn) still own fits = still_behind mirror session turn.session turn.reply is still
     need_behind (Mailbox name work) still own fits =
-        work_behind name work (is_spent store.given) (box_at store name) (box_rises store name rise) own fits
+        work_behind name work (is_full store) (box_at store name) (box_rises store name rise) own fits
 
   -- a silent STORE is kept in mind, and no other command
   asked_view : (is_named : ℕ → ℕ → Bool) (mirror : Mirror) (session : Sess) → OfView R mirror session → OfView R (with_silent is_named 1 mirror) session

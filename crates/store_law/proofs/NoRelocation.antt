@@ -29,7 +29,7 @@ use Rattle.mur_model.specs.Left.{Worked, changed, kept}
 use Rattle.mur_model.specs.Select.{select_on}
 use Rattle.mur_model.specs.Selected.{rows_of}
 use Rattle.mur_model.specs.Status.{status_on, status_reply}
-use Rattle.mur_model.specs.Store.{box_at, is_spent}
+use Rattle.mur_model.specs.Store.{box_at, is_full}
 use Rattle.mur_model.specs.StoreFlags.{stored_at}
 use Rattle.mur_model.specs.Viewing.{found_gone, viewed_on, work_there}
 use Rattle.store_law.specs.Refusals.{wants_cause}
@@ -42,15 +42,15 @@ either_work : (test : Bool) (one other : Worked) → WorkWantsNone one → WorkW
 either_work true one other is is_other = is
 either_work false one other is is_other = is_other
 
-made_is : (name : List ℕ) (serial : ℕ) (spent : Bool) → WorkWantsNone (make name serial spent)
+made_is : (name : List ℕ) (serial : ℕ) (full : Bool) → WorkWantsNone (make name serial full)
 unfolding make wants_cause
 made_is name serial true = refl
 made_is name serial false = refl
 
-created_is : (name : List ℕ) (serial : ℕ) (spent : Bool) (box : Option Content) → WorkWantsNone (create_on name serial spent box)
+created_is : (name : List ℕ) (serial : ℕ) (full : Bool) (box : Option Content) → WorkWantsNone (create_on name serial full box)
 unfolding create_on wants_cause
-created_is name serial spent (Some there) = refl
-created_is name serial spent None = made_is name serial spent
+created_is name serial full (Some there) = refl
+created_is name serial full None = made_is name serial full
 
 appended_by : (message : Message) (box : Content) (fault : Option StoreFault) → WorkWantsNone (append_to message box fault)
 unfolding append_to append_reply wants_cause
@@ -96,13 +96,13 @@ unfolding viewed_on wants_cause
 viewed_is view work None = refl
 viewed_is view work (Some box) = either_work (box.serial == view.serial) (work_there view work box) found_gone (there_is view work box) refl
 
-work_is : (name : List ℕ) (work : Work) (serial : ℕ) (spent : Bool) (box : Option Content) → WorkWantsNone (work_on name work serial spent box)
+work_is : (name : List ℕ) (work : Work) (serial : ℕ) (full : Bool) (box : Option Content) → WorkWantsNone (work_on name work serial full box)
 unfolding work_on
-work_is name Make serial spent box = created_is name serial spent box
-work_is name (append_work message) serial spent box = appended_is message box
-work_is name (status_work shown items) serial spent box = counted_is shown items box
-work_is name (select_work it) serial spent box = opened_is it name box
-work_is name (viewed_work view it) serial spent box = viewed_is view it box
+work_is name Make serial full box = created_is name serial full box
+work_is name (append_work message) serial full box = appended_is message box
+work_is name (status_work shown items) serial full box = counted_is shown items box
+work_is name (select_work it) serial full box = opened_is it name box
+work_is name (viewed_work view it) serial full box = viewed_is view it box
 
 -- ---- what a request is answered
 
@@ -114,7 +114,7 @@ act_is : (store : Store) (session : Sess) (serial : ℕ) (need : Needed) → Nee
 unfolding act_by
 act_is store session serial (Refusal verdict) is = is
 act_is store session serial (Turned turn) is = is
-act_is store session serial (Mailbox name work) is = work_is name work serial (is_spent store.given) (box_at store name)
+act_is store session serial (Mailbox name work) is = work_is name work serial (is_full store) (box_at store name)
 
 pub answer_is : (setting : Setting) (store : Store) (session : Sess) (request : Request) (serial : ℕ)
     → AnswerWantsNone (answer_of setting store session request serial).answer

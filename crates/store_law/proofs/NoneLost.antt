@@ -39,7 +39,7 @@ use Rattle.mur_model.specs.Fetch.{fetch_at, is_body, seen_flags, sees}
 use Rattle.mur_model.specs.Left.{Left, Worked, kept, made, changed, store_after}
 use Rattle.mur_model.specs.Select.{select_on}
 use Rattle.mur_model.specs.Status.{status_on}
-use Rattle.mur_model.specs.Store.{box_at, is_spent, with_box, with_new_box}
+use Rattle.mur_model.specs.Store.{box_at, is_full, with_box, with_new_box}
 use Rattle.mur_model.specs.StoreFlags.{stored_at}
 use Rattle.mur_model.specs.Viewing.{found_gone, viewed_on, work_there}
 use Rattle.store_law.specs.NoneLost.{AllGoOn, BoxGoesOn, ChangesOne, Expunges, GoesOnAt, LosesNone, MayChange, MayLabel, MessageGoesOn}
@@ -188,14 +188,14 @@ module _ (session : Sess) (it : Command) (name : List ℕ) where
       either_leaves box (box.serial == view.serial) (work_there view work box) found_gone
       (λ h. there_leaves view work box rises (let same : box.serial ≡ view.serial = grind (arith, nat_tests, h) in same) fits) tt
 
-  work_leaves : (work : Work) (serial : ℕ) (spent : Bool) (box : Content) → IsNumbered box → FitsWork session it name work
-      → LeavesIt box (work_on name work serial spent (Some box)).left
+  work_leaves : (work : Work) (serial : ℕ) (full : Bool) (box : Content) → IsNumbered box → FitsWork session it name work
+      → LeavesIt box (work_on name work serial full (Some box)).left
   unfolding work_on create_on append_on status_on select_on
-  work_leaves Make serial spent box numbered fits = tt
-  work_leaves (append_work message) serial spent box numbered fits = append_leaves message box (append_fault box (message ∷ [])) numbered.0
-  work_leaves (status_work shown items) serial spent box numbered fits = tt
-  work_leaves (select_work opened) serial spent box numbered fits = tt
-  work_leaves (viewed_work view work) serial spent box numbered fits = viewed_leaves view work box numbered.1 fits
+  work_leaves Make serial full box numbered fits = tt
+  work_leaves (append_work message) serial full box numbered fits = append_leaves message box (append_fault box (message ∷ [])) numbered.0
+  work_leaves (status_work shown items) serial full box numbered fits = tt
+  work_leaves (select_work opened) serial full box numbered fits = tt
+  work_leaves (viewed_work view work) serial full box numbered fits = viewed_leaves view work box numbered.1 fits
 
 -- ---- and of a name that has none: it may be made
 
@@ -204,18 +204,18 @@ NoneChanged kept = Unit {0}
 NoneChanged (made content) = Unit {0}
 NoneChanged (changed content) = ⊥
 
-made_changes_none : (name : List ℕ) (serial : ℕ) (spent : Bool) → NoneChanged (make name serial spent).left
+made_changes_none : (name : List ℕ) (serial : ℕ) (full : Bool) → NoneChanged (make name serial full).left
 unfolding make
 made_changes_none name serial true = tt
 made_changes_none name serial false = tt
 
-work_changes_none : (name : List ℕ) (work : Work) (serial : ℕ) (spent : Bool) → NoneChanged (work_on name work serial spent None).left
+work_changes_none : (name : List ℕ) (work : Work) (serial : ℕ) (full : Bool) → NoneChanged (work_on name work serial full None).left
 unfolding work_on create_on append_on status_on select_on viewed_on
-work_changes_none name Make serial spent = made_changes_none name serial spent
-work_changes_none name (append_work message) serial spent = tt
-work_changes_none name (status_work shown items) serial spent = tt
-work_changes_none name (select_work opened) serial spent = tt
-work_changes_none name (viewed_work view work) serial spent = tt
+work_changes_none name Make serial full = made_changes_none name serial full
+work_changes_none name (append_work message) serial full = tt
+work_changes_none name (status_work shown items) serial full = tt
+work_changes_none name (select_work opened) serial full = tt
+work_changes_none name (viewed_work view work) serial full = tt
 
 -- ---- each mailbox of the store goes on
 
@@ -267,10 +267,10 @@ module _ (session : Sess) (it : Command) where
 
   work_goes_on : (store : Store) (name : List ℕ) (work : Work) (serial : ℕ) (found : Option Content) → IfSome found IsNumbered
       → box_at store name ≡ found → FitsWork session it name work
-      → AllGoOn session it store (store_after store name (work_on name work serial (is_spent store.given) found).left)
-  work_goes_on store name work serial None numbered at fits = none_goes_on store name _ at (work_changes_none name work serial (is_spent store.given))
+      → AllGoOn session it store (store_after store name (work_on name work serial (is_full store) found).left)
+  work_goes_on store name work serial None numbered at fits = none_goes_on store name _ at (work_changes_none name work serial (is_full store))
   work_goes_on store name work serial (Some box) numbered at fits =
-      left_goes_on store name box _ at (work_leaves session it name work serial (is_spent store.given) box numbered fits)
+      left_goes_on store name box _ at (work_leaves session it name work serial (is_full store) box numbered fits)
 
   act_goes_on : (store : Store) (serial : ℕ) (need : Needed) → ((name : List ℕ) → IfSome (box_at store name) IsNumbered) → Fits session it need
       → AllGoOn session it store (act_by store session serial need).store

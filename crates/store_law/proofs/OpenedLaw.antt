@@ -31,7 +31,7 @@ use Rattle.mur_model.specs.Rights.{has_rights}
 use Rattle.mur_model.specs.Select.{opening, select, select_as, select_by, select_on}
 use Rattle.mur_model.specs.Selected.{rows_of}
 use Rattle.mur_model.specs.Status.{status_on}
-use Rattle.mur_model.specs.Store.{box_at, is_spent}
+use Rattle.mur_model.specs.Store.{box_at, is_full}
 use Rattle.mur_model.specs.StoreFlags.{stored_at}
 use Rattle.mur_model.specs.Traits.{is_in, may_be, traits_of}
 use Rattle.mur_model.specs.Viewing.{found_gone, viewed_on, work_there}
@@ -110,7 +110,7 @@ StaysWith view (Some (In user)) = ⊤
 StaysWith view (Some (selected later)) = later.is_writable ≡ view.is_writable
 StaysWith view (Some Ended) = ⊤
 
-made_none : (name : List ℕ) (serial : ℕ) (spent : Bool) → SelectsNone (make name serial spent).turn.session
+made_none : (name : List ℕ) (serial : ℕ) (full : Bool) → SelectsNone (make name serial full).turn.session
 unfolding make
 made_none name serial true = tt
 made_none name serial false = tt
@@ -172,18 +172,18 @@ with_behind to_change view (Some Ended) is stays = tt
 
 module _ (store : Store) (session : Sess) (it : Command) (serial : ℕ) (to_change : Bool) (is : IsOpenedSo to_change session)
     (no_select : (is_writable : Bool) → Selects it is_writable → ⊥) where
-  work_behind : (name : List ℕ) (work : Work) (spent : Bool) (found : Option Content) → IsOfWork session work → FitsWork session it name work
-      → IsOpenedSo to_change (session_after session (work_on name work serial spent found).turn.session)
+  work_behind : (name : List ℕ) (work : Work) (full : Bool) (found : Option Content) → IsOfWork session work → FitsWork session it name work
+      → IsOpenedSo to_change (session_after session (work_on name work serial full found).turn.session)
   unfolding work_on create_on append_on status_on IsOfWork IsOpenedSo
-  work_behind name Make spent None own fits = none_behind to_change session _ is (made_none name serial spent)
-  work_behind name Make spent (Some box) own fits = is
-  work_behind name (append_work message) spent None own fits = is
-  work_behind name (append_work message) spent (Some box) own fits =
+  work_behind name Make full None own fits = none_behind to_change session _ is (made_none name serial full)
+  work_behind name Make full (Some box) own fits = is
+  work_behind name (append_work message) full None own fits = is
+  work_behind name (append_work message) full (Some box) own fits =
       none_behind to_change session _ is (appended_none message box (append_fault box (message ∷ [])))
-  work_behind name (status_work shown items) spent None own fits = is
-  work_behind name (status_work shown items) spent (Some box) own fits = is
-  work_behind name (select_work opened) spent found own fits = absurd (no_select opened.is_writable fits)
-  work_behind name (viewed_work view work) spent found own fits =
+  work_behind name (status_work shown items) full None own fits = is
+  work_behind name (status_work shown items) full (Some box) own fits = is
+  work_behind name (select_work opened) full found own fits = absurd (no_select opened.is_writable fits)
+  work_behind name (viewed_work view work) full found own fits =
       viewed_behind (subst (IsOpenedSo to_change) own is)
     where
       viewed_behind : IsOpenedSo to_change (selected view)
@@ -196,7 +196,7 @@ module _ (store : Store) (session : Sess) (it : Command) (serial : ℕ) (to_chan
   unfolding act_by IsOfNeeded
   need_behind (Refusal verdict) none own fits = is
   need_behind (Turned turn) none own fits = none_behind to_change session turn.session is none
-  need_behind (Mailbox name work) none own fits = work_behind name work (is_spent store.given) (box_at store name) own fits
+  need_behind (Mailbox name work) none own fits = work_behind name work (is_full store) (box_at store name) own fits
 
 opens_as_asked : (setting : Setting) (store : Store) (session : Sess) (it : Command) (serial : ℕ) (to_change : Bool) → IsOpenedSo to_change session
     → IsOpenedSo (is_to_change to_change it) (act_of setting store session it serial).session

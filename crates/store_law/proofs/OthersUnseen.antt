@@ -1,13 +1,12 @@
 -- A session sees and changes nothing but what its user has rights on.
-use Rattle.std.proofs.Common.{◌≡◌, ◌≢◌, ◌↔◌, ℕ, ◌==◌, ◌-◌, ◌^◌, Bool, true, false, List, [], ◌∷◌, Option, None}
-use Rattle.std.proofs.Common.{refl, sym, ◌∙◌, ap, subst, arith}
+use Rattle.std.proofs.Common.{◌≡◌, ◌≢◌, ◌↔◌, ℕ, Bool, true, false, List, [], ◌∷◌, Option, None}
+use Rattle.std.proofs.Common.{refl, sym, ◌∙◌, ap, subst, length, leb-true, le-leb}
 use Rattle.std.proofs.Math.Logic.{⊎_elim}
-use Rattle.std.proofs.lemmas.Bool.Decides.{nat_tests}
-use Rattle.std.proofs.lemmas.List.Folds.{Any-from_list_any, list_any-from_Any}
 use Rattle.std.specs.Cmp.Lexicographic.{slice_cmp}
 use Rattle.std.specs.Option.{option_map}
 use Rattle.std.specs.Ordering.{is_eq, nat_cmp}
 use Rattle.mail_message.specs.Boxes.{Content}
+use Rattle.mur_base.specs.declared.limits.TheConstants.{MAILBOX_LIMIT}
 use Rattle.mur_base.specs.Map.{value_at, with_value}
 use Rattle.mur_base.proofs.MapLaws.{names_apart, same_or_other, value_at-with_entry, value_at-with_entry-other, value_at-with_value-other}
 use Rattle.mur_base.specs.declared.user.User.{User}
@@ -18,7 +17,6 @@ use Rattle.imap_types.specs.declared.request.Request.{Request}
 use Rattle.imap_types.specs.declared.request.Request.TheVariants.{Command as a_command, Unknown as unknown, TooBig as too_big}
 use Rattle.mur_model.specs.declared.session.Sess.{Sess}
 use Rattle.mur_model.specs.declared.setting.Setting.{Setting}
-use Rattle.mur_model.specs.declared.store.Pair.{Pair}
 use Rattle.mur_model.specs.declared.store.Store.{Store}
 use Rattle.mur_model.specs.Act.{Acted, act_by, act_of, need_of, session_after, work_on, worked_at}
 use Rattle.mur_model.specs.Answer.{answer_of}
@@ -29,45 +27,41 @@ use Rattle.mur_model.specs.Status.{status_on}
 use Rattle.mur_model.specs.Viewing.{viewed_on}
 use Rattle.mur_model.specs.Left.{Left, Worked, kept, made, changed, store_after}
 use Rattle.mur_model.specs.Needed.{Needed, Refusal, Turned, Mailbox, Work, Make, Append as append_work, Status as status_work, Select as select_work, Viewed as viewed_work}
-use Rattle.mur_model.specs.Store.{box_at, is_spent}
+use Rattle.mur_model.specs.Store.{box_at, is_full}
 use Rattle.store_law.specs.OthersUnseen.{Creates, HasOwnSelected, IsAlike, IsAnsweredAlike, IsCreate, IsFull, KeepsToItsOwn, MayMake, MayUse}
 use Rattle.store_law.proofs.NoneLost.{others_stay}
 use Rattle.store_law.proofs.OwnNeeds.{IsOwnWork, NeedsOwn, needs_own}
 
 -- ---- full
 
-full_by : (store : Store) → is_spent store.given ≡ true → IsFull store
-unfolding is_spent
-full_by store is =
-    let found = Any-from_list_any (λ (pair : Pair). pair.serial == 2 ^ 32 - 1) store.given is in
-    let at : found.1.serial ≡ 2 ^ 32 - 1 = grind (arith, nat_tests, found.4) in (found.0, found.1, found.2, found.3, at)
+full_by : (store : Store) → is_full store ≡ true → IsFull store
+unfolding is_full
+full_by store is = leb-true MAILBOX_LIMIT (length store.boxes) is
 
-by_full : (store : Store) → IsFull store → is_spent store.given ≡ true
-unfolding is_spent
-by_full store (k, pair, within, here, at) =
-    let is : (pair.serial == 2 ^ 32 - 1) ≡ true = grind (arith, nat_tests, at) in
-    list_any-from_Any (λ (p : Pair). p.serial == 2 ^ 32 - 1) store.given (k, pair, within, here, is)
+by_full : (store : Store) → IsFull store → is_full store ≡ true
+unfolding is_full
+by_full store is = le-leb MAILBOX_LIMIT (length store.boxes) is
 
 both_or_neither : (one other : Bool) → (one ≡ true → other ≡ true) → (other ≡ true → one ≡ true) → one ≡ other
 both_or_neither true other on back = sym (on refl)
 both_or_neither false true on back = back refl
 both_or_neither false false on back = refl
 
-same_spent : (store other : Store) → (IsFull store ↔ IsFull other) → is_spent store.given ≡ is_spent other.given
-same_spent store other same =
-    both_or_neither (is_spent store.given) (is_spent other.given)
+same_test : (store other : Store) → (IsFull store ↔ IsFull other) → is_full store ≡ is_full other
+same_test store other same =
+    both_or_neither (is_full store) (is_full other)
     (λ is. by_full other (same.0 (full_by store is))) (λ is. by_full store (same.1 (full_by other is)))
 
 -- ---- the same work, at mailboxes that are the same
 
-same_work : (users : List User) (session : Sess) (it : Command) (name : List ℕ) (work : Work) → IsOwnWork users session it name work → (serial : ℕ) (spent other : Bool)
-    → (Creates it → spent ≡ other) → (box : Option Content) → work_on name work serial spent box ≡ work_on name work serial other box
+same_work : (users : List User) (session : Sess) (it : Command) (name : List ℕ) (work : Work) → IsOwnWork users session it name work → (serial : ℕ) (full other : Bool)
+    → (Creates it → full ≡ other) → (box : Option Content) → work_on name work serial full box ≡ work_on name work serial other box
 unfolding work_on
-same_work users session it name Make own serial spent other full box = ap (λ s. create_on name serial s box) (full own.0)
-same_work users session it name (append_work message) own serial spent other full box = refl
-same_work users session it name (status_work shown items) own serial spent other full box = refl
-same_work users session it name (select_work opened) own serial spent other full box = refl
-same_work users session it name (viewed_work view work) own serial spent other full box = refl
+same_work users session it name Make own serial full other same box = ap (λ s. create_on name serial s box) (same own.0)
+same_work users session it name (append_work message) own serial full other same box = refl
+same_work users session it name (status_work shown items) own serial full other same box = refl
+same_work users session it name (select_work opened) own serial full other same box = refl
+same_work users session it name (viewed_work view work) own serial full other same box = refl
 
 found_by : (e : List ℕ × Content) (boxes : List (List ℕ × Content)) (name : List ℕ) (box : Content) (same : Bool) → is_eq (slice_cmp nat_cmp name e.0) ≡ same
     → value_at (slice_cmp nat_cmp) (with_value (slice_cmp nat_cmp) boxes name box) name ≡ option_map (λ _. box) (value_at (slice_cmp nat_cmp) boxes name)
@@ -107,7 +101,7 @@ record IsActedAlike (users : List User) (before : Sess) (here there : Acted) : T
 
 act_alike : (users : List User) (session : Sess) (it : Command) (store other : Store) (serial : ℕ) (need : Needed) → NeedsOwn users session it need
     → ((name : List ℕ) → MayUse users session name → box_at store name ≡ box_at other name)
-    → (Creates it → is_spent store.given ≡ is_spent other.given)
+    → (Creates it → is_full store ≡ is_full other)
     → IsActedAlike users session (act_by store session serial need) (act_by other session serial need)
 unfolding act_by
 act_alike users session it store other serial (Refusal verdict) own boxes full = record { reply = refl; session = refl; boxes = boxes }
@@ -115,8 +109,8 @@ act_alike users session it store other serial (Turned turn) own boxes full = rec
 act_alike users session it store other serial (Mailbox name work) own boxes full =
     let here : box_at store name ≡ box_at other name = boxes name own.0 in
     let same : worked_at store name work serial ≡ worked_at other name work serial =
-    same_work users session it name work own.1 serial (is_spent store.given) (is_spent other.given) full (box_at store name)
-    ∙ ap (work_on name work serial (is_spent other.given)) here in
+    same_work users session it name work own.1 serial (is_full store) (is_full other) full (box_at store name)
+    ∙ ap (work_on name work serial (is_full other)) here in
     record {
       reply = ap (λ (w : Worked). w.turn.reply) same;
       session = ap (λ (w : Worked). session_after session w.turn.session) same;
@@ -135,14 +129,14 @@ act_leaves users session it store serial (Mailbox at work) own name barred =
 -- ---- no mailbox is made but where the user may
 
 -- where there is no mailbox, only work that makes one leaves one
-none_left : (users : List User) (session : Sess) (it : Command) (name : List ℕ) (work : Work) (serial : ℕ) (spent : Bool)
-    → IsOwnWork users session it name work → ¬ MayMake users session name → (work_on name work serial spent None).left ≡ kept
+none_left : (users : List User) (session : Sess) (it : Command) (name : List ℕ) (work : Work) (serial : ℕ) (full : Bool)
+    → IsOwnWork users session it name work → ¬ MayMake users session name → (work_on name work serial full None).left ≡ kept
 unfolding work_on append_on status_on select_on viewed_on
-none_left users session it name Make serial spent own barred = absurd (barred own.1)
-none_left users session it name (append_work message) serial spent own barred = refl
-none_left users session it name (status_work shown items) serial spent own barred = refl
-none_left users session it name (select_work opened) serial spent own barred = refl
-none_left users session it name (viewed_work view work) serial spent own barred = refl
+none_left users session it name Make serial full own barred = absurd (barred own.1)
+none_left users session it name (append_work message) serial full own barred = refl
+none_left users session it name (status_work shown items) serial full own barred = refl
+none_left users session it name (select_work opened) serial full own barred = refl
+none_left users session it name (viewed_work view work) serial full own barred = refl
 
 act_makes : (users : List User) (session : Sess) (it : Command) (store : Store) (serial : ℕ) (need : Needed) → NeedsOwn users session it need
     → (name : List ℕ) → ¬ MayMake users session name → box_at store name ≡ None → box_at (act_by store session serial need).store name ≡ None
@@ -153,8 +147,8 @@ act_makes users session it store serial (Mailbox at work) own name barred none =
     ⊎_elim (λ (same : name ≡ at).
     let empty : box_at store at ≡ None = ap (box_at store) (sym same) ∙ none in
     let left : (worked_at store at work serial).left ≡ kept =
-    ap (λ (box : Option Content). (work_on at work serial (is_spent store.given) box).left) empty
-    ∙ none_left users session it at work serial (is_spent store.given) own.1 (subst (λ n. ¬ MayMake users session n) same barred) in
+    ap (λ (box : Option Content). (work_on at work serial (is_full store) box).left) empty
+    ∙ none_left users session it at work serial (is_full store) own.1 (subst (λ n. ¬ MayMake users session n) same barred) in
     ap (λ (l : Left). box_at (store_after store at l) name) left ∙ none)
     (λ (ne : name ≢ at). others_stay store at (worked_at store at work serial).left name ne ∙ none)
     (same_or_other (slice_cmp nat_cmp) names_apart name at)
@@ -167,7 +161,7 @@ answered_alike : (setting : Setting) (session : Sess) (store other : Store) (req
 unfolding answer_of act_of IsCreate
 answered_alike setting session store other (a_command tag it) serial own alike =
     let acted = act_alike setting.users session it store other serial (need_of setting session it) (needs_own setting session it own) alike.boxes
-    (λ creates. same_spent store other (alike.full creates)) in
+    (λ creates. same_test store other (alike.full creates)) in
     record { answer = ap (λ (r : Reply). let a : Answer = record { tag = tag; reply = r } in a) acted.reply; session = acted.session; boxes = acted.boxes }
 answered_alike setting session store other (unknown tag) serial own alike = record { answer = refl; session = refl; boxes = alike.boxes }
 answered_alike setting session store other (too_big tag) serial own alike = record { answer = refl; session = refl; boxes = alike.boxes }

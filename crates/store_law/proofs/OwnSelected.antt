@@ -35,7 +35,7 @@ use Rattle.mur_model.specs.Needed.{Needed, Refusal, Turned, Mailbox, Work, Make,
 use Rattle.mur_model.specs.Relocation.{refused_for}
 use Rattle.mur_model.specs.Select.{select_on}
 use Rattle.mur_model.specs.Status.{status_on}
-use Rattle.mur_model.specs.Store.{box_at, is_spent}
+use Rattle.mur_model.specs.Store.{box_at, is_full}
 use Rattle.mur_model.specs.StoreFlags.{stored_at}
 use Rattle.mur_model.specs.Viewing.{found_gone, viewed_on, work_there}
 use Rattle.store_law.specs.OthersUnseen.{HasOwnSelected, HasRightsOn}
@@ -44,15 +44,15 @@ use Rattle.store_law.proofs.OwnNeeds.{IsOwnWork, LeavesOwn, NeedsOwn, needs_own}
 -- ---- behind work
 
 module _ (users : List User) where
-  made_own : (name : List ℕ) (serial : ℕ) (spent : Bool) → LeavesOwn users (make name serial spent).turn.session
+  made_own : (name : List ℕ) (serial : ℕ) (full : Bool) → LeavesOwn users (make name serial full).turn.session
   unfolding make
   made_own name serial true = tt
   made_own name serial false = tt
 
-  created_own : (name : List ℕ) (serial : ℕ) (spent : Bool) (box : Option Content) → LeavesOwn users (create_on name serial spent box).turn.session
+  created_own : (name : List ℕ) (serial : ℕ) (full : Bool) (box : Option Content) → LeavesOwn users (create_on name serial full box).turn.session
   unfolding create_on
-  created_own name serial spent (Some there) = tt
-  created_own name serial spent None = made_own name serial spent
+  created_own name serial full (Some there) = tt
+  created_own name serial full None = made_own name serial full
 
   appended_own : (message : Message) (box : Content) (fault : Option StoreFault) → LeavesOwn users (append_to message box fault).turn.session
   unfolding append_to
@@ -106,15 +106,15 @@ module _ (users : List User) where
   viewed_own view work None has = tt
   viewed_own view work (Some box) has = either (box.serial == view.serial) (work_there view work box) found_gone (there_own view work box has) tt
 
-  work_own : (session : Sess) (it : Command) (name : List ℕ) (work : Work) (serial : ℕ) (spent : Bool) (box : Option Content)
+  work_own : (session : Sess) (it : Command) (name : List ℕ) (work : Work) (serial : ℕ) (full : Bool) (box : Option Content)
       → IsOwnWork users session it name work
-      → LeavesOwn users (work_on name work serial spent box).turn.session
+      → LeavesOwn users (work_on name work serial full box).turn.session
   unfolding work_on
-  work_own session it name Make serial spent box own = created_own name serial spent box
-  work_own session it name (append_work message) serial spent box own = append_own message box
-  work_own session it name (status_work shown items) serial spent box own = status_own shown items box
-  work_own session it name (select_work opened) serial spent box own = select_own opened name box own
-  work_own session it name (viewed_work view work) serial spent box own = viewed_own view work box own
+  work_own session it name Make serial full box own = created_own name serial full box
+  work_own session it name (append_work message) serial full box own = append_own message box
+  work_own session it name (status_work shown items) serial full box own = status_own shown items box
+  work_own session it name (select_work opened) serial full box own = select_own opened name box own
+  work_own session it name (viewed_work view work) serial full box own = viewed_own view work box own
 
   -- ---- behind a command
 
@@ -130,7 +130,7 @@ module _ (users : List User) where
   act_own store session serial it (Turned turn) own needs = after_own session turn.session own needs
   act_own store session serial it (Mailbox name work) own needs =
       after_own session (worked_at store name work serial).turn.session own
-      (work_own session it name work serial (is_spent store.given) (box_at store name) needs.1)
+      (work_own session it name work serial (is_full store) (box_at store name) needs.1)
 
 answer_own : (setting : Setting) (store : Store) (session : Sess) (request : Request) (serial : ℕ) → HasOwnSelected setting.users session
     → HasOwnSelected setting.users (answer_of setting store session request serial).session

@@ -46,7 +46,7 @@ use Rattle.mur_model.specs.History.Follows.{no_points, a_reply, a_loss, a_refusa
 use Rattle.mur_model.specs.Left.{Left, Worked, kept, made, changed, store_after}
 use Rattle.mur_model.specs.Select.{select_on}
 use Rattle.mur_model.specs.Status.{status_on}
-use Rattle.mur_model.specs.Store.{box_at, empty_store, is_spent}
+use Rattle.mur_model.specs.Store.{box_at, empty_store, is_full}
 use Rattle.mur_model.specs.StoreFlags.{stored_at}
 use Rattle.mur_model.specs.Viewing.{found_gone, viewed_on, work_there}
 
@@ -148,7 +148,7 @@ LeftRises kept = ⊤
 LeftRises (made box) = Rises box
 LeftRises (changed box) = Rises box
 
-made_rises : (name : List ℕ) (serial : ℕ) (spent : Bool) → LeftRises (make name serial spent).left
+made_rises : (name : List ℕ) (serial : ℕ) (full : Bool) → LeftRises (make name serial full).left
 unfolding make
 made_rises name serial true = tt
 made_rises name serial false = omega arith
@@ -181,19 +181,19 @@ there_rises view (view_work.Store asked) box rises =
 there_rises view (view_work.Fetch asked) box rises = seen_rises view asked box rises
 there_rises view (view_work.Search asked) box rises = tt
 
-work_rises : (name : List ℕ) (work : Work) (serial : ℕ) (spent : Bool) (found : Option Content) → IfSome found Rises
-    → LeftRises (work_on name work serial spent found).left
+work_rises : (name : List ℕ) (work : Work) (serial : ℕ) (full : Bool) (found : Option Content) → IfSome found Rises
+    → LeftRises (work_on name work serial full found).left
 unfolding work_on create_on append_on status_on select_on viewed_on
-work_rises name Make serial spent None rises = made_rises name serial spent
-work_rises name (append_work message) serial spent None rises = tt
-work_rises name (status_work shown items) serial spent None rises = tt
-work_rises name (select_work opened) serial spent None rises = tt
-work_rises name (viewed_work view work) serial spent None rises = tt
-work_rises name Make serial spent (Some box) rises = tt
-work_rises name (append_work message) serial spent (Some box) rises = append_rises message box (append_fault box (message ∷ [])) rises
-work_rises name (status_work shown items) serial spent (Some box) rises = tt
-work_rises name (select_work opened) serial spent (Some box) rises = tt
-work_rises name (viewed_work view work) serial spent (Some box) rises =
+work_rises name Make serial full None rises = made_rises name serial full
+work_rises name (append_work message) serial full None rises = tt
+work_rises name (status_work shown items) serial full None rises = tt
+work_rises name (select_work opened) serial full None rises = tt
+work_rises name (viewed_work view work) serial full None rises = tt
+work_rises name Make serial full (Some box) rises = tt
+work_rises name (append_work message) serial full (Some box) rises = append_rises message box (append_fault box (message ∷ [])) rises
+work_rises name (status_work shown items) serial full (Some box) rises = tt
+work_rises name (select_work opened) serial full (Some box) rises = tt
+work_rises name (viewed_work view work) serial full (Some box) rises =
     either_rises (box.serial == view.serial) (work_there view work box) found_gone (there_rises view work box rises) tt
 
 abbrev pub AllRise : Store → Type 0
@@ -213,7 +213,7 @@ unfolding act_by
 act_rises store session serial (Refusal verdict) all = all
 act_rises store session serial (Turned turn) all = all
 act_rises store session serial (Mailbox name work) all =
-    left_rises store name _ (work_rises name work serial (is_spent store.given) (box_at store name) (box_rises store name all)) all
+    left_rises store name _ (work_rises name work serial (is_full store) (box_at store name) (box_rises store name all)) all
 
 pub answer_rises : (setting : Setting) (store : Store) (session : Sess) (request : Request) (serial : ℕ) → AllRise store
     → AllRise (answer_of setting store session request serial).store

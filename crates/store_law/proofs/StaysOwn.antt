@@ -47,7 +47,7 @@ use Rattle.mur_model.specs.Rights.{has_rights, may_create}
 use Rattle.mur_model.specs.Select.{opening, select, select_as, select_by, select_on}
 use Rattle.mur_model.specs.Selected.{rows_of}
 use Rattle.mur_model.specs.Status.{status, status_as, status_by, status_on}
-use Rattle.mur_model.specs.Store.{box_at, is_spent}
+use Rattle.mur_model.specs.Store.{box_at, is_full}
 use Rattle.mur_model.specs.StoreFlags.{store_named, stored_at}
 use Rattle.mur_model.specs.Traits.{is_in, traits_of}
 use Rattle.mur_model.specs.Viewing.{found_gone, viewed_on, work_there}
@@ -70,15 +70,15 @@ StaysOwn user turn = IsOwnLater user turn.session
 
 -- ---- the work at a mailbox
 
-made_on : (user name : List ℕ) (serial : ℕ) (spent : Bool) → StaysOwn user (make name serial spent).turn
+made_on : (user name : List ℕ) (serial : ℕ) (full : Bool) → StaysOwn user (make name serial full).turn
 unfolding make
 made_on user name serial true = tt
 made_on user name serial false = tt
 
-created_on : (user name : List ℕ) (serial : ℕ) (spent : Bool) (box : Option Content) → StaysOwn user (create_on name serial spent box).turn
+created_on : (user name : List ℕ) (serial : ℕ) (full : Bool) (box : Option Content) → StaysOwn user (create_on name serial full box).turn
 unfolding create_on
-created_on user name serial spent (Some there) = tt
-created_on user name serial spent None = made_on user name serial spent
+created_on user name serial full (Some there) = tt
+created_on user name serial full None = made_on user name serial full
 
 appended_by : (user : List ℕ) (message : Message) (box : Content) (fault : Option StoreFault) → StaysOwn user (append_to message box fault).turn
 unfolding append_to
@@ -137,14 +137,14 @@ IsWorkOf user (select_work it) = it.user ≡ user
 IsWorkOf user (viewed_work view it) = view.user ≡ user
 IsWorkOf user work = ⊤
 
-work_stays : (user name : List ℕ) (work : Work) (serial : ℕ) (spent : Bool) (box : Option Content) → IsWorkOf user work
-    → StaysOwn user (work_on name work serial spent box).turn
+work_stays : (user name : List ℕ) (work : Work) (serial : ℕ) (full : Bool) (box : Option Content) → IsWorkOf user work
+    → StaysOwn user (work_on name work serial full box).turn
 unfolding work_on IsWorkOf
-work_stays user name Make serial spent box own = created_on user name serial spent box
-work_stays user name (append_work message) serial spent box own = appended_on user message box
-work_stays user name (status_work shown items) serial spent box own = counted_on user shown items box
-work_stays user name (select_work it) serial spent box own = selected_on user it name box own
-work_stays user name (viewed_work view it) serial spent box own = viewed_stays user view it box own
+work_stays user name Make serial full box own = created_on user name serial full box
+work_stays user name (append_work message) serial full box own = appended_on user message box
+work_stays user name (status_work shown items) serial full box own = counted_on user shown items box
+work_stays user name (select_work it) serial full box own = selected_on user it name box own
+work_stays user name (viewed_work view it) serial full box own = viewed_stays user view it box own
 
 -- ---- what a command needs
 
@@ -298,7 +298,7 @@ stays_by user store session serial (Refusal verdict) own is = inl own
 stays_by user store session serial (Turned turn) own is = after_turn user session turn.session own is
 stays_by user store session serial (Mailbox name work) own is =
     after_turn user session (worked_at store name work serial).turn.session own
-    (work_stays user name work serial (is_spent store.given) (box_at store name) is)
+    (work_stays user name work serial (is_full store) (box_at store name) is)
 
 pub stays_own : (setting : Setting) (store : Store) (session : Sess) (it : Command) (serial : ℕ) (user : List ℕ) → session_user session ≡ Some user
     → (session_user (act_of setting store session it serial).session ≡ Some user) ⊎ ((act_of setting store session it serial).session ≡ Ended)

@@ -43,7 +43,7 @@ use Rattle.mur_model.specs.News.{has_row, is_above, news}
 use Rattle.mur_model.specs.Relocation.{refused_for}
 use Rattle.mur_model.specs.Select.{select_on}
 use Rattle.mur_model.specs.Selected.{rows_of}
-use Rattle.mur_model.specs.Store.{box_at, is_spent}
+use Rattle.mur_model.specs.Store.{box_at, is_full}
 use Rattle.mur_model.specs.StoreFlags.{stored_at}
 use Rattle.mur_model.specs.Viewing.{found_gone, viewed_on, work_there}
 use Rattle.mur_model.proofs.EachNeed.{each_by_works}
@@ -219,18 +219,18 @@ module _ (store : Store) (rise : AllRise store) (session : Sess) (serial : ℕ) 
       found_covered store view box rises at (sym (ap (λ (b : Content). b.serial) own) ∙ it.same)
       (subst (λ (b : Content). Covers view.rows (rows_of b) b.next) own it.covers) work
 
-  work_covered : (name : List ℕ) (work : Work) (spent : Bool) (found : Option Content) → box_at store name ≡ found → IfSome found Rises
-      → AllGrow store (store_after store name (work_on name work serial spent found).left) → IsOfWork session work → IsAtOwn (Mailbox name work)
-      → Behind name (work_on name work serial spent found)
+  work_covered : (name : List ℕ) (work : Work) (full : Bool) (found : Option Content) → box_at store name ≡ found → IfSome found Rises
+      → AllGrow store (store_after store name (work_on name work serial full found).left) → IsOfWork session work → IsAtOwn (Mailbox name work)
+      → Behind name (work_on name work serial full found)
   unfolding work_on IsOfWork
-  work_covered name Make spent found at rises grow own here =
-      still_covered _ session _ _ (created_still name serial spent found) (others_covered store _ session grow is)
-  work_covered name (append_work message) spent found at rises grow own here =
+  work_covered name Make full found at rises grow own here =
+      still_covered _ session _ _ (created_still name serial full found) (others_covered store _ session grow is)
+  work_covered name (append_work message) full found at rises grow own here =
       still_covered _ session _ _ (append_still message found) (others_covered store _ session grow is)
-  work_covered name (status_work shown items) spent found at rises grow own here =
+  work_covered name (status_work shown items) full found at rises grow own here =
       still_covered _ session _ _ (status_still shown items found) (others_covered store _ session grow is)
-  work_covered name (select_work it) spent found at rises grow own here = selected_covered store it name found session at rises
-  work_covered name (viewed_work view work) spent found at rises grow own here =
+  work_covered name (select_work it) full found at rises grow own here = selected_covered store it name found session at rises
+  work_covered name (viewed_work view work) full found at rises grow own here =
       let at_own : box_at store view.name ≡ found = sym (ap (box_at store) here) ∙ at in
       let so : IsCovered store (selected view) = subst (IsCovered store) own is in
       subst (λ n. IsCovered (store_after store n (viewed_on view work found).left) (session_after session (viewed_on view work found).turn.session)) (sym here)
@@ -243,7 +243,7 @@ module _ (store : Store) (rise : AllRise store) (session : Sess) (serial : ℕ) 
   act_covered (Refusal verdict) still own here = is
   act_covered (Turned turn) still own here = still_covered store session turn.session turn.reply still is
   act_covered (Mailbox name work) still own here =
-      work_covered name work (is_spent store.given) (box_at store name) refl (box_rises store name rise) (act_grows store session serial (Mailbox name work))
+      work_covered name work (is_full store) (box_at store name) refl (box_rises store name rise) (act_grows store session serial (Mailbox name work))
       own here
 
 answer_covered : (setting : Setting) (store : Store) (session : Sess) (request : Request) (serial : ℕ) → AllRise store → IsCovered store session

@@ -1,7 +1,8 @@
 -- Whom the store refuses: a user learns nothing of a mailbox on which they have no rights, not even whether it is there, and changes nothing in it.
 -- Rights are said here by the bytes of names and by the list of users, and not by the commands' own tests.
-use Rattle.std.specs.Prelude.{◌≡◌, ◌↔◌, ◌⊎◌, ℕ, ◌-◌, ◌^◌, ⊤, true, List, ◌++◌, None, codes}
+use Rattle.std.specs.Prelude.{◌≡◌, ◌↔◌, ◌⊎◌, ℕ, ◌≤◌, ⊤, true, List, ◌++◌, length, None, codes}
 use Rattle.std.specs.List.{Any}
+use Rattle.mur_base.specs.declared.limits.TheConstants.{MAILBOX_LIMIT}
 use Rattle.mur_base.specs.declared.user.User.{User}
 use Rattle.imap_types.specs.declared.command.Command.{Command}
 use Rattle.imap_types.specs.declared.command.Command.TheVariants.{Create}
@@ -10,7 +11,6 @@ use Rattle.imap_types.specs.declared.request.Request.TheVariants.{Command as a_c
 use Rattle.mur_model.specs.declared.session.Sess.{Sess}
 use Rattle.mur_model.specs.declared.session.Sess.TheVariants.{Off, In, Selected as selected, Ended}
 use Rattle.mur_model.specs.declared.setting.Setting.{Setting}
-use Rattle.mur_model.specs.declared.store.Pair.{Pair}
 use Rattle.mur_model.specs.declared.store.Store.{Store}
 use Rattle.mur_model.specs.Answer.{Answered, answer_of}
 use Rattle.mur_model.specs.Store.{box_at}
@@ -63,9 +63,9 @@ unfoldable pub IsCreate : Request → Type 0
 IsCreate (a_command tag it) = Creates it
 IsCreate request = ⊥
 
--- the last UIDVALIDITY, which has 32 bits, was given (RFC 9051, 2.3.1.1)
+-- the store has as many mailboxes as there may be: this server's limit
 abbrev pub IsFull : Store → Type 0
-IsFull store = Any (λ (pair : Pair). pair.serial ≡ 2 ^ 32 - 1) store.given
+IsFull store = MAILBOX_LIMIT ≤ length store.boxes
 
 -- Another store, in which others' mailboxes may be any: at each name that the session may use it has the same mailbox, or none as well. For a CREATE both
 -- are full, or neither is.

@@ -1,5 +1,5 @@
 -- The mailboxes of the table are the boxes of the store.
-use Rattle.std.proofs.Common.{◌≡◌, suc, Bool, true, false, ◌||◌, cond, is_some, filter, List, [], ◌∷◌, length, Option, None, Some, refl, sym, ap, subst, ◌∙◌}
+use Rattle.std.proofs.Common.{◌≡◌, suc, Bool, true, false, ◌||◌, cond, is_some, nat_le, filter, List, [], ◌∷◌, length, Option, None, Some, refl, sym, ap, subst, ◌∙◌}
 use Rattle.std.specs.BTreeMap.{is_at}
 use Rattle.std.specs.List.Sorted.{IsStrictlySortedBy}
 use Rattle.std.specs.Map.{keys_of, values_of}
@@ -8,15 +8,16 @@ use Rattle.std.specs.Cmp.Lexicographic.{slice_cmp}
 use Rattle.std.proofs.lemmas.List.Sums.{length-filter}
 use Rattle.std.proofs.lemmas.Map.Made.{is_some-lookup}
 use Rattle.mail_message.specs.Boxes.{Content}
+use Rattle.mur_base.specs.declared.limits.TheConstants.{MAILBOX_LIMIT}
 use Rattle.mur_base.specs.Map.{value_at, IsInOrder}
 use Rattle.mur_base.proofs.MapLaws.{names_apart}
-use Rattle.mur_model.specs.Store.{box_at}
+use Rattle.mur_model.specs.Store.{box_at, is_full}
 use Rattle.node_record.specs.declared.table.State.{State}
 use Rattle.node_record.specs.declared.table.State.TheVariants.{Bare, Kept, Active}
 use Rattle.node_record.specs.declared.table.Record.{Record}
 use Rattle.node_record.specs.Table.{Records, is_mailbox, is_mailbox_if, record_at, mailboxes_in}
 use Rattle.home_law.specs.ManyNames.{Mailbox}
-use Rattle.store_links.specs.Boxes.{BoxIsThere, EachIsABox, mailbox_names, SameNames, AsMany}
+use Rattle.store_links.specs.Boxes.{BoxIsThere, EachIsABox, mailbox_names, SameNames, AsMany, FullAlike}
 use Rattle.store_links.specs.Shown.{Homes, content_at, StateShows, RecordShows}
 use Rattle.store_links.proofs.ShownLaw.{mailbox_by}
 use Rattle.store_links.proofs.SameKeys.{compared, is_one_of, IsBefore, before_none, same_keys}
@@ -103,3 +104,7 @@ length_keys (it ∷ entries) = ap suc (length_keys entries)
 pub as_many : AsMany
 as_many table homes store shown counted =
     counted ∙ sym (names_counted table.records) ∙ ap (λ (names : List Mailbox). length names) (same_names table homes store shown) ∙ length_keys store.boxes
+
+pub full_alike : FullAlike
+unfolding is_full
+full_alike table homes store shown counted = ap (nat_le MAILBOX_LIMIT) (sym (as_many table homes store shown counted))

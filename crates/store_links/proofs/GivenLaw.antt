@@ -1,14 +1,12 @@
 -- The UIDVALIDITYs of the store are those that the master's lines gave.
-use Rattle.std.proofs.Common.{◌≡◌, ◌≢◌, ℕ, ◌<◌, ◌≤◌, ◌-◌, ◌^◌, false, nat_eq, List, [], ◌∷◌, map, refl, sym, subst, arith}
+use Rattle.std.proofs.Common.{◌≡◌, ◌≢◌, ℕ, ◌<◌, ◌≤◌, List, [], ◌∷◌, map, refl, sym, subst}
 use Rattle.std.specs.Prelude.{All}
 use Rattle.std.specs.List.{AllByRecursion}
-use Rattle.std.proofs.lemmas.Bool.Decides.{nat_tests}
 use Rattle.std.proofs.lemmas.List.Elements.{All-nil, All-cons, All-weaker}
 use Rattle.mur_model.specs.declared.store.Pair.{Pair}
-use Rattle.mur_model.specs.Store.{is_spent}
 use Rattle.home_law.specs.ManyNames.{Mailbox}
 use Rattle.name_links.specs.Serials.{Given}
-use Rattle.store_links.specs.Given.{given_pair, GivenFirst, NewIsFree, GivenAreLow, NotSpent}
+use Rattle.store_links.specs.Given.{given_pair, GivenFirst, NewIsFree, GivenAreLow}
 
 pub given_first : GivenFirst
 given_first = refl
@@ -32,18 +30,4 @@ new_is_free store given n serial has positive new =
 pub given_are_low : GivenAreLow
 given_are_low table store given has serials =
     all_given (λ (g : Mailbox × ℕ). g.1 ≤ table.serial) store.given
-    (subst (λ (gs : Given). AllByRecursion (λ (g : Mailbox × ℕ). g.1 ≤ table.serial) gs) (sym has) serials.given_low)
-
-none_last : (last : ℕ) (pairs : List Pair) → last < 2 ^ 32 - 1 → AllByRecursion (λ (g : Mailbox × ℕ). g.1 ≤ last) (map given_pair pairs)
-    → is_spent pairs ≡ false
-unfolding is_spent
-none_last last [] lt all = refl
-none_last last (pair ∷ pairs) lt all =
-    let low : pair.serial ≤ last = all.0 in
-    let other : nat_eq pair.serial (2 ^ 32 - 1) ≡ false = grind (arith, nat_tests, low, lt) in
-    rw other (none_last last pairs lt all.1)
-
-pub not_spent : NotSpent
-not_spent table store given has serials lt =
-    none_last table.serial store.given lt
     (subst (λ (gs : Given). AllByRecursion (λ (g : Mailbox × ℕ). g.1 ≤ table.serial) gs) (sym has) serials.given_low)

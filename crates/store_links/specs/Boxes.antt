@@ -1,9 +1,10 @@
 -- The mailboxes of the table are the boxes of the store, so there are as many (RFC 3656, 4.1: the master refuses one more than there may be).
-use Rattle.std.specs.Prelude.{◌≡◌, ℕ, is_some, if◌then◌else◌, List, [], ◌∷◌, length, Some}
+use Rattle.std.specs.Prelude.{◌≡◌, ℕ, nat_le, is_some, if◌then◌else◌, List, [], ◌∷◌, length, Some}
 use Rattle.std.specs.Map.{keys_of}
+use Rattle.mur_base.specs.declared.limits.TheConstants.{MAILBOX_LIMIT}
 use Rattle.mail_message.specs.Boxes.{Content}
 use Rattle.mur_model.specs.declared.store.Store.{Store}
-use Rattle.mur_model.specs.Store.{box_at}
+use Rattle.mur_model.specs.Store.{box_at, is_full}
 use Rattle.node_record.specs.Table.{Records, MailboxTable, is_mailbox, is_mailbox_if, record_at, IsCounted}
 use Rattle.home_law.specs.Items.{Server}
 use Rattle.home_law.specs.ManyNames.{Mailbox}
@@ -30,3 +31,8 @@ SameNames = (table : MailboxTable) (homes : Homes) (store : Store) → Shows tab
 
 abbrev pub AsMany : Type 0
 AsMany = (table : MailboxTable) (homes : Homes) (store : Store) → Shows table homes store → IsCounted table → table.mailboxes ≡ length store.boxes
+
+-- so the store is full where the master refuses one more
+abbrev pub FullAlike : Type 0
+FullAlike = (table : MailboxTable) (homes : Homes) (store : Store) → Shows table homes store → IsCounted table
+    → is_full store ≡ nat_le MAILBOX_LIMIT table.mailboxes

@@ -1,8 +1,8 @@
 -- UIDVALIDITYs (RFC 9051, 2.3.1.1): the store gave those that the master's lines gave, in the same order.
-use Rattle.std.specs.Prelude.{◌≡◌, ℕ, ◌<◌, ◌≤◌, ◌-◌, ◌^◌, false, [], map, All}
+use Rattle.std.specs.Prelude.{◌≡◌, ℕ, ◌<◌, ◌≤◌, [], map, All}
 use Rattle.mur_model.specs.declared.store.Pair.{Pair}
 use Rattle.mur_model.specs.declared.store.Store.{Store}
-use Rattle.mur_model.specs.Store.{empty_store, is_spent, IsFree}
+use Rattle.mur_model.specs.Store.{empty_store, IsFree}
 use Rattle.node_record.specs.Table.{MailboxTable}
 use Rattle.home_law.specs.ManyNames.{Mailbox}
 use Rattle.name_links.specs.Serials.{Given, IsNewFor, SerialsHold}
@@ -24,8 +24,3 @@ NewIsFree = (store : Store) (given : Given) (n : Mailbox) (serial : ℕ) → Has
 abbrev pub GivenAreLow : Type 0
 GivenAreLow = (table : MailboxTable) (store : Store) (given : Given) → HasGiven store given → SerialsHold table given
     → All (λ (pair : Pair). pair.serial ≤ table.serial) store.given
-
--- so as long as the master has a serial left, the store has one
-abbrev pub NotSpent : Type 0
-NotSpent = (table : MailboxTable) (store : Store) (given : Given) → HasGiven store given → SerialsHold table given → table.serial < 2 ^ 32 - 1
-    → is_spent store.given ≡ false

@@ -1,11 +1,11 @@
 // What the master's table and the backends' mailboxes are to the one store.
 ghost use Rattle.store_links.specs.Shown.{ShowsFirst};
-ghost use Rattle.store_links.specs.Given.{GivenFirst, NewIsFree, GivenAreLow, NotSpent};
+ghost use Rattle.store_links.specs.Given.{GivenFirst, NewIsFree, GivenAreLow};
 ghost use Rattle.store_links.specs.TableEntries.{CreateIsOne, OthersMakeNone, DeleteIsOne};
 ghost use Rattle.store_links.specs.Lines.{EachIsOne};
 ghost use Rattle.store_links.specs.HeldEntries.{OthersChangeNone, ContentsStay, MessagesChangeOne, AnyStoreWithIt};
 ghost use Rattle.store_links.specs.Steps.{AsksAreNothing, HearsAreNothing, MessageStepsAreOne};
-ghost use Rattle.store_links.specs.Boxes.{BoxIsThere, EachIsABox, SameNames, AsMany};
+ghost use Rattle.store_links.specs.Boxes.{BoxIsThere, EachIsABox, SameNames, AsMany, FullAlike};
 ghost use Rattle.store_links.specs.OpenHome.{OpenIsMailbox, OpenIsAlike, NoneIsMissing};
 
 /// Without mailboxes it is the empty store, which gave no UIDVALIDITY.
@@ -14,11 +14,10 @@ pub fn no_mailbox_is_the_empty_store()
     ensures given { GivenFirst }
 {}
 
-/// A UIDVALIDITY that the master gives is free at the store, which has one left as long as the master has.
+/// A UIDVALIDITY that the master gives is free at the store, and none that the store gave is above the master's last.
 pub fn a_uidvalidity_is_free()
     ensures free { NewIsFree }
     ensures low { GivenAreLow }
-    ensures left { NotSpent }
 {}
 
 /// Where the master takes the ACTIVATE of a CREATE, the store makes the mailbox: empty, under the same UIDVALIDITY, and with the same access list.
@@ -55,12 +54,13 @@ pub fn a_step_changes_messages_or_nothing()
 {}
 
 /// The store's box of a mailbox is what the server of its record has. The names of mailboxes in the table are those of the store's boxes, so there
-/// are as many.
+/// are as many, and the store is full exactly where the master takes no name more.
 pub fn each_mailbox_is_a_box()
     ensures there { BoxIsThere }
     ensures each { EachIsABox }
     ensures names { SameNames }
     ensures many { AsMany }
+    ensures full { FullAlike }
 {}
 
 /// A mailbox that is open at its record's server is there as the store has it, and a name that is no mailbox isn't in the store.

@@ -144,7 +144,7 @@ pub record IsAnswered (config : Config) (heard : ℕ → Heard) (world : World) 
   pub still : IsStoreOf course.store backend name
   pub other_boxes : (other : List ℕ) → other ≢ name → box_at course.store other ≡ box_at law.story.course.store other
   pub other_held : (other : List ℕ) → other ≢ name → held_at backend other ≡ held_at law.backend other
-  pub serials : AreSerialsTo course.store.given backend.last_serial
+  pub serials : AreSerialsTo course.store backend
   pub world_is : with_home (taken_from_link world from to) to (plan_of law.backend (FromFront from ask)) ≡ answered_world world from to backend ask body counts
   pub is_told : IsTold (setting_of config) world.steps (world.marks ++ (record { step = world.steps; ask = ask.id; kind = Home counts }) ∷ [])
       (having_said law.story.talk conn reply serial) law.story.told course
@@ -190,7 +190,7 @@ answers_ask config heard world law conn from to tag it name work ask is said ask
       other_boxes = λ other ne. ap (λ (a : Answered). box_at a.store other) out
           ∙ other_boxes course.store name (worked_at course.store name work serial).left other ne;
       other_held = λ other ne. others_stay backend ask other (λ e. ne (e ∙ sym (ap (λ (a : FrontAsk). a.name) is)));
-      serials = subst (λ (s : Store). AreSerialsTo s.given ((home_step backend ask).home).last_serial) (sym (ap (λ (a : Answered). a.store) out))
+      serials = subst (λ (s : Store). AreSerialsTo s (home_step backend ask).home) (sym (ap (λ (a : Answered). a.store) out))
           (serves.gives law.serials);
       course = next_course (setting_of config) course conn (a_command tag it) serial;
       world_is = answers_so world from to backend ask serves.body rises serves.is_body;

@@ -79,7 +79,7 @@ front_keeps config heard after origin law links conn node front was connection o
         story = story;
         names = λ name. name_stays origin next law.story.course.store story.course.store law.home name
             (λ any. ap (λ h. value_at (slice_cmp nat_cmp) (held_by h) name) (homes_beside origin node front later at any)) (ap (λ (s : Store). box_at s name) same_store) (law.names name);
-        serials = subst (λ (s : Store). AreSerialsTo s.given law.backend.last_serial) (sym same_store) law.serials;
+        serials = subst (λ (s : Store). AreSerialsTo s law.backend) (sym same_store) law.serials;
         is_told = made.is_told;
         requests = λ other. ap (λ (r : ℕ → List Request). r other) made.goes_on.requests ∙ requests other;
         connections = λ other. ⊎_elim

@@ -96,7 +96,7 @@ pub record KeepsLaw (config : Config) (heard : ℕ → Heard) (world : World) : 
   pub streams : StreamsTellNobody world
   pub story : Story
   pub names : (name : List ℕ) → NameIs world story.course.store home name
-  pub serials : AreSerialsTo story.course.store.given backend.last_serial
+  pub serials : AreSerialsTo story.course.store backend
   pub is_told : IsTold (setting_of config) world.steps world.marks story.talk story.told story.course
   pub requests : (conn : ℕ) → story.talk.requests conn ≡ requests_of (setting_of config) (frames_heard (heard conn))
   pub connections : (conn : ℕ) → ConnectionIs (setting_of config) home conn world story (heard conn)

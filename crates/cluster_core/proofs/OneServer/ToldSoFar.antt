@@ -1,5 +1,5 @@
 -- What is told at every step of a run.
-use Rattle.std.proofs.Common.{◌≡◌, ℕ, zero, suc, ◌+◌, ◌≤◌, ◌<◌, true, false, cond, nat_eq, List, [], ◌∷◌, ◌++◌, length}
+use Rattle.std.proofs.Common.{◌≡◌, Bool, ℕ, zero, suc, ◌+◌, ◌≤◌, ◌<◌, true, false, cond, nat_eq, List, [], ◌∷◌, ◌++◌, length}
 use Rattle.std.proofs.Common.{Some, refl, sym, ◌∙◌, ap, subst, arith, length-append}
 use Rattle.std.specs.Prelude.{All, IfSome, count_by}
 use Rattle.std.proofs.lemmas.Bool.Decides.{nat_tests}
@@ -15,6 +15,7 @@ use Rattle.mur_config.specs.declared.config.Config.{Config}
 use Rattle.mur_config.specs.Nodes.{AreNodes}
 use Rattle.mur_model.specs.declared.setting.Setting.{Setting}
 use Rattle.mur_model.specs.declared.store.Store.{Store}
+use Rattle.mur_model.specs.Answer.{Answered}
 use Rattle.mur_model.specs.History.{Course, Talk, numbered}
 use Rattle.mur_model.specs.Store.{box_at}
 use Rattle.mur_model.proofs.HistoryGrows.{one_up_to}
@@ -229,7 +230,7 @@ told_so_far config talk before later are date_is now last =
           (λ name. both_hold (box_at legal.last.store name) (below_next name) (rises name));
       appended_there = keeps_appended (setting_of config) legal.last.store rises;
       done = does_what_it_says (setting_of config) legal.last.store rises;
-      low_serials = subst GivesLowSerials (sym legal.same_store) (low_serials law.story.course.store law.backend.last_serial law.serials);
+      low_serials = subst GivesLowSerials (sym legal.same_store) (low_serials law.story.course.store law.backend law.serials);
       others_unseen = λ conn. keeps_to_its_own (setting_of config) legal.last.store (legal.last.sessions conn)
           (points_own (setting_of config) (told_of law.story) first_course legal.last (history_of world) legal.legal.follows
           (none_own (setting_of config)) conn);

@@ -100,8 +100,8 @@ response_counts found response body is done undone =
       where_open = λ creating said. cc;
     }
 
-made_counts : (home : Backend) (name : List ℕ) (spent : Bool) (body : AnswerBody) → (make_at_home home name spent).body ≡ Some body
-    → CountsAsSaid Create None body (make_at_home home name spent).counts
+made_counts : (home : Backend) (name : List ℕ) (full : Bool) (body : AnswerBody) → (make_at_home home name full).body ≡ Some body
+    → CountsAsSaid Create None body (make_at_home home name full).counts
 unfolding make_at_home says_done
 made_counts home name true body is = response_counts None (refused_by_home Limit) body is (λ said. cc) (λ said. refl)
 made_counts home name false body is = response_counts None (done_here nothing no_snapshot) body is (λ said. refl) (λ said. cc)

@@ -25,7 +25,8 @@ use Rattle.mur_config.specs.declared.node.Link.{Link}
 use Rattle.mur_config.specs.declared.node.Node.{Node}
 use Rattle.mur_config.specs.Nodes.{AreNodes, count_of_kind, is_node_of_kind, is_of_kind, links_of}
 use Rattle.mur_model.specs.declared.setting.Setting.{Setting}
-use Rattle.mur_model.specs.Store.{is_spent}
+use Rattle.mur_model.specs.Store.{empty_store}
+use Rattle.node_record.specs.declared.held.Held.{Held}
 use Rattle.mur_model.proofs.HistoryGrows.{one_up_to}
 use Rattle.node_step.specs.declared.node.NodeState.{NodeState}
 use Rattle.node_step.specs.declared.node.NodeState.TheVariants as state
@@ -248,9 +249,9 @@ fresh_home config world name backend fresh at = fresh.nodes name (state.Back bac
 pub no_steps : (config : Config) → (start config).steps ≡ 0
 no_steps config = (fresh_start config).steps
 
-none_given : (last : ℕ) → last ≡ 0 → AreSerialsTo [] last
-unfolding is_spent
-none_given last zero = record { serials = λ k d h. absurd (omega arith); spent = rw zero refl; counted = zero }
+none_given : (backend : Backend) → backend.held ≡ [] → backend.last_serial ≡ 0 → AreSerialsTo empty_store backend
+none_given backend none zero =
+    record { serials = λ k d h. absurd (omega arith); counted = zero; boxes = refl; held = ap (λ (h : List (List ℕ × Held)). length h) none }
 
 nothing_at : (config : Config) (world : World) (node name : List ℕ) (found : Option Backend) → IsFresh config world
     → home_at world node ≡ found → value_at (slice_cmp nat_cmp) (held_by found) name ≡ None
@@ -350,7 +351,7 @@ start_keeps_for config are home_for =
           (fresh.nodes node (state.Master master) (master_is (node_at (start config) node) master at));
       story = record { talk = record { requests = λ conn. []; answers = λ conn. []; serials = λ conn. [] }; told = λ conn. []; course = first_course };
       names = λ name. absent refl (λ node. nothing_at config (start config) node name (home_at (start config) node) fresh refl);
-      serials = none_given has.backend.last_serial free.1;
+      serials = none_given has.backend free.0 free.1;
       is_told = record {
         carries = subst (λ m. Carries (setting_of config)
             (record { requests = λ conn. []; answers = λ conn. []; serials = λ conn. [] }) first_course m first_course) (sym fresh.marks)

@@ -5,7 +5,7 @@ ghost use Rattle.mail_message.specs.Boxes.{empty_box};
 ghost use Rattle.mur_model.specs.Create.{without_separator, is_inbox, create, create_meant, create_by, create_on};
 ghost use Rattle.mur_model.specs.Left.{replied, store_after};
 ghost use Rattle.mur_model.specs.Rights.{may_create};
-ghost use Rattle.mur_model.specs.Store.{box_at, is_spent, with_new_box};
+ghost use Rattle.mur_model.specs.Store.{box_at, is_full, with_new_box};
 ghost use Rattle.mur_model.specs.Need.{begun_of};
 ghost use Rattle.mur_model.specs.Needed.{Mailbox, Make};
 
@@ -15,6 +15,7 @@ use crate::setting::Setting;
 use crate::store::{Pair, Store};
 use imap_types::{NoText, Op, Reply, Verdict, completed, refused};
 use mail_message::{MailBox, first_acl};
+use mur_base::limits::MAILBOX_LIMIT;
 use mur_base::{Copied, MailName, Memory, NameFault, UserName, taken};
 use std::alloc::Global;
 
@@ -75,16 +76,16 @@ fn create_by(alloc: Global, with: &Setting, user: &UserName, name: MailName) -> 
     }
 }
 
-/// Makes a mailbox, unless it is there or no UIDVALIDITY is left.
+/// Makes a mailbox, unless it is there or there are as many mailboxes as there may be.
 #[tactic(auto, unfolding(crate::specs::Create::create_on, crate::specs::Create::make, crate::specs::Left::store_after))]
 pub fn make(alloc: Global, store: &mut Store, name: &MailName, serial: u32) -> Result<Reply, Memory>
-    ensures { IfOk result (λ reply. let worked = create_on name.now serial (is_spent store.old.given) (box_at store.old name.now) in
+    ensures { IfOk result (λ reply. let worked = create_on name.now serial (is_full store.old) (box_at store.old name.now) in
         (store.new ≡ store_after store.old name.now worked.left) × (replied reply ≡ worked.turn)) }
 {
     if store.boxes.contains_key(name) {
         return Ok(refused(alloc, NoText::AlreadyExists));
     }
-    if is_spent(store) {
+    if is_full(store) {
         return Ok(refused(alloc, NoText::Limit));
     }
     put_new(alloc, store, name.copy(alloc)?, serial)?;
@@ -117,13 +118,9 @@ fn create_asks(name: MailName) -> Begun
     Begun::asks_any(name, Op::Create, Awaited::Create)
 }
 
-#[tactic(auto, unfolding(crate::specs::Store::is_spent))]
-fn is_spent(store: &Store) -> bool
-    ensures { result ≡ is_spent store.now.given }
+#[tactic(auto, unfolding(crate::specs::Store::is_full))]
+fn is_full(store: &Store) -> bool
+    ensures { result ≡ is_full store.now }
 {
-    store
-        .given
-        .as_slice()
-        .iter()
-        .any(|pair| pair.serial == u32::MAX)
+    store.boxes.len() >= MAILBOX_LIMIT
 }

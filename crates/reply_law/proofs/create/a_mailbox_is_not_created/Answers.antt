@@ -1,4 +1,13 @@
-use Rattle.std.proofs.Common.{refl}
+use Rattle.std.proofs.Common.{◌≡◌, ℕ, false, List, ap, codes, length, refl, None, Some}
+use Rattle.mail_message.specs.Boxes.{Content}
+use Rattle.imap_types.specs.Reply.{refused}
+use Rattle.imap_types.specs.declared.command.Tag.TheVariants.{Text}
+use Rattle.imap_types.specs.declared.reply.NoText.TheVariants.{AlreadyExists, Limit}
+use Rattle.mur_model.specs.Create.{create_on, make}
+use Rattle.mur_model.specs.Left.{Worked, kept, replied}
+use Rattle.mur_model.specs.Store.{box_at, is_full}
+use Rattle.mur_model.specs.declared.store.Store.{Store}
+use Rattle.imap_talk.specs.Transcript.{answer_text}
 use Rattle.reply_law.proofs.Computes.{computes}
 use Rattle.reply_law.proofs.create.a_mailbox_is_not_created.Goals as goal
 
@@ -62,10 +71,33 @@ pub returns-clause-there_below : goal.returns-clause-there_below
 unfolding computes
 returns-clause-there_below c = refl
 
-pub returns-clause-spent : goal.returns-clause-spent
-unfolding computes
-returns-clause-spent c = refl
+-- what a CREATE leaves where there is no mailbox of the name, by whether the store is full
+none_made : (store : Store) (name : List ℕ) → length store.boxes ≡ 4096 → box_at store name ≡ None
+    → create_on name 9 (is_full store) (box_at store name) ≡ record { left = kept; turn = replied (refused Limit) }
+unfolding create_on make is_full
+none_made store name many none = rw (none, many) refl
 
-pub returns-clause-there_before_spent : goal.returns-clause-there_before_spent
+one_made : (store : Store) (name : List ℕ) → length store.boxes ≡ 4095 → box_at store name ≡ None
+    → create_on name 9 (is_full store) (box_at store name) ≡ make name 9 false
+unfolding create_on is_full
+one_made store name many none = rw (none, many) refl
+
+one_there : (store : Store) (name : List ℕ) (box : Content) → box_at store name ≡ Some box
+    → create_on name 9 (is_full store) (box_at store name) ≡ record { left = kept; turn = replied (refused AlreadyExists) }
+unfolding create_on
+one_there store name box there = rw there refl
+
+abbrev answer_to : Worked → List ℕ
+answer_to worked = answer_text (record { tag = Text (codes "a"); reply = (worked.turn).reply })
+
+pub returns-clause-full : goal.returns-clause-full
 unfolding computes
-returns-clause-there_before_spent c = refl
+returns-clause-full c store many none = ap answer_to (none_made store (codes "top") many none)
+
+pub returns-clause-room_for_one : goal.returns-clause-room_for_one
+unfolding computes
+returns-clause-room_for_one c store many none = ap answer_to (one_made store (codes "top") many none)
+
+pub returns-clause-there_before_full : goal.returns-clause-there_before_full
+unfolding computes
+returns-clause-there_before_full c store box many there = ap answer_to (one_there store (codes "top") box there)

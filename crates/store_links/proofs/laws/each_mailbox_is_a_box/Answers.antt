@@ -1,4 +1,4 @@
-use Rattle.store_links.proofs.BoxesLaw.{box_is_there, each_is_a_box, same_names, as_many}
+use Rattle.store_links.proofs.BoxesLaw.{box_is_there, each_is_a_box, same_names, as_many, full_alike}
 use Rattle.store_links.proofs.laws.each_mailbox_is_a_box.Goals as goal
 
 pub returns-clause-there : goal.returns-clause-there
@@ -12,3 +12,6 @@ returns-clause-names c = same_names
 
 pub returns-clause-many : goal.returns-clause-many
 returns-clause-many c = as_many
+
+pub returns-clause-full : goal.returns-clause-full
+returns-clause-full c = full_alike
