@@ -1,1 +1,5 @@
 pub mod World
+pub mod Flow
+pub mod History
+pub mod Shown
+pub mod Headline

@@ -2,18 +2,18 @@
 -- the place has a flow or a waiting ask of it, and its barrier is where the place says.
 use Rattle.std.specs.Prelude.{◌≡◌, ℕ, List, Option, None, Some}
 use Rattle.back_node.specs.declared.node.BackNode.{BackNode}
-use Rattle.feed_core.specs.Feed.{Replica}
+use Rattle.feed_core.specs.declared.replica.Replica.{Replica}
 use Rattle.front_core.proofs.OneConnection.Places.{IsPlaced, of_connection}
 use Rattle.link_msg.specs.declared.message.LinkMsg.{LinkMsg}
 use Rattle.link_queue.specs.Links.{Links, on_link}
 use Rattle.mur_base.specs.declared.point.AskId.{AskId}
 use Rattle.name_commands.specs.Places.{TalkShows}
-use Rattle.name_commands.specs.Places.NamePlace as name_at
+use Rattle.name_commands.specs.Places.{NamePlace as name_at}
 use Rattle.name_commands.specs.Whose.{is_of_connection}
 use Rattle.route_links.specs.Barriers.{IsBarrierAt}
 use Rattle.many_links.specs.Murder.{Nodes}
 use Rattle.murder_core.proofs.Commands.Place.{Place, at_backend, at_barrier, its_message}
-use Rattle.murder_core.proofs.Commands.Place.Place as place
+use Rattle.murder_core.proofs.Commands.Place.{Place as place}
 
 -- the backend of a place is there, and has this place of its own
 abbrev pub IsThere : Nodes → Place → Type 0

@@ -20,7 +20,7 @@ use Rattle.mur_model.specs.declared.session.Turn.{Turn}
 use Rattle.name_commands.specs.Moves.{ends, heard_move}
 use Rattle.name_commands.specs.Moves.Move.{is_sent}
 use Rattle.name_commands.specs.Places.{NamePlace}
-use Rattle.name_commands.specs.Places.NamePlace as name_at
+use Rattle.name_commands.specs.Places.{NamePlace as name_at}
 use Rattle.name_flows.specs.declared.ask.AskKind.TheVariants.{Create}
 use Rattle.name_flows.specs.declared.ask.NameAsk.{NameAsk}
 use Rattle.name_flows.specs.declared.flow.Flow.{Flow}
@@ -31,9 +31,9 @@ use Rattle.point_links.specs.AtHome.{IsElsewhere, its_ask}
 use Rattle.point_links.specs.Barriers.{decided}
 use Rattle.point_links.specs.Commands.{ClientCommand, WaitsOn, refused_turn, told_turn}
 use Rattle.route_links.specs.Barriers.{Place as Barrier}
-use Rattle.route_links.specs.Barriers.Place as barrier
+use Rattle.route_links.specs.Barriers.{Place as barrier}
 use Rattle.murder_core.proofs.Commands.Place.{Place}
-use Rattle.murder_core.proofs.Commands.Place.Place as place
+use Rattle.murder_core.proofs.Commands.Place.{Place as place}
 
 -- the command, whomever it waits for
 abbrev pub waiting_at : ClientCommand → At → ClientCommand

@@ -10,10 +10,10 @@ use Rattle.link_queue.proofs.Placed.{Carried}
 use Rattle.mur_base.specs.declared.home.Location.{Location}
 use Rattle.mur_base.specs.declared.point.AskId.{AskId}
 use Rattle.name_commands.specs.Places.{NamePlace, answer_message, flow_message}
-use Rattle.name_commands.specs.Places.NamePlace as name_at
+use Rattle.name_commands.specs.Places.{NamePlace as name_at}
 use Rattle.route_links.specs.Answered.{noop_of, ok_of}
 use Rattle.route_links.specs.Barriers.{Place as Barrier}
-use Rattle.route_links.specs.Barriers.Place as barrier
+use Rattle.route_links.specs.Barriers.{Place as barrier}
 
 pub data Place : Type 0 where
   nowhere : Place

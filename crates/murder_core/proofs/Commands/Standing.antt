@@ -24,7 +24,7 @@ use Rattle.mur_model.specs.History.{numbered}
 use Rattle.point_links.specs.Commands.{ClientCommand}
 use Rattle.murder_core.proofs.Commands.Knows.{Knows}
 use Rattle.murder_core.proofs.Commands.Place.{Place}
-use Rattle.murder_core.proofs.Commands.Place.Place as place
+use Rattle.murder_core.proofs.Commands.Place.{Place as place}
 
 -- the reader has begun so; one of a connection that has ended reads no more
 abbrev pub HasBegunSo : Connection → Read → Type 0

@@ -3,7 +3,7 @@
 use Rattle.std.proofs.Common.{◌≡◌, ◌≢◌, ℕ, true, false, nat_eq, List, [], ◌++◌, length, Option, None, Some, refl, ◌∙◌}
 use Rattle.std.proofs.Common.{arith}
 use Rattle.std.proofs.lemmas.Bool.Decides.{nat_tests}
-use Rattle.feed_core.specs.Feed.{Replica}
+use Rattle.feed_core.specs.declared.replica.Replica.{Replica}
 use Rattle.front_node.specs.declared.connection.Connection.{Connection}
 use Rattle.front_node.specs.declared.connection.Stage.TheVariants.{Reading}
 use Rattle.imap_reply.specs.Greeting.{greeting}
@@ -22,13 +22,13 @@ use Rattle.mur_model.specs.declared.setting.Setting.{Setting}
 use Rattle.mur_model.specs.History.{TalkGoesOn, with_session}
 use Rattle.mur_model.proofs.HistoryGrows.{same_talk, talks_follow}
 use Rattle.route_links.specs.Barriers.{Place as Barrier}
-use Rattle.route_links.specs.Barriers.Place as barrier
+use Rattle.route_links.specs.Barriers.{Place as barrier}
 use Rattle.cluster_core.specs.declared.world.Client.{Client}
 use Rattle.murder_core.specs.declared.world.World.{World}
 use Rattle.murder_core.specs.World.{client_at, home_at}
 use Rattle.murder_core.proofs.Commands.InPlace.{IsInNone, IsInPlace}
 use Rattle.murder_core.proofs.Commands.Place.{Place}
-use Rattle.murder_core.proofs.Commands.Place.Place as place
+use Rattle.murder_core.proofs.Commands.Place.{Place as place}
 use Rattle.murder_core.proofs.Commands.Standing.{Fixed, Stands, next_id}
 
 -- the command of this number is in this place, in a world

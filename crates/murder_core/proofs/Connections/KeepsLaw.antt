@@ -4,7 +4,8 @@ use Rattle.std.specs.List.{list_any, AllByRecursion}
 use Rattle.std.specs.Option.{IsSome}
 use Rattle.std.specs.Cmp.Lexicographic.{pointwise}
 use Rattle.back_node.specs.declared.node.BackNode.{BackNode}
-use Rattle.feed_core.specs.Feed.{Recs, Replica}
+use Rattle.feed_core.specs.Feed.{Recs}
+use Rattle.feed_core.specs.declared.replica.Replica.{Replica}
 use Rattle.feed_core.specs.Routes.{server_at}
 use Rattle.feed_links.specs.Lines.{HasStreams}
 use Rattle.feed_links.specs.OneFeed.{IsFed}
@@ -34,7 +35,7 @@ use Rattle.mur_model.specs.declared.session.Sess.TheVariants.{Off}
 use Rattle.mur_model.specs.History.{Talk, TalkGoesOn}
 use Rattle.name_links.specs.Serials.{Given}
 use Rattle.node_record.specs.Table.{MailboxTable, record_at}
-use Rattle.node_record.specs.declared.record.Record.{Record}
+use Rattle.node_record.specs.declared.table.Record.{Record}
 use Rattle.murder_core.specs.declared.world.World.{World}
 use Rattle.cluster_core.specs.Heard.{is_frontend}
 use Rattle.cluster_core.specs.World.{backends_of, home_of, master_of, setting_of}

@@ -1,0 +1,6 @@
+-- The headline's parts, of a run of the cluster.
+pub mod Outside
+pub mod OpenAt
+pub mod Homes
+pub mod OneStore
+pub mod Closed
