@@ -21,7 +21,7 @@ use Rattle.link_msg.specs.declared.message.LinkMsg.TheVariants.{Line}
 use Rattle.link_msg.specs.declared.out.Out.{Out}
 use Rattle.link_msg.specs.declared.out.Out.TheVariants.{Client, Close, Link, Mark, Told as tell}
 use Rattle.link_msg.specs.declared.outcome.Outcome.{Outcome}
-use Rattle.link_msg.specs.declared.outcome.Outcome.TheVariants.{None as nothing_told, Exists}
+use Rattle.link_msg.specs.declared.outcome.Outcome.TheVariants.{None as nothing_told, Exists, Limit}
 use Rattle.link_queue.specs.Links.{on_link}
 use Rattle.mail_message.specs.Boxes.{Content}
 use Rattle.mail_message.specs.declared.message.Snapshot.{Snapshot}
@@ -80,22 +80,22 @@ use Rattle.many_links.proofs.BoxesLaw.{mailboxes_are_boxes}
 use Rattle.many_links.proofs.TakesLaw.{takes_keeps_many}
 use Rattle.point_links.specs.Carried.{CarriesOut, turn_at}
 use Rattle.point_links.specs.Commands.{ClientCommand, WaitsOn, told_turn}
-use Rattle.point_links.specs.Creates.{ActivateCreates, IsCreated, IsPutOff, IsThere, LineComes, LineIsPoint, ReserveOfOneReserved, ReserveOfOneThere}
+use Rattle.point_links.specs.Creates.{ActivateCreates, ActivateOfFull, IsCreated, IsPutOff, IsThere, LineComes, LineIsPoint, ReserveOfOneReserved, ReserveOfOneThere}
 use Rattle.point_links.proofs.Told.{done_so, not_now_waits}
 
--- ---- a step that carries none out has no mark that counts always
+-- ---- a step that carries none out has no mark that counts always, and one that carries a command out has no other mark
 
-abbrev MarksOnlyTold : Out → Type 0
-MarksOnlyTold out = AllByRecursion IsOnlyTold (mark_in out)
+abbrev MarksAre : (AskId × Counts → Type 0) → Out → Type 0
+MarksAre P out = AllByRecursion P (mark_in out)
 
-each_out : (outs : List Out) → CarryNoneOut outs → AllByRecursion MarksOnlyTold outs
-each_out [] all = tt
-each_out (Mark ask counts ∷ outs) all =
-    let split = subst (AllByRecursion IsOnlyTold) (flat_map-cons mark_in (Mark ask counts) outs) all in ((split.0, tt), each_out outs split.1)
-each_out (Client conn bytes ∷ outs) all = (tt, each_out outs all)
-each_out (Close conn ∷ outs) all = (tt, each_out outs all)
-each_out (Link to message ∷ outs) all = (tt, each_out outs all)
-each_out (tell ask how ∷ outs) all = (tt, each_out outs all)
+each_out : (P : AskId × Counts → Type 0) (outs : List Out) → AllByRecursion P (marks_in outs) → AllByRecursion (MarksAre P) outs
+each_out P [] all = tt
+each_out P (Mark ask counts ∷ outs) all =
+    let split = subst (AllByRecursion P) (flat_map-cons mark_in (Mark ask counts) outs) all in ((split.0, tt), each_out P outs split.1)
+each_out P (Client conn bytes ∷ outs) all = (tt, each_out P outs all)
+each_out P (Close conn ∷ outs) all = (tt, each_out P outs all)
+each_out P (Link to message ∷ outs) all = (tt, each_out P outs all)
+each_out P (tell ask how ∷ outs) all = (tt, each_out P outs all)
 
 module _ {X : Type 0} (p : X → Bool) (P : X → Type 0) where
   filtered : (xs : List X) → AllByRecursion P xs → AllByRecursion P (filter p xs)
@@ -109,7 +109,18 @@ module _ {X : Type 0} (p : X → Bool) (P : X → Type 0) where
 none_always : (p : Out → Bool) (outs : List Out) (first : Out) (ask : AskId) → CarryNoneOut outs
     → filter p outs ≡ first ∷ Mark ask Always ∷ [] → ⊥
 none_always p outs first ask none e =
-    let all = subst (AllByRecursion MarksOnlyTold) e (filtered p MarksOnlyTold outs (each_out outs none)) in apart ((all.1).0).0
+    let all = subst (AllByRecursion (MarksAre IsOnlyTold)) e (filtered p (MarksAre IsOnlyTold) outs (each_out IsOnlyTold outs none)) in
+    apart ((all.1).0).0
+
+abbrev CountsAlways : AskId × Counts → Type 0
+CountsAlways mark = mark.1 ≡ Always
+
+none_if_answered : (p : Out → Bool) (outs : List Out) (first : Out) (ask other : AskId) → marks_in outs ≡ (other, Always) ∷ []
+    → filter p outs ≡ first ∷ Mark ask IfAnswered ∷ [] → ⊥
+none_if_answered p outs first ask other carries e =
+    let always = subst (AllByRecursion CountsAlways) (sym carries) (refl, tt) in
+    let all = subst (AllByRecursion (MarksAre CountsAlways)) e (filtered p (MarksAre CountsAlways) outs (each_out CountsAlways outs always)) in
+    apart (sym ((all.1).0).0)
 
 -- ---- which commands the lines are
 
@@ -126,10 +137,16 @@ room_of : (mailbox many : Bool) → mailbox ≡ false → (not mailbox && many) 
 room_of false many e room = room
 room_of true many e room = cc
 
-room_none : (store : Store) (name : List ℕ) (serial : ℕ) → box_at store name ≡ None → store_is_full store ≡ false
-    → worked_at store name Make serial ≡ make name serial false
+-- and it is full only if it hasn't
+full_of : (mailbox many : Bool) → (not mailbox && many) ≡ true → (mailbox ≡ false) × (many ≡ true)
+full_of false true e = (refl, refl)
+full_of false false e = cc
+full_of true many e = cc
+
+makes_by : (store : Store) (name : List ℕ) (serial : ℕ) (full : Bool) → box_at store name ≡ None → store_is_full store ≡ full
+    → worked_at store name Make serial ≡ make name serial full
 unfolding work_on create_on
-room_none store name serial none left =
+makes_by store name serial full none left =
     ap (λ (b : Option Content). create_on name serial (store_is_full store) b) none ∙ ap (λ (s : Bool). make name serial s) left
 
 there_kept : (store : Store) (name : List ℕ) (serial : ℕ) (box : Content) → box_at store name ≡ Some box
@@ -150,6 +167,19 @@ exists_shown : (session : Sess) (name : List ℕ) (serial : ℕ) (full : Bool) (
     → turn_of session (asked_for name Make).awaited (Done Exists nothing_seen) ≡ Some (create_on name serial full (Some box)).turn
 unfolding asked_for turn_of reply_to_create reply_to_created create_on
 exists_shown session name serial full box = refl
+
+full_shown : (session : Sess) (name : List ℕ) (serial : ℕ)
+    → turn_of session (asked_for name Make).awaited (Done Limit nothing_seen) ≡ Some (make name serial true).turn
+unfolding asked_for turn_of reply_to_create reply_to_created make
+full_shown session name serial = refl
+
+full_stays : (store : Store) (name : List ℕ) (serial : ℕ) → store ≡ store_after store name (make name serial true).left
+unfolding make store_after
+full_stays store name serial = refl
+
+full_left : (name : List ℕ) (serial : ℕ) → (make name serial true).left ≡ kept
+unfolding make
+full_left name serial = refl
 
 made_so : (store : Store) (name : List ℕ) (serial : ℕ) → store_with store name serial ≡ store_after store name (make name serial false).left
 unfolding make store_after
@@ -183,6 +213,10 @@ active_is_one (Some it) active = state_is_one it.state active
 has_box : (found : Option Content) → is_some found ≡ true → (box : Content) × (found ≡ Some box)
 has_box None e = cc
 has_box (Some box) e = (box, refl)
+
+no_box : (found : Option Content) → is_some found ≡ false → found ≡ None
+no_box None e = refl
+no_box (Some box) e = cc
 
 -- ---- its line is the first
 
@@ -261,6 +295,17 @@ module _ (murder : Murder) (given : Given) (store : Store) (c : ClientCommand) (
   activated making room (name_closed stage is heard) = absurd (let no : Making ≡ Deactivating = sym making ∙ stage in cc)
   activated making room (name_deleted stage is heard) = absurd (let no : Making ≡ Deleting = sym making ∙ stage in cc)
 
+  too_many : flow.stage ≡ Making → is_full table found_at ≡ true → IsReplied table me c.name flow taken.it its_reply
+      → HasReply (Some IfAnswered) (done Limit)
+  too_many making over (table_full stage full is heard) = record { are = ap (λ (r : Reply). r.counts) is; heard = heard }
+  too_many making over (name_activated stage room is heard) = absurd (let no : true ≡ false = sym over ∙ room in cc)
+  too_many making over (name_reserved stage none is heard) = absurd (let no : Making ≡ Reserving = sym making ∙ stage in cc)
+  too_many making over (was_active stage active is heard) = absurd (let no : Making ≡ Reserving = sym making ∙ stage in cc)
+  too_many making over (was_reserved stage reserved is heard) = absurd (let no : Making ≡ Reserving = sym making ∙ stage in cc)
+  too_many making over (serials_spent stage none full is heard) = absurd (let no : Making ≡ Reserving = sym making ∙ stage in cc)
+  too_many making over (name_closed stage is heard) = absurd (let no : Making ≡ Deactivating = sym making ∙ stage in cc)
+  too_many making over (name_deleted stage is heard) = absurd (let no : Making ≡ Deleting = sym making ∙ stage in cc)
+
   refuses : flow.stage ≡ Reserving → is_active found_at ≡ true → IsReplied table me c.name flow taken.it its_reply
       → HasReply (Some IfAnswered) (done Exists)
   refuses reserving active (was_active stage too is heard) = record { are = ap (λ (r : Reply). r.counts) is; heard = heard }
@@ -319,6 +364,15 @@ module _ (murder : Murder) (given : Given) (store : Store) (c : ClientCommand) (
         holds = subst (λ (m : List ℕ). HoldsThen (store_with store m serial)) n_is holds;
       }
 
+  makes_none : flow.stage ≡ Making → its_reply.counts ≡ Some IfAnswered → (later : Store) → StoreTakes message says more store later → HoldsThen later
+      → HoldsThen store
+  makes_none making counts _ (nothing given none) holds = holds
+  makes_none making counts _ (removed ask n box is there given) holds =
+      absurd (let no : command.Delete n ≡ command.Activate c.name me (first_acl c.name) =
+      is_read is.bytes is.tag _ is.is is.read ∙ ap (λ (z : Stage). stage_command me c.name z) making in cc)
+  makes_none making counts _ (created ask n place acl serial is none free given) holds =
+      absurd (none_if_answered (is_own_out whose) says _ c.id ask is.marked (outs_are (Some IfAnswered) counts))
+
   does_nothing : flow.stage ≡ Reserving → (later : Store) → StoreTakes message says more store later → HoldsThen later → HoldsThen store
   does_nothing reserving _ (nothing given none) holds = holds
   does_nothing reserving _ (removed ask n box is there given) holds =
@@ -350,7 +404,7 @@ module _ (murder : Murder) (given : Given) (store : Store) (c : ClientCommand) (
       let does : DoesCreate = creates making reply.are one.later one.does one.hold in
       let serial : ℕ = does.serial in
       let worked : worked_at store c.name Make serial ≡ make c.name serial false =
-      room_none store c.name serial does.none ((mailboxes_are_boxes murder given store comes.holds).full
+      makes_by store c.name serial false does.none ((mailboxes_are_boxes murder given store comes.holds).full
       ∙ room_of (is_mailbox_if found_at) (nat_le MAILBOX_LIMIT table.mailboxes)
       (each_is_a_box table (homes_of murder.nodes) store comes.holds.shows c.name ∙ ap is_some does.none) room) in
       record {
@@ -368,6 +422,29 @@ module _ (murder : Murder) (given : Given) (store : Store) (c : ClientCommand) (
           heard = reply.heard;
           told = λ master. told_as master nothing_told serial (make c.name serial false) worked (created_shown c.was c.name serial);
         };
+      }
+
+  is_over : flow.stage ≡ Making → is_full table found_at ≡ true → (serial : ℕ)
+      → LineIsPoint murder given store c name message flow store serial IfAnswered (done Limit)
+  unfolding MayWork
+  is_over making over serial =
+      let reply : HasReply (Some IfAnswered) (done Limit) = too_many making over taken.replied in
+      let parts = full_of (is_mailbox_if found_at) (nat_le MAILBOX_LIMIT table.mailboxes) over in
+      let none : box_at store c.name ≡ None =
+      no_box (box_at store c.name) (sym (each_is_a_box table (homes_of murder.nodes) store comes.holds.shows c.name) ∙ parts.0) in
+      let full : store_is_full store ≡ true = (mailboxes_are_boxes murder given store comes.holds).full ∙ parts.1 in
+      let worked : worked_at store c.name Make serial ≡ make c.name serial true = makes_by store c.name serial true none full in
+      record {
+        it = taken.it;
+        step = outs_are (Some IfAnswered) reply.are;
+        then_holds = makes_none making reply.are one.later one.does one.hold;
+        carries = carries_as store serial IfAnswered (record {
+          free = λ _. λ room. absurd (let no : true ≡ false = sym full ∙ room in cc);
+          later_is = full_stays store c.name serial ∙ ap (λ (w : Worked). store_after store c.name w.left) (sym worked);
+          stays = λ _. ap (λ (w : Worked). w.left) worked ∙ full_left c.name serial;
+        });
+        heard = reply.heard;
+        told = λ master. told_as master Limit serial (make c.name serial true) worked (full_shown c.was c.name serial);
       }
 
   is_there : flow.stage ≡ Reserving → is_active found_at ≡ true → IsThere murder given store c name message flow
@@ -410,6 +487,10 @@ module _ (murder : Murder) (given : Given) (store : Store) (c : ClientCommand) (
 pub activate_creates : ActivateCreates
 activate_creates murder given store c name node message rest flow comes making room =
     is_created murder given store c name node message rest flow comes making room
+
+pub activate_of_full : ActivateOfFull
+activate_of_full murder given store c name node message rest flow comes making over serial =
+    is_over murder given store c name node message rest flow comes making over serial
 
 pub reserve_of_one_there : ReserveOfOneThere
 reserve_of_one_there murder given store c name node message rest flow comes reserving active =

@@ -10,7 +10,7 @@ use Rattle.link_msg.specs.declared.counts.Counts.{Counts}
 use Rattle.link_msg.specs.declared.counts.Counts.TheVariants.{Always, IfAnswered}
 use Rattle.link_msg.specs.declared.message.LinkMsg.{LinkMsg}
 use Rattle.link_msg.specs.declared.out.Out.TheVariants.{Link, Mark}
-use Rattle.link_msg.specs.declared.outcome.Outcome.TheVariants.{None as nothing, Exists}
+use Rattle.link_msg.specs.declared.outcome.Outcome.TheVariants.{None as nothing, Exists, Limit}
 use Rattle.link_queue.specs.Links.{on_link}
 use Rattle.mail_message.specs.Boxes.{Content}
 use Rattle.master_core.specs.Linked.{node_says}
@@ -83,6 +83,14 @@ abbrev pub ReserveOfOneThere : Type 0
 ReserveOfOneThere = (murder : Murder) (given : Given) (store : Store) (c : ClientCommand) (name : List ℕ) (node : BackNode) (message : LinkMsg)
     (rest : List LinkMsg) (flow : Flow) → LineComes murder given store c name node message rest flow
     → flow.stage ≡ Reserving → is_active (record_at murder.master.table c.name) ≡ true → IsThere murder given store c name message flow
+
+-- ---- it is refused as there are as many mailboxes as there may be
+
+abbrev pub ActivateOfFull : Type 0
+ActivateOfFull = (murder : Murder) (given : Given) (store : Store) (c : ClientCommand) (name : List ℕ) (node : BackNode) (message : LinkMsg)
+    (rest : List LinkMsg) (flow : Flow) → LineComes murder given store c name node message rest flow
+    → flow.stage ≡ Making → is_full murder.master.table (record_at murder.master.table c.name) ≡ true
+    → (serial : ℕ) → LineIsPoint murder given store c name message flow store serial IfAnswered (done Limit)
 
 -- ---- it is put off as the name is reserved: this isn't its point, and the step doesn't count for it
 

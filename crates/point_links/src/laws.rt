@@ -1,7 +1,7 @@
 // The points of commands, and what their clients are told later.
 ghost use Rattle.point_links.specs.AtHome.{ClosedSendsOn, OpenServes};
 ghost use Rattle.point_links.specs.Barriers.{EachBarrier, MissingIsAPoint, ReservedIsAPoint};
-ghost use Rattle.point_links.specs.Creates.{ActivateCreates, ReserveOfOneReserved, ReserveOfOneThere};
+ghost use Rattle.point_links.specs.Creates.{ActivateCreates, ActivateOfFull, ReserveOfOneReserved, ReserveOfOneThere};
 
 /// A backend takes the ask of a command at a mailbox. Where it has the name open, the one store carries the work out in this step, and by the answer the
 /// client is told what the store replies; the step counts whatever becomes of the answer, unless the store stays as it was. Where it hasn't, nothing is
@@ -11,11 +11,12 @@ pub fn an_ask_is_carried_out_where_its_name_is_open()
     ensures closed { ClosedSendsOn }
 {}
 
-/// The master takes a line for a CREATE. At ACTIVATE the one store makes the mailbox in this step, if there is room for one more. At RESERVE of a name that
-/// is active it refuses the CREATE. By the backend's answer the client is told what the store replies. At RESERVE of a name that is reserved the store
+/// The master takes a line for a CREATE. At ACTIVATE the one store makes the mailbox in this step, if there is room for one more, and else it refuses the
+/// CREATE. At RESERVE of a name that is active it refuses it, too. By the backend's answer the client is told what the store replies. At RESERVE of a name that is reserved the store
 /// does nothing, the step doesn't count, and the command waits on.
 pub fn a_create_is_carried_out_where_the_master_takes_its_line()
     ensures creates { ActivateCreates }
+    ensures full { ActivateOfFull }
     ensures there { ReserveOfOneThere }
     ensures reserved { ReserveOfOneReserved }
 {}
