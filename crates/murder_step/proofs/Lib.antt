@@ -1,4 +1,1 @@
 pub mod NodeKinds
-pub mod Counts
-pub mod OwnOuts
-pub mod Unmarked
