@@ -71,7 +71,7 @@ no_stream master (Backend other) node same none = ap (λ n. is_some (stream_of m
 no_stream master (Frontend other) node same none = ap (λ n. is_some (stream_of master n)) same ∙ ap is_some none
 no_stream master (Outside conn) node never none = absurd never
 
-command_may : (master : Master) (from : Sender) (line : List ℕ) (tag : Tag) (it : MCommand) → command_in line ≡ Some (tag, it)
+pub command_may : (master : Master) (from : Sender) (line : List ℕ) (tag : Tag) (it : MCommand) → command_in line ≡ Some (tag, it)
     → (is_stream master from && not (may_follow_update it)) ≡ false → line_step master from line ≡ taken master from tag it
 unfolding line_step line_by command_step
 command_may master from line tag it read may =

@@ -70,11 +70,11 @@ hears_keeps_it master node up down message replica (is_told are told there) = is
 
 -- the master takes a message of it
 
-own_sender : (node : List ℕ) (b : Bool) → IsOf node (sender_by b node)
+pub own_sender : (node : List ℕ) (b : Bool) → IsOf node (sender_by b node)
 own_sender node true = refl
 own_sender node false = refl
 
-other_sender : (node other : List ℕ) (b : Bool) → other ≢ node → IsOfAnother node (sender_by b other)
+pub other_sender : (node other : List ℕ) (b : Bool) → other ≢ node → IsOfAnother node (sender_by b other)
 other_sender node other true ne = ne
 other_sender node other false ne = ne
 

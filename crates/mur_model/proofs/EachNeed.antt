@@ -69,7 +69,7 @@ pub record OfBegun (setting : Setting) (Asked : Command → Type 0) (Of : Needed
   pub answers : OfAnswers Of
   pub enable : Of enable
   pub unselected : (user : List ℕ) (was_selected : Bool) (why : NoText) → Of (Turned (unselected user was_selected why))
-  pub make : (name : List ℕ) → Of (Mailbox name Make)
+  pub make : (name : List ℕ) → mail_name_fault name ≡ None → Of (Mailbox name Make)
   pub append : (name text : List ℕ) (flags : Flags) (date : Option (List ℕ)) (body : List ℕ) → Asked (command.Append text flags date body)
       → Of (Mailbox name (append_work (new_message setting flags date body)))
   pub status : (user name : List ℕ) (items : List StatusItem) → mail_name_fault name ≡ None → Of (Mailbox name (status_work (shown_name user name) items))
@@ -170,17 +170,17 @@ each_off of setting it = either_taken of setting Off it (each_off_taken of setti
 -- ---- commands of a session that has begun
 
 each_create_by : {setting : Setting} {Asked : Command → Type 0} {Of : Needed → Type 0} (of : OfBegun setting Asked Of) (name : List ℕ) (may : Bool)
-    → Of (create_by name may)
+    → mail_name_fault name ≡ None → Of (create_by name may)
 unfolding create_by
-each_create_by of name true = of.make name
-each_create_by of name false = of.answers.refused NoPerm
+each_create_by of name true named = of.make name named
+each_create_by of name false named = of.answers.refused NoPerm
 
 each_create : {setting : Setting} {Asked : Command → Type 0} {Of : Needed → Type 0} (of : OfBegun setting Asked Of) (user name : List ℕ) (inbox : Bool)
-    (fault : Option NameFault) → Of (create_as setting user name inbox fault)
+    (fault : Option NameFault) → mail_name_fault name ≡ fault → Of (create_as setting user name inbox fault)
 unfolding create_as
-each_create of user name true fault = of.answers.refused Cannot
-each_create of user name false (Some fault) = of.answers.refused NonExistent
-each_create {setting} of user name false None = each_create_by of name (may_create setting.users user name)
+each_create of user name true fault named = of.answers.refused Cannot
+each_create of user name false (Some fault) named = of.answers.refused NonExistent
+each_create {setting} of user name false None named = each_create_by of name (may_create setting.users user name) named
 
 each_append_by : {setting : Setting} {Asked : Command → Type 0} {Of : Needed → Type 0} (of : OfBegun setting Asked Of) (name : List ℕ) (message : Message)
     (may : Bool) → Of (Mailbox name (append_work message)) → Of (append_by name message may)
@@ -229,7 +229,7 @@ each_begun of user is_selected command.Logout asked = of.answers.logout
 each_begun of user is_selected (command.Enable names) asked = of.enable
 each_begun of user is_selected (command.Create text) asked =
     let meant = without_separator text in
-    each_create of user (taken_name user meant) (is_inbox meant) (mail_name_fault (taken_name user meant))
+    each_create of user (taken_name user meant) (is_inbox meant) (mail_name_fault (taken_name user meant)) refl
 each_begun {setting} of user is_selected (command.Append text flags date body) asked =
     let name = taken_name user text in
     each_append of user name (new_message setting flags date body) (mail_name_fault name) (of.append name text flags date body asked)
@@ -325,7 +325,7 @@ begun_by_works setting of = record {
   answers = of.answers;
   enable = of.enable;
   unselected = of.unselected;
-  make = λ name. of.work name _;
+  make = λ name named. of.work name _;
   append = λ name text flags date body asked. of.work name _;
   status = λ user name items named. of.work name _;
   select = λ user name text is_writable was_selected asked named. of.work name _;

@@ -291,7 +291,7 @@ other_lines_pass whose master name node up down message place tells others place
       known = placed.known;
     })
 
-clients_outs : (whose : Whose) (conn : ℕ) (outs : List Out) → AreItsOwn conn outs → filter (is_own_out whose) outs ≡ []
+pub clients_outs : (whose : Whose) (conn : ℕ) (outs : List Out) → AreItsOwn conn outs → filter (is_own_out whose) outs ≡ []
 unfolding AreItsOwn
 clients_outs whose conn [] own = refl
 clients_outs whose conn (Client other bytes ∷ outs) own = clients_outs whose conn outs own.1
