@@ -14,7 +14,9 @@ use Rattle.imap_reply.specs.Lines.{Announcing, after_byte, after_text, is_announ
 use Rattle.imap_reply.specs.Lines.Announcing.{nothing}
 use Rattle.imap_reply.specs.Lines.IsLine.{ends, goes_on}
 use Rattle.mail_message.specs.Literals.IsPart.{plain, with_literal}
-use Rattle.imap_reply.specs.Mailbox.{mailbox_text}
+use Rattle.std.proofs.lemmas.Bool.{and_parts}
+use Rattle.std.specs.Prelude.{◌&&◌, not}
+use Rattle.imap_reply.specs.Mailbox.{is_bare, is_nil, mailbox_text}
 use Rattle.imap_reply.specs.Spaced.{more_spaced, spaced_text}
 use Rattle.imap_reply.specs.SoundTexts.{is_calm, IsCalm}
 use Rattle.mail_message.proofs.PlainTexts.{all_append}
@@ -105,8 +107,9 @@ either true s t one other = one refl
 either false s t one other = other
 
 pub mailbox_state : (name : List ℕ) → after_text nothing (mailbox_text name) ≡ nothing
-unfolding mailbox_text
-mailbox_state name = either (is_atom name) name (quoted_text name) (λ h. after_calm name (atom_calm name h)) (quoted_state name)
+unfolding mailbox_text is_bare
+mailbox_state name = either (is_atom name && not (is_nil name)) name (quoted_text name)
+    (λ h. after_calm name (atom_calm name (and_parts (is_atom name) (not (is_nil name)) h).0)) (quoted_state name)
 
 -- the end of a line from a space on, which announces nothing
 pub end_fits : (text : List ℕ) → IsPlain text → after_text nothing text ≡ nothing → Fits (32 ∷ (text ++ crlf))

@@ -12,7 +12,7 @@ use Rattle.imap_text.specs.Characters.{is_astring_char, is_atom_char, is_tag_byt
 use Rattle.imap_text.specs.Strings.{escaped, escaped_text, quoted_text, is_atom}
 use Rattle.mail_message.specs.Literals.{is_within, IsPlain}
 use Rattle.mail_message.proofs.PlainTexts.{all_append, all_weaker, one_of, decimal_digits}
-use Rattle.imap_reply.specs.Mailbox.{mailbox_text}
+use Rattle.imap_reply.specs.Mailbox.{is_bare, mailbox_text}
 use Rattle.imap_reply.specs.Sets.{Run, runs_of, number_run_text, more_runs_text, runs_text, set_text}
 use Rattle.imap_reply.specs.SoundTexts.{is_calm, IsCalm}
 use Rattle.imap_reply.specs.Spaced.{more_spaced, spaced_text}
@@ -102,7 +102,7 @@ quoted_all test slash quote text all =
 
 mailbox_all : (test : ℕ → Bool) → test 92 ≡ true → test 34 ≡ true → (name : List ℕ) → list_all test name ≡ true → list_all test (mailbox_text name) ≡ true
 unfolding mailbox_text
-mailbox_all test slash quote name all = one_of test (is_atom name) name (quoted_text name) all (quoted_all test slash quote name all)
+mailbox_all test slash quote name all = one_of test (is_bare name) name (quoted_text name) all (quoted_all test slash quote name all)
 
 pub mailbox_plain : (name : List ℕ) → IsPlain name → IsPlain (mailbox_text name)
 mailbox_plain name plain = mailbox_all is_within refl refl name plain
