@@ -59,17 +59,17 @@ def history(marks):
 
 
 class Cluster:
-    """The nodes, and the messages on the links between them. Steps are counted, and what they say of commands is noted."""
+    """The nodes, and the messages on the links between them. Steps are counted, what they say of commands is noted, and where each line of a schedule ends."""
 
     def __init__(self, config, has_master=False):
         self.kinds = {n['name']: n['kind'] for n in config['nodes']}
         names = list(self.kinds)
         self.pairs = [(a, b) for a in names for b in names if a != b and self.linked(a, b)]
-        self.links, self.conns, self.marks, self.steps = {}, {}, [], 0
-        setting = Setting(config, has_master)
+        self.links, self.conns, self.marks, self.steps, self.line_ends = {}, {}, [], 0, []
+        self.has_master, self.setting = has_master, Setting(config, has_master)
         backends = [name for name in names if self.kinds[name] == 'backend']
-        make = {'frontend': lambda n: Frontend(self, n['name'], setting, has_master), 'master': lambda n: Master(self, n['name'], backends),
-                'backend': lambda n: Backend(self, n['name'], n['partition'], setting.date, has_master)}
+        make = {'frontend': lambda n: Frontend(self, n['name'], self.setting, has_master), 'master': lambda n: Master(self, n['name'], backends),
+                'backend': lambda n: Backend(self, n['name'], n['partition'], self.setting.date, has_master)}
         self.nodes = {n['name']: make[n['kind']](n) for n in config['nodes']}
         for node in self.nodes.values():
             node.begin()
@@ -159,6 +159,7 @@ class Cluster:
             self.deliver(rest[0].decode(), rest[1].decode())
         elif word == b'flow':
             self.flow(int(rest[0]))
+        self.line_ends.append(self.steps)
 
 
 def refusal(config, schedule):
