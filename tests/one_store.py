@@ -49,8 +49,7 @@ class Store:
 
 
 def clients_of(cluster, schedule):
-    """The connections at frontends with all frames of their clients' bytes, and the step in which each frame that is whole came. Bytes behind a hang-up
-    are none."""
+    """The connections at frontends with all frames of their clients' bytes, and the step in which each frame came. Bytes behind a hang-up are none."""
     clients, came, hung = {}, {}, set()
     events = [line for _, line in lines_of(schedule) if is_event(line)]
     for line, step in zip(events, cluster.line_ends, strict=True):
@@ -61,25 +60,28 @@ def clients_of(cluster, schedule):
             conn = int(rest[0])
             frames = clients[conn].frames.feed(unspelled(rest[1]))
             clients[conn].waiting.extend(frames)
-            came[conn] += [step] * whole(frames)
+            came[conn] += [step] * len(frames)
         elif word == b'hang':
             hung.add(int(rest[0]))
     return clients, came
 
 
-def whole(frames):
-    return sum(kind in ('whole', 'big') for kind, *_ in frames)
+class Table:
+    """The master's table at each step."""
 
+    def __init__(self, entries):
+        self.entries = {}
+        for step, name, record, serial in entries:
+            self.entries.setdefault(name, []).append((step, record, serial))
 
-def serial_at(master, name, step):
-    """The UIDVALIDITY that the name was reserved with last before a step, or 0."""
-    return max((serial for at, its_name, _, serial in master.entries if its_name == name and serial and at < step), default=0)
+    def serial(self, name, step):
+        """The UIDVALIDITY that a name was reserved with last before a step, or 0."""
+        return max((serial for at, _, serial in self.entries.get(name, []) if serial and at < step), default=0)
 
-
-def record_at(master, name, step):
-    """The record of a name behind a step, if it has one."""
-    records = [record for at, its_name, record, _ in master.entries if its_name == name and at <= step]
-    return records[-1] if records else None
+    def is_reserved(self, name, step):
+        """Whether a name is reserved behind a step."""
+        records = [record for at, record, _ in self.entries.get(name, []) if at <= step]
+        return bool(records and records[-1] and not records[-1].is_active)
 
 
 def mailboxes(cluster):
@@ -94,14 +96,15 @@ class Course:
     """The points of a run, taken one after the other."""
 
     def __init__(self, cluster, schedule):
-        self.cluster, self.master, self.store = cluster, cluster.of_kind('master')[0], Store(cluster.setting.date)
+        self.cluster, self.store = cluster, Store(cluster.setting.date)
+        self.table = Table(cluster.of_kind('master')[0].entries)
         self.clients, self.came = clients_of(cluster, schedule)
         self.told_at = {(mark.conn, mark.number): mark.step for mark in cluster.marks if mark.kind in ('here', 'behind', 'reserved')}
         self.lost = set()
 
     def came_at(self, conn):
         """The step in which the last frame came that was taken of a connection."""
-        return self.came[conn][-whole(self.clients[conn].waiting) - 1]
+        return self.came[conn][-len(self.clients[conn].waiting) - 1]
 
     def take(self, point):
         step, conn, number, what = point
@@ -120,18 +123,15 @@ class Course:
             if isinstance(need, Reply) or (conn, number) in self.told_at:
                 raise Wrong('lost, and needs no mailbox or was told')
             self.act(need, step)
-        elif isinstance(need, Reply):
-            client.reply(tag, need)
         elif what == 'reply':
-            client.reply(tag, client.session.finish(tag, need, self.act(need, step)))
+            client.reply(tag, need if isinstance(need, Reply) else client.session.finish(tag, need, self.act(need, step)))
+        elif isinstance(need, Reply) or not self.table.is_reserved(need.name, step):
+            raise Wrong('refused, and not reserved')
         else:
-            record = record_at(self.master, need.name, step)
-            if not record or record.is_active:
-                raise Wrong('refused, and not reserved')
             client.reply(tag, client.session.relocated(need))
 
     def act(self, ask, step):
-        serial = serial_at(self.master, ask.name, step) if self.cluster.has_master else len(self.store.given) + 1
+        serial = self.table.serial(ask.name, step) if self.cluster.has_master else len(self.store.given) + 1
         return self.store.act(ask, serial)
 
     def differing(self):
@@ -149,6 +149,8 @@ class Course:
             box, wanted = homes[name], self.store.boxes[name]
             if (box.serial, box.next, box.messages) != (wanted.serial, wanted.next, wanted.messages):
                 yield 'mailbox %r is another one' % name
+            if sum(name in backend.boxes and backend.boxes[name].phase == 'open' for backend in self.cluster.of_kind('backend')) > 1:
+                yield 'mailbox %r is open at two backends' % name
 
 
 def wrongs(cluster, schedule):
