@@ -9,6 +9,7 @@ from collections import deque, namedtuple
 
 from commands import command_of, first_tag
 from mailboxes import LIMIT, MISSING, NOT_NOW
+from mupdate import Record
 from sessions import Reply, Session, levels_above, printed_reply
 
 GREETING = b'* OK [CAPABILITY IMAP4rev2 AUTH=PLAIN] murder ready\r\n'
@@ -115,8 +116,6 @@ class Connection:
 
 # A command that waits: its tag, what it asks for, and of whom: of a backend, or of the master and why.
 Waits = namedtuple('Waits', 'tag ask home barrier')
-# What a frontend knows of a name's record.
-Known = namedtuple('Known', 'place acl is_active')
 
 
 def server_of(place):
@@ -240,9 +239,9 @@ class Frontend:
     def heard(self, word, name=None, place=None, acl=None):
         """A line of the master's table. A name that is reserved keeps the access list that it had."""
         if word == b'MAILBOX':
-            self.replica[name] = Known(place, acl, True)
+            self.replica[name] = Record(place, acl, True)
         elif word == b'RESERVE':
             old = self.replica.get(name)
-            self.replica[name] = Known(place, old.acl if old else None, False)
+            self.replica[name] = Record(place, old.acl if old else None, False)
         elif word == b'DELETE':
             del self.replica[name]

@@ -4,7 +4,8 @@
 
 The store is a map from names to mailboxes, and knows no node, link, table or phase: only the commands that the schedule's bytes spell, and the points. A
 session of sessions.py replies for it, as it does at a frontend. Besides it is shown that each point stands in time, that a UIDVALIDITY is new, that a
-refusal stands at a step at which its name was reserved, and that the store is what the homes of the table have in the end.
+refusal stands at a step at which its name was reserved, that the store is what the homes of the table have in the end, and what holds where no message is
+on a link: no command waits, each replica is the table, and no name is reserved.
 """
 from frontend import Connection, server_of
 from mailboxes import CREATED, EXISTS, LIMIT, MAILBOX_LIMIT, MISSING, Box, served
@@ -153,6 +154,18 @@ class Course:
                 yield 'mailbox %r is open at two backends' % name
 
 
+def at_rest(cluster):
+    """What is wrong where no message is on a link."""
+    table = cluster.of_kind('master')[0].table
+    if not all(record.is_active for record in table.values()):
+        yield 'a name stays reserved'
+    for frontend in cluster.of_kind('frontend'):
+        if any(client.asked and not client.over for client in frontend.connections.values()):
+            yield 'a command waits for nothing'
+        if frontend.replica != table:
+            yield 'a replica isn\'t the table'
+
+
 def wrongs(cluster, schedule):
     course = Course(cluster, schedule)
     last = 0
@@ -164,4 +177,4 @@ def wrongs(cluster, schedule):
         except Wrong as why:
             return ['point %d %d.%d %s: %s' % (*point, why)]
         last = point.step
-    return list(course.differing())
+    return list(course.differing()) + ([] if any(cluster.links.values()) else list(at_rest(cluster)))
