@@ -1,4 +1,4 @@
-"""A mailbox and what a home does with it: Box(serial) keeps messages by UID, served(box, ask) carries out a command that its session has turned into
+"""A mailbox and what a home does with it: Box(serial, phase) keeps messages by UID, served(box, ask) carries out a command that its session has turned into
 UIDs. Nothing here knows a session, a name or a node.
 """
 from collections import namedtuple
