@@ -1,8 +1,11 @@
-"""What the master gives to a client that connects to it from outside (RFC 3656, in the profile of docs/formats.md): Talk(name) is greeted in `given`,
-and feed(bytes) answers each line that ends in them. To a frontend it answers each line by `answer` alone. The table is empty, since no backend sends
-its commands yet. Nothing here knows the program.
+"""The master, and MUPDATE (RFC 3656, in the profile of docs/formats.md): Master(world, name, backends) has the table of names, takes the commands of nodes,
+and tells each change to those that sent UPDATE. A client that connects from outside is a Talk: it is greeted in `given`, and the bytes of its lines are
+read here. Nothing here knows the program.
 """
 import re
+from collections import namedtuple
+
+from mailboxes import MAILBOX_LIMIT
 
 TAG = re.compile(rb'[A-Za-z0-9-]{1,41} ')
 WORD = re.compile(rb'[A-Za-z]+')
@@ -14,6 +17,7 @@ STRING_LIMIT = 65_536
 ARGUMENTS = {b'ACTIVATE': ('name', 'place', 'string'), b'DEACTIVATE': ('name', 'place'), b'DELETE': ('name',), b'FIND': ('name',),
              b'LIST': ('string',), b'LOGOUT': (), b'NOOP': (), b'RESERVE': ('name', 'place'), b'UPDATE': ()}
 BACKENDS_ALONE = (b'RESERVE', b'ACTIVATE', b'DEACTIVATE', b'DELETE')
+SERIAL_LIMIT = 4_294_967_295
 
 
 class Unspelled(Exception):
@@ -40,13 +44,14 @@ FORMS = {'name': (is_name, 1, 255), 'place': (is_place, 3, 129), 'string': (lamb
 
 
 def argument(line, at, kind):
-    """Reads an argument, and gives the place behind it. The line ends with an LF, which only a literal of any text may hold."""
+    """Reads an argument, and gives it and the place behind it. The line ends with an LF, which only a literal of any text may hold."""
     fits, least, most = FORMS[kind]
     quoted = QUOTED.match(line, at)
     if quoted:
-        if not fits(re.sub(rb'\\(["\\])', rb'\1', quoted[1])) or (kind != 'string' and b'\\' in quoted[1]):
+        value = re.sub(rb'\\(["\\])', rb'\1', quoted[1])
+        if not fits(value) or (kind != 'string' and b'\\' in quoted[1]):
             raise Unspelled
-        return quoted.end()
+        return value, quoted.end()
     header = HEADER.match(line, at)
     if not header or not least <= int(header[1]) <= most:
         raise Unspelled
@@ -58,28 +63,29 @@ def argument(line, at, kind):
         raise Unfinished
     if not fits(octets):
         raise Unspelled
-    return begins + size
+    return octets, begins + size
 
 
 def command_of(line):
-    """The tag and the name of the command that the bytes up to an LF are the line of."""
+    """The tag, the name and the arguments of the command that the bytes up to an LF are the line of."""
     tag = TAG.match(line)
     word = tag and WORD.match(line, tag.end())
     name = word and word[0].upper()
     if name not in ARGUMENTS:
         raise Unspelled
-    at, kinds = word.end(), ARGUMENTS[name]
+    at, kinds, values = word.end(), ARGUMENTS[name], []
     if name == b'LIST' and not line.startswith(b' ', at):
         kinds = ()
     for kind in kinds:
         if not line.startswith(b' ', at):
             raise Unspelled
-        at = argument(line, at + 1, kind)
+        value, at = argument(line, at + 1, kind)
+        values.append(value)
     if at == len(line):
         raise Unfinished
     if line[at:] != b'\r\n':
         raise Unspelled
-    return tag[0][:-1], name
+    return tag[0][:-1], name, values
 
 
 def is_whole(line):
@@ -93,28 +99,155 @@ def is_whole(line):
     return True
 
 
+def printed_argument(text):
+    if len(text) <= 1_024 and re.fullmatch(rb'[\x01-\x09\x0b\x0c\x0e-\x21\x23-\x5b\x5d-\x7f]*', text):
+        return b'"' + text + b'"'
+    return b'{%d+}\r\n' % len(text) + text
+
+
+def response_line(tag, word, *arguments):
+    return b' '.join([tag, word, *map(printed_argument, arguments)]) + b'\r\n'
+
+
+# The record of a name: active, or reserved with the access list that it had when it was active, if it was.
+Record = namedtuple('Record', 'place acl is_active')
+
+
+def record_line(name, record):
+    return (b'MAILBOX', name, record.place, record.acl) if record.is_active else (b'RESERVE', name, record.place)
+
+
+def record_lines(name, record):
+    """As UPDATE has it: a reserved name with an access list is told so by two lines."""
+    active = [(b'MAILBOX', name, record.place, record.acl)] if record.acl is not None else []
+    return active if record.is_active else active + [(b'RESERVE', name, record.place)]
+
+
+DONE, SYNTAX, NOT_YOURS = (b'OK', b'done'), (b'BAD', b'syntax'), (b'NO', b'5 not yours')
+
+
 class Talk:
+    """A client from outside: the bytes of a line that has begun, and what it was given."""
+
     def __init__(self, me):
-        self.begun, self.is_told, self.over = b'', False, False
+        self.begun, self.over = b'', False
         self.given = [b'* AUTH\r\n* OK MUPDATE "' + me + b'" "murder" "1" "(master)"\r\n']
 
-    def feed(self, data):
+    def lines_of(self, data):
+        """The lines that end in these bytes."""
         for byte in data:
             if self.over:
                 return
             self.begun += bytes([byte])
             if byte == 10 and is_whole(self.begun):
                 line, self.begun = self.begun, b''
-                self.given.append(self.answer(line))
+                yield line
 
-    def answer(self, line):
+
+class Master:
+    def __init__(self, world, name, backends):
+        self.world, self.name, self.backends = world, name, backends
+        self.table, self.serial, self.mailboxes = {}, 0, 0
+        self.streams, self.talks = {}, {}  # `streams`: who sent UPDATE, a node or the number of a connection, and its tag
+        self.entries = []  # the changes of the table, each with its step
+
+    def begin(self):
+        pass
+
+    def opened(self, conn):
+        self.talks[conn] = Talk(self.name.encode())
+
+    def piece(self, conn, data):
+        for line in self.talks[conn].lines_of(data):
+            self.line(conn, line)
+
+    def hung(self, conn):
+        self.talks[conn].over = True
+        self.streams.pop(conn, None)
+
+    def given(self, conn):
+        return self.talks[conn].given
+
+    def line(self, conn, line):
         try:
-            tag, name = command_of(line)
+            tag, word, arguments = command_of(line)
         except Unspelled:
             tag = TAG.match(line)
-            return (tag[0] if tag else b'* ') + b'BAD "syntax"\r\n'
-        if self.is_told and name not in (b'NOOP', b'LOGOUT'):
-            return tag + b' BAD "syntax"\r\n'
-        self.is_told |= name == b'UPDATE'
-        self.over = name == b'LOGOUT'
-        return tag + (b' NO "5 not yours"' if name in BACKENDS_ALONE else b' OK "bye"' if self.over else b' OK "done"') + b'\r\n'
+            return self.tell(conn, tag[0][:-1] if tag else b'*', SYNTAX)
+        self.command(conn, tag, word, *arguments)
+
+    def take(self, sender, kind, tag, word, *arguments):
+        counts = self.command(sender, tag, word, *arguments)
+        if counts and b'-' in tag:
+            self.world.mark(*map(int, tag.split(b'-')), counts)
+
+    def tell(self, to, tag, response):
+        if to in self.talks:
+            self.talks[to].given.append(response_line(tag, *response))
+        else:
+            self.world.send(self.name, to, ('response', tag, *response))
+
+    def command(self, sender, tag, word, *arguments):
+        """Answers a command, and tells its change to each stream; whether the step counts for the client's command that the tag tells."""
+        if sender in self.streams and word not in (b'NOOP', b'LOGOUT'):
+            return self.tell(sender, tag, SYNTAX)
+        refusal = self.refusal(sender, word, *arguments) if word in BACKENDS_ALONE else None
+        if refusal:
+            self.tell(sender, tag, (b'NO', refusal))
+            return 'if answered' if word == b'ACTIVATE' or refusal[:1] in (b'1', b'7') else None
+        if word in BACKENDS_ALONE:
+            return self.changed(sender, tag, word, *arguments)
+        for response in self.told(word, *arguments):
+            self.tell(sender, tag, response)
+        if word == b'UPDATE':
+            self.streams[sender] = tag
+        if word == b'LOGOUT' and sender in self.talks:
+            self.hung(sender)
+        return 'if answered' if word == b'NOOP' else None
+
+    def refusal(self, sender, word, name, place=None, acl=None):
+        """Why a change is refused, the first cause that holds."""
+        record, mine = self.table.get(name), b'%s!' % str(sender).encode()
+        is_mine = record is None or record.place.startswith(mine)
+        is_here = place is None or place.startswith(mine)
+        if sender not in self.backends:
+            return NOT_YOURS[1]
+        if word == b'RESERVE':
+            causes = [(not is_here, b'5 not yours'), (record and record.is_active, b'1 exists'), (record, b'2 reserved'),
+                      (self.serial == SERIAL_LIMIT, b'7 serials spent')]
+        elif word == b'ACTIVATE':
+            is_new = record is None or record.acl is None
+            causes = [(not (is_mine if record else is_here), b'5 not yours'), (is_new and self.mailboxes >= MAILBOX_LIMIT, b'6 full')]
+        else:
+            causes = [(record is None, b'4 no such name'), (not is_mine or not is_here, b'5 not yours'),
+                      (word == b'DEACTIVATE' and not record.is_active if record else False, b'3 not active')]
+        return next((text for holds, text in causes if holds), None)
+
+    def changed(self, sender, tag, word, name, place=None, acl=None):
+        """Makes the change. ACTIVATE and DELETE are the steps in which a CREATE and a DELETE are done."""
+        old = self.table.pop(name, None)
+        if word == b'RESERVE':
+            self.serial += 1
+            self.table[name] = Record(place, None, False)
+        elif word != b'DELETE':
+            self.table[name] = Record(place, acl if word == b'ACTIVATE' else old.acl, word == b'ACTIVATE')
+        new = self.table.get(name)
+        self.mailboxes += bool(new and new.acl is not None) - bool(old and old.acl is not None)
+        self.entries.append((self.world.steps, name, new, self.serial if word == b'RESERVE' else None))
+        self.tell(sender, tag, (b'OK', b'%d' % self.serial) if word == b'RESERVE' else DONE)
+        for stream, its_tag in self.streams.items():
+            self.tell(stream, its_tag, record_line(name, new) if new else (b'DELETE', name))
+        return 'always' if word in (b'ACTIVATE', b'DELETE') else None
+
+    def told(self, word, text=None):
+        """The answer to a command that changes no record."""
+        if word == b'LOGOUT':
+            return [(b'OK', b'bye')]
+        names = sorted(self.table)
+        if word == b'FIND':
+            return ([record_line(text, self.table[text])] if text in self.table else []) + [DONE]
+        if word == b'LIST':
+            return [record_line(name, self.table[name]) for name in names if self.table[name].place.startswith(text or b'')] + [DONE]
+        if word == b'UPDATE':
+            return [line for name in names for line in record_lines(name, self.table[name])] + [DONE]
+        return [DONE]
