@@ -108,8 +108,8 @@ def missing(word):
 
 
 def printed_name(shown):
-    """A mailbox's name in a reply: an atom where it is one, else quoted."""
-    return shown if re.fullmatch(rb'[!#$&\'+,\-./0-9:;<=>?@A-Z\[^_`a-z|}~]+', shown) else b'"' + shown + b'"'
+    """A mailbox's name in a reply: an atom where it is one and isn't NIL, else quoted."""
+    return shown if shown.upper() != b'NIL' and re.fullmatch(rb'[!#$&\'+,\-./0-9:;<=>?@A-Z\[^_`a-z|}~]+', shown) else b'"' + shown + b'"'
 
 
 def printed(flags):
