@@ -1,3 +1,4 @@
+pub mod OneConnection
 pub mod FrameLaws
 pub mod FramesLaws
 pub mod CommandLaws

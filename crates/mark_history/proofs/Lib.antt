@@ -16,3 +16,6 @@ pub mod Refused
 pub mod RefusedByLast
 pub mod MarkLaw
 pub mod RefusalMarks
+pub mod EachMark
+pub mod Tellings
+pub mod MomentLaw

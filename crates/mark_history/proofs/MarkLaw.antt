@@ -38,7 +38,7 @@ more_by : {T : Type 0} (lists : ℕ → List T) (own : List T) (conn : ℕ) (ite
 more_by lists own conn item other true e is = let same : other ≡ conn = grind (arith, nat_tests) in ap (λ l. l ++ item ∷ []) (ap lists same ∙ is)
 more_by lists own conn item other false e is = refl
 
-more_listed : {T : Type 0} (lists : ℕ → List T) (own : List T) (conn : ℕ) (item : T) → lists conn ≡ own
+pub more_listed : {T : Type 0} (lists : ℕ → List T) (own : List T) (conn : ℕ) (item : T) → lists conn ≡ own
     → with_item lists conn item ≡ with_list lists conn (own ++ item ∷ [])
 unfolding with_item with_list
 more_listed lists own conn item is = same_functions (λ other. more_by lists own conn item other (nat_eq other conn) refl is)
@@ -163,7 +163,7 @@ first_by_last setting = record {
 
 -- ---- each connection has one reply at most of which its client wasn't told
 
-abbrev HasOne : Tale → Type 0
+abbrev pub HasOne : Tale → Type 0
 HasOne tale = (conn : ℕ) → IsToldSo (tale.told conn) (tale.talk.answers conn)
 
 one_more : (told said : List Answer) (answer : Answer) → said ≡ told ++ answer ∷ [] → IsToldSo told said
@@ -244,12 +244,12 @@ refuses_by_last setting now marks tale conn tag it serial can order is =
     (more_listed tale.talk.answers (tale.told conn) conn answer can.unreplied)
     (refused_by_last setting now marks tale conn tag it serial can order is)))
 
-record Holds (setting : Setting) (now : ℕ) (marks : List Mark) (tale : Tale) : Type 0 where
-  so : HasOne tale
-  law : IsToldByLast setting now marks tale
-  order : IsInOrder now marks tale.told
+pub record Holds (setting : Setting) (now : ℕ) (marks : List Mark) (tale : Tale) : Type 0 where
+  pub so : HasOne tale
+  pub law : IsToldByLast setting now marks tale
+  pub order : IsInOrder now marks tale.told
 
-holds : (setting : Setting) (now : ℕ) (marks : List Mark) (tale : Tale) → AreMarked setting now marks tale → Holds setting now marks tale
+pub holds : (setting : Setting) (now : ℕ) (marks : List Mark) (tale : Tale) → AreMarked setting now marks tale → Holds setting now marks tale
 holds setting now marks tale nothing = record { so = λ conn. all_told [] [] refl; law = first_by_last setting; order = order_none }
 holds setting now marks tale (a_step earlier later those its le made) =
     let before = holds setting earlier those its made in record {
@@ -259,7 +259,7 @@ holds setting now marks tale (a_step earlier later those its le made) =
     }
 holds setting now marks tale (asks at those its requests more made) =
     let before = holds setting at those its made in record { so = before.so; law = asked_by_last setting at those its requests more before.law; order = before.order }
-holds setting now marks tale (sees at those its conn unreplied made) =
+holds setting now marks tale (sees at those its conn request unreplied asked made) =
     let before = holds setting at those its made in
     record {
       so = before.so;

@@ -80,7 +80,7 @@ with_first mark marks point has = record {
   kind = has.kind;
 }
 
-put_by : (P : Point → Type 0) (mark : Mark) (what : Option What) (points : List Point) → ((w : What) → what ≡ Some w → P (point_as mark w)) → All P points
+pub put_by : (P : Point → Type 0) (mark : Mark) (what : Option What) (points : List Point) → ((w : What) → what ≡ Some w → P (point_as mark w)) → All P points
     → All P (points_by mark what ++ points)
 unfolding points_by
 put_by P mark None points own rest = rest

@@ -141,8 +141,9 @@ pub data AreMarked (setting : Setting) : ℕ → List Mark → Tale → Type 0 w
   a_step : (now next : ℕ) (marks : List Mark) (tale : Tale) → now ≤ next → AreMarked setting now marks tale → AreMarked setting next marks tale
   asks : (now : ℕ) (marks : List Mark) (tale : Tale) (requests : ℕ → List Request) → GoesOn tale.talk.requests requests
       → AreMarked setting now marks tale → AreMarked setting now marks (asking tale requests)
-  -- a step sees the open command, and does nothing
-  sees : (now : ℕ) (marks : List Mark) (tale : Tale) (conn : ℕ) → IsUnreplied tale conn
+  -- a step sees the open command, which was asked, and does nothing
+  sees : (now : ℕ) (marks : List Mark) (tale : Tale) (conn : ℕ) (request : Request) → IsUnreplied tale conn
+      → numbered (tale.talk.requests conn) (length (tale.told conn) + 1) ≡ Some request
       → AreMarked setting now marks tale → AreMarked setting now (marks ++ mark_now now tale conn (Home IfAnswered) ∷ []) tale
   -- a step carries it out: if that doesn't always count, it leaves the store as it was
   carries_out : (now : ℕ) (marks : List Mark) (tale : Tale) (conn : ℕ) (counts : Counts) (request : Request) (serial : ℕ)

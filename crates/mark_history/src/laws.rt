@@ -1,5 +1,6 @@
 // The laws of histories in which replies are taken back and commands are refused.
 ghost use Rattle.mark_history.specs.Marked.{MakesLegalHistories};
+ghost use Rattle.mark_history.specs.Moments.{LaterAreInTime, LosesTheOpen, NoneIsLater, StepsRise};
 ghost use Rattle.mark_history.specs.Refusals.{RefusalsHaveMarks};
 
 /// A step may only see a command; and what it did on condition that its client is told is taken back, as long as the client wasn't told, and another
@@ -13,4 +14,13 @@ pub fn the_last_step_counts()
 /// A refusal of a history is the step that saw its command last, behind which the client was told of it.
 pub fn a_refusal_has_two_marks()
     ensures { RefusalsHaveMarks }
+{}
+
+/// The points stand in the order of their steps, and none is of a later step than the last. Whatever steps follow, each point stands behind its command and
+/// before what its client is told. A command is lost only as the first that its client wasn't told of.
+pub fn points_stand_in_time()
+    ensures rise { StepsRise }
+    ensures made { NoneIsLater }
+    ensures lost { LosesTheOpen }
+    ensures in_time { LaterAreInTime }
 {}

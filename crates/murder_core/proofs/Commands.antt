@@ -3,3 +3,4 @@ pub mod Place
 pub mod InPlace
 pub mod Knows
 pub mod Standing
+pub mod Released

@@ -1,3 +1,22 @@
 -- What holds of each connection, and each kind of event that keeps it.
 pub mod ConnectionLaw
 pub mod KeepsLaw
+pub mod Stays
+pub mod Nowhere
+pub mod Tales
+pub mod AsksFirst
+pub mod Said
+pub mod Sends
+pub mod FrameLaw
+pub mod KeepsFront
+pub mod StillFed
+pub mod KeepsStill
+pub mod KeepsHang
+pub mod OwnOuts
+pub mod MayAskAt
+pub mod BytesCome
+pub mod KeepsData
+pub mod KeepsOpen
+pub mod GivenAlone
+pub mod AtMaster
+pub mod ClientEvents

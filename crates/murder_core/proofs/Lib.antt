@@ -1,2 +1,10 @@
 pub mod Commands
 pub mod Connections
+pub mod Places
+pub mod Nodes
+pub mod Feeds
+pub mod Start
+pub mod Steps
+pub mod Answers
+pub mod Points
+pub mod OneServer

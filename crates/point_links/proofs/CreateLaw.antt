@@ -222,22 +222,22 @@ no_box (Some box) e = cc
 
 module _ (murder : Murder) (given : Given) (store : Store) (c : ClientCommand) (name : List ℕ) (node : BackNode) (message : LinkMsg) (rest : List LinkMsg)
     (flow : Flow) (comes : LineComes murder given store c name node message rest flow) where
-  abbrev whose : Whose
+  abbrev pub whose : Whose
   whose = is_command c.id
 
-  abbrev me : Location
+  abbrev pub me : Location
   me = node.flows.me
 
-  abbrev table : MailboxTable
+  abbrev pub table : MailboxTable
   table = murder.master.table
 
   abbrev found_at : Option Record
   found_at = record_at murder.master.table c.name
 
-  abbrev down : List LinkMsg
+  abbrev pub down : List LinkMsg
   down = on_link murder.links murder.master.me name
 
-  abbrev says : List Out
+  abbrev pub says : List Out
   says = (node_says murder.master name message).outs
 
   abbrev it_is : Tag × MCommand
@@ -246,13 +246,13 @@ module _ (murder : Murder) (given : Given) (store : Store) (c : ClientCommand) (
   talk : HasTalk murder.master name node (message ∷ rest) down given
   talk = subst (λ (u : List LinkMsg). HasTalk murder.master name node u down given) comes.first (comes.holds.each name node comes.there).talk
 
-  taken : IsTaken whose murder.master name node message rest down c.name flow
+  pub taken : IsTaken whose murder.master name node message rest down c.name flow
   taken = line_taken whose murder.master name node rest down given message c.name flow talk comes.streams comes.own comes.placed
 
-  one : IsOneCommand murder given store name message
+  pub one : IsOneCommand murder given store name message
   one = takes_keeps_many murder given store name node message rest comes.holds comes.there comes.first
 
-  its_id : flow.ask ≡ c.id
+  pub its_id : flow.ask ≡ c.id
   its_id = is_only c.id flow.ask (own_is whose (flow_at node.flows c.name) flow (comes.placed.at.running c.name ∙ on_itself c.name flow)).1
 
   both_are : message ∷ filter (is_own_message whose) rest ≡ flow_message me c.name flow ∷ []
@@ -275,7 +275,7 @@ module _ (murder : Murder) (given : Given) (store : Store) (c : ClientCommand) (
       let text : bytes ≡ (command_line exact).text it_is = same_bytes bytes ((command_line exact).text it_is) (sym is ∙ message_is) in
       read_as (tag, m) it_is (sym read ∙ ap (λ (b : List ℕ). command_in b) text ∙ command_read it_is spelled)
 
-  abbrev its_reply : Reply
+  abbrev pub its_reply : Reply
   its_reply = flow_reply murder.master.table name me c.name flow
 
   -- ---- what the master's reply is, and what the backend answers at it
@@ -328,7 +328,7 @@ module _ (murder : Murder) (given : Given) (store : Store) (c : ClientCommand) (
   put_off reserving reserved (name_deleted stage is heard) = absurd (let no : Reserving ≡ Deleting = sym reserving ∙ stage in cc)
 
   -- the outputs about it, by the mark of the reply
-  outs_are : (counts : Option Counts) → its_reply.counts ≡ counts
+  pub outs_are : (counts : Option Counts) → its_reply.counts ≡ counts
       → filter (is_own_out whose) says ≡ Link name (answer_message flow taken.it) ∷ mark_of (Some c.id) counts
   outs_are counts e =
       taken.outs ∙ ap (λ (k : Option Counts). Link name (answer_message flow taken.it) ∷ mark_of (Some flow.ask) k) e
@@ -336,10 +336,10 @@ module _ (murder : Murder) (given : Given) (store : Store) (c : ClientCommand) (
 
   -- ---- what the store does
 
-  abbrev more : Given
+  abbrev pub more : Given
   more = given_in table name message
 
-  abbrev HoldsThen : Store → Type 0
+  abbrev pub HoldsThen : Store → Type 0
   HoldsThen later = ManyHold (master_takes murder name message) (given ++ more) later
 
   record DoesCreate : Type 0 where
@@ -373,7 +373,7 @@ module _ (murder : Murder) (given : Given) (store : Store) (c : ClientCommand) (
   makes_none making counts _ (created ask n place acl serial is none free given) holds =
       absurd (none_if_answered (is_own_out whose) says _ c.id ask is.marked (outs_are (Some IfAnswered) counts))
 
-  does_nothing : flow.stage ≡ Reserving → (later : Store) → StoreTakes message says more store later → HoldsThen later → HoldsThen store
+  pub does_nothing : flow.stage ≡ Reserving → (later : Store) → StoreTakes message says more store later → HoldsThen later → HoldsThen store
   does_nothing reserving _ (nothing given none) holds = holds
   does_nothing reserving _ (removed ask n box is there given) holds =
       absurd (let no : command.Delete n ≡ command.Reserve c.name me =

@@ -16,10 +16,10 @@ use Rattle.front_core.proofs.OneConnection.Places.{Place}
 use Rattle.front_core.proofs.OneConnection.Standing.{Stands}
 use Rattle.front_core.proofs.OneConnection.Standing.Stands.{reads, waits, faulted, finished}
 
-abbrev GoesOnBehind : Answer → Type 0
+abbrev pub GoesOnBehind : Answer → Type 0
 GoesOnBehind answer = ends answer.reply ≡ false
 
-none_ends : (inputs : List Input) (answers : List Answer) → AreAnswered inputs answers → All GoesOnBehind answers
+pub none_ends : (inputs : List Input) (answers : List Answer) → AreAnswered inputs answers → All GoesOnBehind answers
 unfolding AreAnswered
 none_ends [] [] all = All-nil GoesOnBehind
 none_ends [] (answer ∷ answers) all = absurd all
@@ -33,7 +33,7 @@ pub all_go_on : (inputs : List Input) (answers : List Answer) → AreAnswered in
 all_go_on inputs answers all = λ i j d h k. none_ends inputs answers all i d (omega arith)
 
 -- or the last does
-ends_last : (before : List Answer) (last : Answer) → All GoesOnBehind before → EndsOnlyLast (before ++ last ∷ [])
+pub ends_last : (before : List Answer) (last : Answer) → All GoesOnBehind before → EndsOnlyLast (before ++ last ∷ [])
 ends_last [] last all = λ i j d h k. absurd (omega arith)
 ends_last (answer ∷ before) last all =
     AllPairs-cons (λ (earlier later : Answer). ends earlier.reply ≡ false) answer (before ++ last ∷ [])

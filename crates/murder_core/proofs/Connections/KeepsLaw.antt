@@ -5,10 +5,11 @@ use Rattle.std.specs.Option.{IsSome}
 use Rattle.std.specs.Cmp.Lexicographic.{pointwise}
 use Rattle.back_node.specs.declared.node.BackNode.{BackNode}
 use Rattle.feed_core.specs.Feed.{Recs}
+use Rattle.feed_core.specs.declared.rec.Rec.{Rec}
 use Rattle.feed_core.specs.declared.replica.Replica.{Replica}
-use Rattle.feed_core.specs.Routes.{server_at}
+use Rattle.feed_core.specs.Routes.{server_at, server_in}
 use Rattle.feed_links.specs.Lines.{HasStreams}
-use Rattle.feed_links.specs.OneFeed.{IsFed}
+use Rattle.feed_links.specs.OneFeed.{AreLines, IsFed}
 use Rattle.feed_links.specs.Replicas.{hears}
 use Rattle.feed_links.specs.Spelled.{CanBeTold}
 use Rattle.front_core.specs.Ending.{EndsOnlyLast}
@@ -115,15 +116,23 @@ pub record AreNodesOf (config : Config) (world : World) (master : Master) : Type
 abbrev pub NamesBackends : Nodes → Recs → Type 0
 NamesBackends nodes recs = (name server : List ℕ) → server_at recs name ≡ Some server → IsSome (nodes server)
 
+-- each record that stands there
+abbrev pub AreAtBackends : Nodes → Recs → Type 0
+AreAtBackends nodes recs = AllByRecursion (λ (entry : List ℕ × Rec). IsSome (nodes (server_in entry.1))) recs
+
 -- whatever replica takes the message
 abbrev pub TellsBackends : Nodes → LinkMsg → Type 0
-TellsBackends nodes message = (replica : Replica) → NamesBackends nodes replica.records → NamesBackends nodes (hears replica message).records
+TellsBackends nodes message = (replica : Replica) → AreAtBackends nodes replica.records → AreAtBackends nodes (hears replica message).records
 
 abbrev pub TableNamesBackends : Nodes → MailboxTable → Type 0
 TableNamesBackends nodes table = (name : List ℕ) (it : Record) → record_at table name ≡ Some it → IsSome (nodes (it.place).server)
 
+abbrev pub AreKeptAtBackends : Nodes → MailboxTable → Type 0
+AreKeptAtBackends nodes table = AllByRecursion (λ (entry : List ℕ × Record). IsSome (nodes ((entry.1).place).server)) table.records
+
 pub record KnowsBackends (nodes : Nodes) (down : List LinkMsg) (replica : Replica) : Type 0 where
   pub has : NamesBackends nodes replica.records
+  pub each : AreAtBackends nodes replica.records
   pub told : AllByRecursion (TellsBackends nodes) down
 
 -- ---- feeds
@@ -131,6 +140,8 @@ pub record KnowsBackends (nodes : Nodes) (down : List LinkMsg) (replica : Replic
 -- a frontend's replica follows the master's table
 pub record IsFedAt (config : Config) (world : World) (master : Master) (node : List ℕ) (front : Front) : Type 0 where
   pub fed : IsFed master node (on_link world.links node (master_of config)) (on_link world.links (master_of config) node) front.replica
+  -- the master sends it nothing but lines
+  pub lines : AreLines (on_link world.links (master_of config) node)
   pub knows : KnowsBackends (home_at world) (on_link world.links (master_of config) node) front.replica
 
 pub record FeedsHold (config : Config) (world : World) (master : Master) : Type 0 where
@@ -139,6 +150,7 @@ pub record FeedsHold (config : Config) (world : World) (master : Master) : Type 
   pub nobodys : TellNobody master.streams
   pub spelled : CanBeTold master.table
   pub backends : TableNamesBackends (home_at world) master.table
+  pub kept : AreKeptAtBackends (home_at world) master.table
 
 -- ---- numbers
 

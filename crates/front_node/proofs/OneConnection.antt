@@ -1,0 +1,2 @@
+-- The law of one connection, by its client.
+pub mod FrontAnswers

@@ -1,0 +1,581 @@
+-- The inputs of one connection keep the law: each request gets its answer, or begins to wait for a backend or the master; a literal gets its continuation, a
+-- fault its line.
+use Rattle.std.proofs.Common.{◌≡◌, ℕ, ◌+◌, ◌<◌, ◌^◌, List, [], ◌∷◌, ◌++◌, length, Option, None, Some, refl, sym, ◌∙◌, ap, subst, append_assoc, length-append}
+use Rattle.std.proofs.Common.{true, false, arith}
+use Rattle.std.specs.Ordering.{nat_cmp}
+use Rattle.std.proofs.lemmas.List.{append-nil}
+use Rattle.asking_core.specs.Begins.{Begun, ask_of, at_barrier, at_server, first_sent}
+use Rattle.asking_core.specs.declared.waiting.Waiting.{Waiting as Ask_waits}
+use Rattle.feed_core.specs.declared.replica.Replica.{Replica}
+use Rattle.front_core.proofs.OneConnection.LastAnswer.{all_go_on}
+use Rattle.front_core.proofs.OneConnection.Readings.{FaultsLast}
+use Rattle.front_node.specs.declared.connection.Connection.{Connection}
+use Rattle.front_node.specs.declared.connection.Stage.TheVariants.{Reading, Waits, Ended}
+use Rattle.front_node.specs.Taken.{Turned, Ways, answers_now, answers_last, asks, behind_outs, comes_at, input_comes, input_in, inputs_come, to_begin, ways_by}
+use Rattle.front_node.proofs.OneConnection.FrontAnswers.{IsTaken, request_taken}
+use Rattle.front_node.proofs.OneConnection.FrontAnswers.IsTaken.{here, finishes, asked}
+use Rattle.imap_reply.specs.ByeLine.{bye_line}
+use Rattle.imap_talk.specs.FaultBye.{bye_of}
+use Rattle.imap_reply.specs.Continuation.{continuation_line}
+use Rattle.imap_reply.specs.Greeting.{greeting}
+use Rattle.imap_reply.specs.ReplyText.{reply_text}
+use Rattle.imap_talk.specs.SessionEnds.{has_ended}
+use Rattle.imap_talk.specs.Transcript.{answer_text, ends, replies_to}
+use Rattle.imap_talk.specs.Transcript.Stop.{silent}
+use Rattle.imap_talk.proofs.TranscriptGrows.{AreAnswered, Grows, request_answered, continued, fault_told, end_told}
+use Rattle.imap_talk.specs.declared.inputs.Input.{Input}
+use Rattle.imap_talk.specs.declared.inputs.Input.TheVariants.{GoesOn, Asks, Faults}
+use Rattle.imap_talk.specs.Inputs.{requests_in}
+use Rattle.imap_talk.proofs.InputLaws.{requests-append}
+use Rattle.imap_talk.proofs.RequestsOf.{answered_lengths, next_request, replies_stop}
+use Rattle.imap_reply.specs.declared.continuation.Continuation.{Continuation}
+use Rattle.imap_wire.specs.declared.frame.FrameFault.{FrameFault}
+use Rattle.imap_types.specs.declared.command.Command.{Command}
+use Rattle.imap_types.specs.declared.command.Tag.{Tag}
+use Rattle.imap_types.specs.declared.reply.Reply.{Reply}
+use Rattle.imap_types.specs.declared.request.Answer.{Answer}
+use Rattle.imap_types.specs.declared.request.Request.{Request}
+use Rattle.imap_types.specs.declared.request.Request.TheVariants.{Command as a_command}
+use Rattle.link_msg.specs.declared.ask.FrontAsk.{FrontAsk}
+use Rattle.link_msg.specs.declared.how.How.TheVariants.{Here}
+use Rattle.link_msg.specs.declared.message.LinkMsg.{LinkMsg}
+use Rattle.link_msg.specs.declared.message.LinkMsg.TheVariants.{Ask}
+use Rattle.link_msg.specs.declared.out.Out.TheVariants.{Client as to_client, Close, Link as to_node}
+use Rattle.mark_history.specs.Marked.{Tale}
+use Rattle.mur_base.specs.declared.point.AskId.{AskId}
+use Rattle.mur_base.proofs.MapLaws.{numbers_apart, value_at-with_value}
+use Rattle.mur_model.specs.Act.{need_of}
+use Rattle.mur_model.specs.Answer.{Answered, MayTake}
+use Rattle.mur_model.specs.Asking.{asked_for}
+use Rattle.mur_model.specs.History.{numbered}
+use Rattle.mur_model.specs.Needed.{Mailbox, Work}
+use Rattle.mur_model.specs.declared.session.Sess.{Sess}
+use Rattle.mur_model.specs.declared.session.Sess.TheVariants.{Ended as session_ended}
+use Rattle.mur_model.specs.declared.setting.Setting.{Setting}
+use Rattle.mur_model.specs.declared.store.Store.{Store}
+use Rattle.point_links.specs.Commands.{ClientCommand}
+use Rattle.route_links.specs.Answered.{IsNumbered, noop_of}
+use Rattle.route_links.specs.Barriers.{Place as barrier}
+use Rattle.cluster_core.specs.declared.world.Client.{Client}
+use Rattle.murder_core.specs.declared.world.World.{World}
+use Rattle.murder_core.specs.World.{carry, carry_all, home_at}
+use Rattle.murder_core.proofs.Commands.Knows.{Undecided}
+use Rattle.murder_core.proofs.Commands.Knows.Knows.{undecided}
+use Rattle.murder_core.proofs.Commands.Place.{Place}
+use Rattle.murder_core.proofs.Commands.Place.{Place as place}
+use Rattle.murder_core.proofs.Commands.Standing.{Fixed, IsCommandOf, WaitsAt, next_id}
+use Rattle.murder_core.proofs.Commands.Standing.Stands.{reads, waits, faulted, finished}
+use Rattle.murder_core.proofs.Connections.AsksFirst.{FirstWay, first_way}
+use Rattle.murder_core.proofs.Connections.AsksFirst.FirstWay.{by_server, by_master}
+use Rattle.murder_core.proofs.Connections.ConnectionLaw.{IsInPlaceOf, IsMarkedAt, ReadsOn, StandsOn, client_with, keeps_on, session_at}
+use Rattle.murder_core.proofs.Connections.Nowhere.{nowhere_too}
+use Rattle.murder_core.proofs.Connections.Said.{IsAnsweredSo, answer_carried, carry_all-append, counted_one}
+use Rattle.murder_core.proofs.Connections.Said.{end_carried, given_keeps, given_world, last_carried, line_carried}
+use Rattle.murder_core.proofs.Connections.Said.{said_made, said_one, said_tale, told_one}
+use Rattle.murder_core.proofs.Connections.Sends.{MayAsk, SendsSo, asks_so, bars_so, may_ask_later}
+use Rattle.murder_core.proofs.Places.FrontWorlds.{with_sent}
+
+-- by what a frontend of this replica decides whom it asks
+abbrev pub ways_for : Fixed → Replica → Ways
+ways_for fixed replica = ways_by replica.records fixed.master fixed.first
+
+-- its commands have numbers of 64 bits
+abbrev pub HasNumbersOf : ℕ → Tale → Type 0
+HasNumbersOf conn told = (conn < 2 ^ 64) × (length (told.talk.requests conn) < 2 ^ 64)
+
+abbrev last_of : ℕ → Connection → Tag → Reply → Turned
+last_of conn connection tag reply = answers_last conn (record connection { session = session_ended }) tag reply
+
+module _ (fixed : Fixed) (front : List ℕ) (replica : Replica) (conn : ℕ) where
+  -- a request that the frontend answers by itself
+  answered_here : (inputs next : List Input) (connection : Connection) (before : World) (told : Tale) (world : World)
+      (request : Request) (tag : Tag) (reply : Reply) (session : Sess) (was : ReadsOn fixed front replica conn inputs connection before told world)
+      → numbered (was.story.talk.requests conn) (length (was.story.told conn) + 1) ≡ Some request
+      → IsAnsweredSo fixed.setting (was.story.course.sessions conn) request tag reply session
+      → ((store : Store) → MayTake fixed.setting store (was.story.course.sessions conn) request 0)
+      → ends reply ≡ false → has_ended session ≡ false
+      → ((answer : Answer) → ends answer.reply ≡ false → Grows inputs next (was.story.told conn) (was.story.told conn ++ answer ∷ []) (answer_text answer))
+      → ReadsOn fixed front replica conn next (answers_now conn connection session tag reply).connection before told
+      (carry_all front world (answers_now conn connection session tag reply).outs)
+  unfolding answers_now
+  answered_here inputs next connection before told world request tag reply session was number is free stays lasts grows =
+      let story = was.story in
+      let answer : Answer = record { tag = tag; reply = reply } in
+      let client : Client = client_with front inputs (story.told conn) in
+      let text : List ℕ = reply_text tag reply in
+      let world_is = answer_carried front world conn client text (record { conn = conn; command = connection.answered + 1 }) Here was.reading.client in
+      let now : Tale = said_tale fixed.setting story conn request in
+      let one = told_one fixed.setting story conn request tag reply session is in
+      let its = session_at story.course.sessions conn _ ∙ ap (λ (a : Answered). a.session) (is story.course.store) in
+      let grown = grows answer stays in
+      subst (λ w. ReadsOn fixed front replica conn next (answers_now conn connection session tag reply).connection before told w) (sym world_is)
+      (record {
+        story = now;
+        made = said_made fixed front replica conn inputs connection before told world request tag reply session text was number is free;
+        reading = record {
+          stage_is = was.reading.stage_is;
+          waiting_is = was.reading.waiting_is;
+          session_is = sym its;
+          goes_on = ap has_ended its ∙ lasts;
+          count = ap (λ n. n + 1) was.reading.count ∙ sym (counted_one fixed.setting story conn request tag reply session is);
+          answered = subst (λ a. AreAnswered next a) (sym one) grown.answered;
+          said = said_one fixed.setting story conn request tag reply session is ∙ sym one;
+          client = value_at-with_value nat_cmp numbers_apart world.clients conn (record client { given = client.given ++ text }) client was.reading.client
+              ∙ ap (λ g. Some (record { at = front; given = g }))
+              (append_assoc greeting (replies_to inputs (story.told conn)) text ∙ ap (λ t. greeting ++ t) (sym grown.text_is)
+              ∙ ap (λ a. greeting ++ replies_to next a) (sym one));
+          nothing = nowhere_too fixed.master (home_at world) world.links front replica (next_id conn (story.told conn)) (length (now.told conn) + 1)
+              was.reading.nothing;
+        };
+      })
+
+  -- a request that the frontend answers by itself, and with that ends the connection: nothing that follows it is taken
+  last_here : (inputs more : List Input) (held : Option (List ℕ)) (connection : Connection) (before : World) (told : Tale) (world : World)
+      (request : Request) (tag : Tag) (reply : Reply) (was : ReadsOn fixed front replica conn inputs connection before told world)
+      → numbered (was.story.talk.requests conn) (length (was.story.told conn) + 1) ≡ Some request
+      → IsAnsweredSo fixed.setting (was.story.course.sessions conn) request tag reply session_ended
+      → ((store : Store) → MayTake fixed.setting store (was.story.course.sessions conn) request 0)
+      → ends reply ≡ true
+      → StandsOn fixed front replica conn (inputs ++ Asks request ∷ more) held (last_of conn connection tag reply).connection before told
+      (carry_all front world (last_of conn connection tag reply).outs)
+  unfolding answers_last
+  last_here inputs more held connection before told world request tag reply was number is free is_end =
+      let story = was.story in
+      let answer : Answer = record { tag = tag; reply = reply } in
+      let client : Client = client_with front inputs (story.told conn) in
+      let text : List ℕ = reply_text tag reply in
+      let next : List Input = inputs ++ Asks request ∷ more in
+      let world_is = last_carried front world conn client text (record { conn = conn; command = connection.answered + 1 }) Here was.reading.client in
+      let now : Tale = said_tale fixed.setting story conn request in
+      let one = told_one fixed.setting story conn request tag reply session_ended is in
+      subst (λ w. StandsOn fixed front replica conn next held (last_of conn connection tag reply).connection before told w) (sym world_is)
+      (record {
+        story = now;
+        made = said_made fixed front replica conn inputs connection before told world request tag reply session_ended text was number is free;
+        standing = record {
+          count = ap (λ n. n + 1) was.reading.count ∙ sym (counted_one fixed.setting story conn request tag reply session_ended is);
+          client = value_at-with_value nat_cmp numbers_apart world.clients conn (record client { given = client.given ++ text }) client was.reading.client
+              ∙ ap (λ g. Some (record { at = front; given = g }))
+              (append_assoc greeting (replies_to inputs (story.told conn)) text
+              ∙ ap (λ t. greeting ++ t) (sym (end_told silent inputs (story.told conn) request more answer [] was.reading.answered is_end))
+              ∙ ap (λ a. greeting ++ replies_to next a) (sym one));
+          here = place.nowhere;
+          placed = nowhere_too fixed.master (home_at world) world.links front replica (next_id conn (story.told conn)) (length (now.told conn) + 1)
+              was.reading.nothing;
+          marked = tt;
+          stands = finished inputs more request (story.told conn) answer refl refl was.reading.answered one is_end
+              (said_one fixed.setting story conn request tag reply session_ended is ∙ sym one) refl;
+        };
+      })
+
+  -- the client is told to go on
+  awaited_here : (inputs : List Input) (connection : Connection) (before : World) (told : Tale) (world : World)
+      (why : Continuation) → ReadsOn fixed front replica conn inputs connection before told world
+      → ReadsOn fixed front replica conn (inputs ++ GoesOn why ∷ []) connection before told (carry_all front world (to_client conn
+      (continuation_line why) ∷ []))
+  awaited_here inputs connection before told world why was =
+      let story = was.story in
+      let client : Client = client_with front inputs (story.told conn) in
+      let world_is = line_carried front world conn client (continuation_line why) was.reading.client in
+      let grown = continued inputs (story.told conn) why was.reading.answered in
+      subst (λ w. ReadsOn fixed front replica conn (inputs ++ GoesOn why ∷ []) connection before told w) (sym world_is)
+      (record {
+        story = story;
+        made = record {
+          others = keeps_on fixed conn before world (given_world world conn client (continuation_line why)) was.made.others
+              (given_keeps fixed world conn client (continuation_line why));
+          goes_on = was.made.goes_on;
+          store = was.made.store;
+          is_told = was.made.is_told;
+        };
+        reading = record {
+          stage_is = was.reading.stage_is;
+          waiting_is = was.reading.waiting_is;
+          session_is = was.reading.session_is;
+          goes_on = was.reading.goes_on;
+          count = was.reading.count;
+          answered = grown.answered;
+          said = was.reading.said;
+          client = value_at-with_value nat_cmp numbers_apart world.clients conn
+              (record client { given = client.given ++ continuation_line why }) client was.reading.client
+              ∙ ap (λ g. Some (record { at = front; given = g }))
+              (append_assoc greeting (replies_to inputs (story.told conn)) (continuation_line why) ∙ ap (λ t. greeting ++ t) (sym grown.text_is));
+          nothing = was.reading.nothing;
+        };
+      })
+
+  -- a fault ends the connection
+  faulted_here : (inputs : List Input) (held : Option (List ℕ)) (connection : Connection) (before : World) (told : Tale) (world : World)
+      (fault : FrameFault) → held ≡ None → ReadsOn fixed front replica conn inputs connection before told world
+      → StandsOn fixed front replica conn (inputs ++ Faults fault ∷ []) held (record connection { stage = Ended }) before told
+      (carry_all front world (to_client conn (bye_line (bye_of fault)) ∷ Close conn ∷ []))
+  unfolding requests_in
+  faulted_here inputs held connection before told world fault none was =
+      let story = was.story in
+      let client : Client = client_with front inputs (story.told conn) in
+      let text = bye_line (bye_of fault) in
+      let world_is = end_carried front world conn client text was.reading.client in
+      subst (λ w. StandsOn fixed front replica conn (inputs ++ Faults fault ∷ []) held (record connection { stage = Ended }) before told w) (sym world_is)
+      (record {
+        story = story;
+        made = record {
+          others = keeps_on fixed conn before world (given_world world conn client text) was.made.others (given_keeps fixed world conn client text);
+          goes_on = was.made.goes_on;
+          store = was.made.store;
+          is_told = was.made.is_told;
+        };
+        standing = record {
+          count = was.reading.count;
+          client = value_at-with_value nat_cmp numbers_apart world.clients conn (record client { given = client.given ++ text }) client was.reading.client
+              ∙ ap (λ g. Some (record { at = front; given = g })) (append_assoc greeting (replies_to inputs (story.told conn)) text
+              ∙ ap (λ t. greeting ++ t) (sym (fault_told inputs (story.told conn) fault was.reading.answered)));
+          here = place.nowhere;
+          placed = was.reading.nothing;
+          marked = tt;
+          stands = faulted refl none
+              (ap length (requests-append inputs (Faults fault ∷ []) ∙ append-nil (requests_in inputs))
+              ∙ answered_lengths inputs (story.told conn) was.reading.answered)
+              was.reading.said (all_go_on inputs (story.told conn) was.reading.answered) refl;
+        };
+      })
+
+  -- ---- a request that needs a mailbox; the inputs behind it wait
+
+  -- its number, as the connection counts it
+  abbrev next_at : Connection → AskId
+  next_at connection = record { conn = conn; command = connection.answered + 1 }
+
+  waits_here : (inputs waiting : List Input) (held : Option (List ℕ)) (connection : Connection) (before : World) (told : Tale) (world : World)
+      (request : Request) (tag : Tag) (to : List ℕ) (message : LinkMsg) (c : ClientCommand) (its_place : Place)
+      (was : ReadsOn fixed front replica conn inputs connection before told world)
+      → request ≡ a_command tag c.it → FaultsLast waiting held
+      → IsCommandOf fixed conn (was.story.told conn) connection.session c → WaitsAt c.waiting.at its_place
+      → Undecided fixed.master fixed.first front c its_place
+      → IsMarkedAt world.marks (next_id conn (was.story.told conn)) its_place
+      → SendsSo fixed world (with_sent world front to message) front replica (next_at connection) its_place
+      → StandsOn fixed front replica conn (inputs ++ Asks request ∷ waiting) held
+      (record connection { waiting = waiting; stage = Waits tag c.waiting }) before told (carry_all front world (to_node to message ∷ []))
+  unfolding carry_all carry
+  waits_here inputs waiting held connection before told world request tag to message c its_place was is last of at so marked sends =
+      let story = was.story in
+      let next : World = with_sent world front to message in
+      record {
+        story = story;
+        made = record {
+          others = keeps_on fixed conn before world next was.made.others (record {
+            nodes = refl;
+            broken = refl;
+            steps = refl;
+            clients = λ other ne. refl;
+            places = sends.others;
+            marks = λ other ne command. refl;
+          });
+          goes_on = was.made.goes_on;
+          store = was.made.store;
+          is_told = was.made.is_told;
+        };
+        standing = record {
+          count = was.reading.count;
+          client = was.reading.client ∙ ap (λ t. Some (record { at = front; given = greeting ++ t }))
+              (replies_stop inputs (story.told conn) request waiting was.reading.answered);
+          here = its_place;
+          placed = subst (λ n. IsInPlaceOf fixed next front replica (record { conn = conn; command = n + 1 }) its_place) was.reading.count
+              (sends.own (subst (λ n. IsInPlaceOf fixed world front replica (record { conn = conn; command = n + 1 }) place.nowhere)
+              (sym was.reading.count) was.reading.nothing));
+          marked = marked;
+          stands = waits (record {
+            passed = inputs;
+            request = request;
+            tag = tag;
+            c = c;
+            of = of;
+            stage = refl;
+            at = at;
+            parts = refl;
+            lasts = ap has_ended was.reading.session_is ∙ was.reading.goes_on;
+            answered = was.reading.answered;
+            is = is;
+            last = last;
+            knows = undecided was.reading.said (of.was_is ∙ was.reading.session_is) so;
+          });
+        };
+      }
+
+  asked_by : (inputs waiting : List Input) (held : Option (List ℕ)) (connection : Connection) (before : World) (told : Tale) (world : World)
+      (request : Request) (tag : Tag) (it : Command) (name : List ℕ) (work : Work) (begun : Begun)
+      (was : ReadsOn fixed front replica conn inputs connection before told world)
+      → request ≡ a_command tag it → need_of fixed.setting connection.session it ≡ Mailbox name work → FaultsLast waiting held
+      → MayAsk fixed (home_at world) front replica → IsNumbered (next_at connection)
+      → FirstWay (home_at world) fixed.master (next_at connection) connection.session (to_begin name (asked_for name work)) begun
+      → StandsOn fixed front replica conn (inputs ++ Asks request ∷ waiting) held
+      (record connection { waiting = waiting; stage = Waits tag begun.waiting }) before told
+      (carry_all front world (to_node begun.sent.to begun.sent.message ∷ []))
+  asked_by inputs waiting held connection before told world request tag it name work begun was is need last may numbered (by_server server there) =
+      let first : Ask_waits = to_begin name (asked_for name work) in
+      let ask : FrontAsk = ask_of (next_at connection) connection.session first in
+      let c : ClientCommand = record {
+        setting = fixed.setting;
+        id = next_id conn (was.story.told conn);
+        was = connection.session;
+        it = it;
+        name = name;
+        work = work;
+        waiting = at_server first server;
+        need = need;
+        name_is = refl;
+        asking_is = refl;
+      } in
+      waits_here inputs waiting held connection before told world request tag server (Ask ask) c (place.is_asked server ask) was is last
+      (record { setting_is = refl; its = refl; was_is = refl }) refl
+      (ap (λ n. ask_of (record { conn = conn; command = n + 1 }) connection.session first) was.reading.count) tt
+      (asks_so fixed world front server replica ask may.frontend there)
+  asked_by inputs waiting held connection before told world request tag it name work begun was is need last may numbered (by_master cause) =
+      let first : Ask_waits = to_begin name (asked_for name work) in
+      let c : ClientCommand = record {
+        setting = fixed.setting;
+        id = next_id conn (was.story.told conn);
+        was = connection.session;
+        it = it;
+        name = name;
+        work = work;
+        waiting = at_barrier first cause;
+        need = need;
+        name_is = refl;
+        asking_is = refl;
+      } in
+      waits_here inputs waiting held connection before told world request tag fixed.master (noop_of (next_at connection)) c (place.is_barred barrier.asked) was
+      is last (record { setting_is = refl; its = refl; was_is = refl }) tt tt tt
+      (bars_so fixed world front replica (next_at connection) may.frontend numbered)
+
+  -- what begins to wait, and what goes out for it
+  abbrev begun_at : Connection → List ℕ → Work → Begun
+  begun_at connection name work =
+      first_sent replica.records fixed.master fixed.first (next_at connection) connection.session (to_begin name (asked_for name work))
+
+  asked_kept : (inputs waiting : List Input) (held : Option (List ℕ)) (connection : Connection) (before : World) (told : Tale) (world : World)
+      (request : Request) (tag : Tag) (it : Command) (name : List ℕ) (work : Work)
+      (was : ReadsOn fixed front replica conn inputs connection before told world)
+      → request ≡ a_command tag it → need_of fixed.setting (was.story.course.sessions conn) it ≡ Mailbox name work → FaultsLast waiting held
+      → MayAsk fixed (home_at before) front replica → IsNumbered (next_at connection)
+      → StandsOn fixed front replica conn (inputs ++ Asks request ∷ waiting) held
+      (record connection { waiting = waiting; stage = Waits tag (begun_at connection name work).waiting }) before told
+      (carry_all front (carry_all front world (asks (ways_for fixed replica) conn connection tag name (asked_for name work)).outs) [])
+  unfolding carry_all
+  asked_kept inputs waiting held connection before told world request tag it name work was is need last may numbered =
+      let may_now : MayAsk fixed (home_at world) front replica = may_ask_later fixed before world front replica was.made.others.nodes may in
+      asked_by inputs waiting held connection before told world request tag it name work (begun_at connection name work) was is
+      (ap (λ s. need_of fixed.setting s it) was.reading.session_is ∙ need) last may_now numbered
+      (first_way (home_at world) replica.records fixed.master fixed.first (next_at connection) connection.session (to_begin name (asked_for name work))
+      may_now.knows may_now.first)
+
+-- behind a command that waits every input waits
+pub asked_waits : (setting : Setting) (ways : Ways) (conn : ℕ) (connection : Connection) (inputs : List Input) (tag : Tag) (it : Ask_waits)
+    → connection.stage ≡ Waits tag it
+    → inputs_come setting ways conn connection inputs ≡ record { connection = record connection { waiting = connection.waiting ++ inputs }; outs = [] }
+unfolding inputs_come input_comes comes_at
+asked_waits setting ways conn connection [] tag it e =
+    ap (λ w. record { connection = record connection { waiting = w }; outs = [] }) (sym (append-nil connection.waiting))
+asked_waits setting ways conn connection (input ∷ inputs) tag it e =
+    ap (λ s. behind_outs (comes_at setting ways conn connection input s).outs
+    (inputs_come setting ways conn (comes_at setting ways conn connection input s).connection inputs)) e
+    ∙ asked_waits setting ways conn (record connection { waiting = connection.waiting ++ input ∷ [] }) inputs tag it e
+    ∙ ap (λ w. record { connection = record connection { waiting = w }; outs = [] }) (append_assoc connection.waiting (input ∷ []) inputs)
+
+-- nothing more comes to a connection that has ended
+pub ended_drops : (setting : Setting) (ways : Ways) (conn : ℕ) (connection : Connection) (inputs : List Input) → connection.stage ≡ Ended
+    → inputs_come setting ways conn connection inputs ≡ record { connection = connection; outs = [] }
+unfolding inputs_come input_comes comes_at
+ended_drops setting ways conn connection [] e = refl
+ended_drops setting ways conn connection (input ∷ inputs) e =
+    ap (λ s. behind_outs (comes_at setting ways conn connection input s).outs
+    (inputs_come setting ways conn (comes_at setting ways conn connection input s).connection inputs)) e
+    ∙ ended_drops setting ways conn connection inputs e
+
+last_turned : (setting : Setting) (ways : Ways) (conn : ℕ) (connection : Connection) (tag : Tag) (reply : Reply) (inputs : List Input)
+    → inputs_come setting ways conn (answers_last conn connection tag reply).connection inputs
+    ≡ record { connection = (answers_last conn connection tag reply).connection; outs = [] }
+unfolding answers_last
+last_turned setting ways conn connection tag reply inputs =
+    ended_drops setting ways conn (record connection { stage = Ended; answered = connection.answered + 1 }) inputs refl
+
+reads_input : (setting : Setting) (ways : Ways) (conn : ℕ) (connection : Connection) (input : Input) → connection.stage ≡ Reading
+    → input_comes setting ways conn connection input ≡ input_in setting ways conn connection input
+unfolding input_comes comes_at
+reads_input setting ways conn connection input e = ap (comes_at setting ways conn connection input) e
+
+module _ (fixed : Fixed) (front : List ℕ) (replica : Replica) (conn : ℕ) where
+  -- what inputs make of a connection of this frontend
+  abbrev come : Connection → List Input → Turned
+  come connection inputs = inputs_come fixed.setting (ways_for fixed replica) conn connection inputs
+
+  asked_turned : (connection : Connection) (tag : Tag) (name : List ℕ) (work : Work) (inputs : List Input)
+      → come (asks (ways_for fixed replica) conn connection tag name (asked_for name work)).connection inputs
+      ≡ record {
+        connection = record connection { waiting = connection.waiting ++ inputs; stage = Waits tag (begun_at fixed front replica conn connection name work).waiting };
+        outs = [];
+      }
+  asked_turned connection tag name work inputs =
+      asked_waits fixed.setting (ways_for fixed replica) conn
+      (record connection { stage = Waits tag (begun_at fixed front replica conn connection name work).waiting }) inputs tag
+      (begun_at fixed front replica conn connection name work).waiting refl
+
+  -- an input, and then the others
+  came_on : (all : List Input) (held : Option (List ℕ)) (connection : Connection) (before : World) (told : Tale) (world : World)
+      (input : Input) (inputs : List Input) (turned : Turned) → input_comes fixed.setting (ways_for fixed replica) conn connection input ≡ turned
+      → StandsOn fixed front replica conn all held (come turned.connection inputs).connection before told
+      (carry_all front (carry_all front world turned.outs) (come turned.connection inputs).outs)
+      → StandsOn fixed front replica conn all held (come connection (input ∷ inputs)).connection before told
+      (carry_all front world (come connection (input ∷ inputs)).outs)
+  unfolding inputs_come
+  came_on all held connection before told world input inputs turned e stands =
+      subst (λ (t : Turned). StandsOn fixed front replica conn all held (come t.connection inputs).connection before told
+      (carry_all front world (t.outs ++ (come t.connection inputs).outs))) (sym e)
+      (subst (λ w. StandsOn fixed front replica conn all held (come turned.connection inputs).connection before told w)
+      (sym (carry_all-append front world turned.outs (come turned.connection inputs).outs)) stands)
+
+  fault_kept : (inputs new : List Input) (held : Option (List ℕ)) (connection : Connection) (before : World) (told : Tale) (world : World)
+      (fault : FrameFault) → new ≡ [] → held ≡ None → ReadsOn fixed front replica conn inputs connection before told world
+      → StandsOn fixed front replica conn (inputs ++ Faults fault ∷ new) held (come connection (Faults fault ∷ new)).connection before told
+      (carry_all front world (come connection (Faults fault ∷ new)).outs)
+  unfolding input_in inputs_come carry_all
+  fault_kept inputs new held connection before told world fault nil none was =
+      subst (λ n. StandsOn fixed front replica conn (inputs ++ Faults fault ∷ n) held (come connection (Faults fault ∷ n)).connection before told
+      (carry_all front world (come connection (Faults fault ∷ n)).outs)) (sym nil)
+      (came_on (inputs ++ Faults fault ∷ []) held connection before told world (Faults fault) [] _
+      (reads_input fixed.setting (ways_for fixed replica) conn connection (Faults fault) was.reading.stage_is)
+      (faulted_here fixed front replica conn inputs held connection before told world fault none was))
+
+  -- the inputs of a piece that haven't ended stand so
+  pub reads_stands : (inputs : List Input) (held : Option (List ℕ)) (connection : Connection) (before : World) (told : Tale) (world : World)
+      → ReadsOn fixed front replica conn inputs connection before told world
+      → StandsOn fixed front replica conn inputs held connection before told world
+  reads_stands inputs held connection before told world was = record {
+    story = was.story;
+    made = was.made;
+    standing = record {
+      count = was.reading.count;
+      client = was.reading.client;
+      here = place.nowhere;
+      placed = was.reading.nothing;
+      marked = tt;
+      stands = reads was.reading.stage_is was.reading.waiting_is was.reading.session_is was.reading.goes_on was.reading.answered was.reading.said refl;
+    };
+  }
+
+  -- the request of an input is the next that has no answer
+  next_of : (inputs rest : List Input) (input : Input) (connection : Connection) (before : World) (told : Tale) (world : World) (request : Request)
+      (was : ReadsOn fixed front replica conn inputs connection before told world) → told.talk.requests conn ≡ requests_in (inputs ++ input ∷ rest)
+      → requests_in (input ∷ rest) ≡ request ∷ requests_in rest → numbered (was.story.talk.requests conn) (length (was.story.told conn) + 1) ≡ Some request
+  next_of inputs rest input connection before told world request was all is =
+      subst (λ r. numbered r (length (was.story.told conn) + 1) ≡ Some request)
+      (sym (ap (λ (r : ℕ → List Request). r conn) was.made.goes_on.requests ∙ all ∙ requests-append inputs (input ∷ rest)
+      ∙ ap (λ r. requests_in inputs ++ r) is))
+      (next_request (requests_in inputs) (requests_in rest) request (length (was.story.told conn))
+      (answered_lengths inputs (was.story.told conn) was.reading.answered))
+
+  -- and its number is of 64 bits
+  next_numbered : (inputs rest : List Input) (input : Input) (connection : Connection) (before : World) (told : Tale) (world : World) (request : Request)
+      (was : ReadsOn fixed front replica conn inputs connection before told world) → told.talk.requests conn ≡ requests_in (inputs ++ input ∷ rest)
+      → requests_in (input ∷ rest) ≡ request ∷ requests_in rest → HasNumbersOf conn told
+      → IsNumbered (record { conn = conn; command = connection.answered + 1 })
+  next_numbered inputs rest input connection before told world request was all is fits =
+      let so : requests_in (inputs ++ input ∷ rest) ≡ requests_in inputs ++ request ∷ requests_in rest =
+      requests-append inputs (input ∷ rest) ∙ ap (λ r. requests_in inputs ++ r) is in
+      let counted : length (told.talk.requests conn) ≡ length (requests_in inputs) + length (request ∷ requests_in rest) =
+      ap length (all ∙ so) ∙ length-append (requests_in inputs) (request ∷ requests_in rest) in
+      let few : connection.answered + 1 < 2 ^ 64 =
+      omega (arith, fits.1, counted, was.reading.count, answered_lengths inputs (was.story.told conn) was.reading.answered) in
+      (fits.0, few)
+
+  -- the inputs that follow go on so, from wherever the connection reads
+  abbrev pub Follow : List Input → Option (List ℕ) → World → Tale → Type 0
+  Follow new held before told = (inputs : List Input) (connection : Connection) (world : World)
+      → told.talk.requests conn ≡ requests_in (inputs ++ new)
+      → ReadsOn fixed front replica conn inputs connection before told world
+      → StandsOn fixed front replica conn (inputs ++ new) held (come connection new).connection before told
+      (carry_all front world (come connection new).outs)
+
+  -- an input behind which the connection reads on
+  read_on : (inputs new : List Input) (input : Input) (held : Option (List ℕ)) (connection : Connection) (before : World) (told : Tale) (world : World)
+      (turned : Turned) → input_comes fixed.setting (ways_for fixed replica) conn connection input ≡ turned
+      → told.talk.requests conn ≡ requests_in (inputs ++ input ∷ new)
+      → Follow new held before told
+      → ReadsOn fixed front replica conn (inputs ++ input ∷ []) turned.connection before told (carry_all front world turned.outs)
+      → StandsOn fixed front replica conn (inputs ++ input ∷ new) held (come connection (input ∷ new)).connection before told
+      (carry_all front world (come connection (input ∷ new)).outs)
+  read_on inputs new input held connection before told world turned e all follow reading =
+      came_on (inputs ++ input ∷ new) held connection before told world input new turned e
+      (subst (λ f. StandsOn fixed front replica conn f held (come turned.connection new).connection before told
+      (carry_all front (carry_all front world turned.outs) (come turned.connection new).outs)) (append_assoc inputs (input ∷ []) new)
+      (follow (inputs ++ input ∷ []) turned.connection (carry_all front world turned.outs)
+      (all ∙ ap requests_in (sym (append_assoc inputs (input ∷ []) new))) reading))
+
+  -- whom the frontend may ask, and what numbers its commands have
+  pub record MaySend (before : World) (told : Tale) : Type 0 where
+    pub may : MayAsk fixed (home_at before) front replica
+    pub numbers : HasNumbersOf conn told
+
+  request_kept : (inputs new : List Input) (request : Request) (held : Option (List ℕ)) (connection : Connection) (before : World) (told : Tale) (world : World)
+      (was : ReadsOn fixed front replica conn inputs connection before told world) → MaySend before told → FaultsLast new held
+      → told.talk.requests conn ≡ requests_in (inputs ++ Asks request ∷ new)
+      → Follow new held before told → IsTaken fixed.setting (ways_for fixed replica) conn (was.story.course.sessions conn) request
+      → StandsOn fixed front replica conn (inputs ++ Asks request ∷ new) held (come connection (Asks request ∷ new)).connection before told
+      (carry_all front world (come connection (Asks request ∷ new)).outs)
+  unfolding input_in requests_in carry_all
+  request_kept inputs new request held connection before told world was sends last all follow (here tag reply session is free stays lasts form) =
+      read_on inputs new (Asks request) held connection before told world (answers_now conn connection session tag reply)
+      (reads_input fixed.setting (ways_for fixed replica) conn connection (Asks request) was.reading.stage_is ∙ form connection was.reading.session_is)
+      all follow
+      (answered_here fixed front replica conn inputs (inputs ++ Asks request ∷ []) connection before told world request tag reply session was
+      (next_of inputs new (Asks request) connection before told world request was all refl) is free stays lasts
+      (λ answer on. request_answered inputs (was.story.told conn) request answer was.reading.answered on))
+  request_kept inputs new request held connection before told world was sends last all follow (finishes tag it reply command is free is_end form) =
+      let turned : Turned = last_of conn connection tag reply in
+      came_on (inputs ++ Asks request ∷ new) held connection before told world (Asks request) new turned
+      (reads_input fixed.setting (ways_for fixed replica) conn connection (Asks request) was.reading.stage_is ∙ form connection was.reading.session_is)
+      (subst (λ (t : Turned). StandsOn fixed front replica conn (inputs ++ Asks request ∷ new) held t.connection before told
+      (carry_all front (carry_all front world turned.outs) t.outs))
+      (sym (last_turned fixed.setting (ways_for fixed replica) conn (record connection { session = session_ended }) tag reply new))
+      (last_here fixed front replica conn inputs new held connection before told world request tag reply was
+      (next_of inputs new (Asks request) connection before told world request was all refl) is free is_end))
+  request_kept inputs new request held connection before told world was sends last all follow (asked tag it name work is need form) =
+      let turned : Turned = asks (ways_for fixed replica) conn connection tag name (asked_for name work) in
+      let begun : Begun = begun_at fixed front replica conn connection name work in
+      let waits_all : come turned.connection new ≡ record { connection = record connection { waiting = new; stage = Waits tag begun.waiting }; outs = [] } =
+      asked_turned connection tag name work new
+      ∙ ap (λ w. record { connection = record connection { waiting = w ++ new; stage = Waits tag begun.waiting }; outs = [] }) was.reading.waiting_is in
+      came_on (inputs ++ Asks request ∷ new) held connection before told world (Asks request) new turned
+      (reads_input fixed.setting (ways_for fixed replica) conn connection (Asks request) was.reading.stage_is ∙ form connection was.reading.session_is)
+      (subst (λ (t : Turned). StandsOn fixed front replica conn (inputs ++ Asks request ∷ new) held t.connection before told
+      (carry_all front (carry_all front world turned.outs) t.outs)) (sym waits_all)
+      (asked_kept fixed front replica conn inputs new held connection before told world request tag it name work was is need last sends.may
+      (next_numbered inputs new (Asks request) connection before told world request was all refl sends.numbers)))
+
+  -- all inputs of a piece, or all that waited
+  pub inputs_kept : (new : List Input) (held : Option (List ℕ)) (before : World) (told : Tale) → MaySend before told → FaultsLast new held
+      → Follow new held before told
+  unfolding inputs_come FaultsLast input_in carry_all
+  inputs_kept [] held before told sends last = λ inputs connection world all was.
+      subst (λ f. StandsOn fixed front replica conn f held connection before told world) (sym (append-nil inputs))
+      (reads_stands inputs held connection before told world was)
+  inputs_kept (Asks request ∷ new) held before told sends last = λ inputs connection world all was.
+      request_kept inputs new request held connection before told world was sends last all
+      (inputs_kept new held before told sends last)
+      (request_taken fixed.setting (ways_for fixed replica) conn (was.story.course.sessions conn) request was.reading.goes_on)
+  inputs_kept (GoesOn why ∷ new) held before told sends last = λ inputs connection world all was.
+      read_on inputs new (GoesOn why) held connection before told world
+      (record { connection = connection; outs = to_client conn (continuation_line why) ∷ [] })
+      (reads_input fixed.setting (ways_for fixed replica) conn connection (GoesOn why) was.reading.stage_is) all
+      (inputs_kept new held before told sends last)
+      (awaited_here fixed front replica conn inputs connection before told world why was)
+  inputs_kept (Faults fault ∷ new) held before told sends last = λ inputs connection world all was.
+      fault_kept inputs new held connection before told world fault last.0 last.1 was
+
+  -- the same of inputs that follow some of all that there are
+  pub follow_all : (all : List Input) (held : Option (List ℕ)) (before : World) (told : Tale) → MaySend before told → told.talk.requests conn ≡ requests_in all
+      → (passed new : List Input) (connection : Connection) (world : World) → passed ++ new ≡ all → FaultsLast new held
+      → ReadsOn fixed front replica conn passed connection before told world
+      → StandsOn fixed front replica conn all held (come connection new).connection before told (carry_all front world (come connection new).outs)
+  follow_all all held before told sends requests passed new connection world parts last was =
+      subst (λ f. StandsOn fixed front replica conn f held (come connection new).connection before told (carry_all front world (come connection new).outs)) parts
+      (inputs_kept new held before told sends last passed connection world (requests ∙ ap requests_in (sym parts)) was)

@@ -1,0 +1,354 @@
+-- Bytes of a client keep the law.
+use Rattle.std.proofs.Common.{◌≡◌, ◌≢◌, ℕ, ◌+◌, true, false, List, [], ◌∷◌, ◌++◌, Option, None, Some}
+use Rattle.std.proofs.Common.{inl, inr, refl, sym, ◌∙◌, ap, subst}
+use Rattle.std.proofs.Common.{append_assoc}
+use Rattle.std.proofs.Math.Logic.{⊎_elim}
+use Rattle.std.proofs.lemmas.Bool.{cases_eq}
+use Rattle.asking_core.specs.declared.waiting.Waiting.{Waiting as Ask_waits}
+use Rattle.cluster_core.specs.Heard.{hears}
+use Rattle.cluster_core.specs.World.{master_of, setting_of}
+use Rattle.feed_core.specs.declared.replica.Replica.{Replica}
+use Rattle.feed_links.specs.Lines.{messages_to}
+use Rattle.feed_links.specs.OneFeed.{AreNoops}
+use Rattle.front_core.specs.Reading.{Reading as Read, inputs_of_more}
+use Rattle.front_core.proofs.OneConnection.Readings.{inputs_in, inputs_with_more, reading_of, reading_with_more}
+use Rattle.front_node.specs.declared.connection.Connection.{Connection}
+use Rattle.front_node.specs.declared.connection.Stage.TheVariants.{Reading, Waits, Ended}
+use Rattle.front_node.specs.declared.front.Front.{Front}
+use Rattle.front_node.specs.Ended.{released}
+use Rattle.front_node.specs.Front.{Stepped, connection_at, having_read, bytes_in, front_bytes_at, bytes_by, still, ways_of, with_turned}
+use Rattle.front_node.specs.Taken.{Turned, Ways, input_comes, inputs_come}
+use Rattle.front_node.proofs.FrameLaws.{reader_kept}
+use Rattle.imap_reply.specs.Greeting.{greeting}
+use Rattle.imap_talk.specs.Heard.{Heard, client}
+use Rattle.imap_talk.specs.Inputs.{inputs_from}
+use Rattle.imap_talk.specs.Transcript.{ends, replies_to}
+use Rattle.imap_talk.specs.Transcript.Stop.{silent}
+use Rattle.imap_talk.specs.declared.inputs.Input.{Input}
+use Rattle.imap_talk.specs.declared.inputs.Input.TheVariants.{Asks}
+use Rattle.imap_talk.proofs.TranscriptGrows.{AreAnswered, end_told}
+use Rattle.imap_types.specs.declared.command.Tag.{Tag}
+use Rattle.imap_types.specs.declared.request.Answer.{Answer}
+use Rattle.imap_types.specs.declared.request.Request.{Request}
+use Rattle.imap_wire.specs.Frames.{begun}
+use Rattle.imap_wire.proofs.FeedLaws.{frames-ended, begun-ended}
+use Rattle.mark_history.specs.Marked.{Tale, talk_told}
+use Rattle.mark_history.specs.Marked.AreMarked.{asks as asks_more}
+use Rattle.mur_config.specs.declared.config.Config.{Config}
+use Rattle.mur_model.specs.History.{GoesOn}
+use Rattle.mur_model.specs.declared.setting.Setting.{Setting}
+use Rattle.mur_model.proofs.HistoryGrows.{same_lists, talks_follow}
+use Rattle.murder_step.specs.declared.input.NodeInput.TheVariants.{Piece}
+use Rattle.murder_step.specs.declared.node.NodeState.TheVariants as state
+use Rattle.murder_step.proofs.NodeKinds.{front_is}
+use Rattle.schedule_text.specs.declared.event.Event.TheVariants.{Data}
+use Rattle.murder_core.specs.declared.world.World.{World}
+use Rattle.murder_core.specs.World.{carry_all, client_at, client_does, front_at, node_at}
+use Rattle.murder_core.proofs.Commands.Place.{Place as place}
+use Rattle.murder_core.proofs.Commands.Released.{begun_released, released_count, stands_released}
+use Rattle.murder_core.proofs.Commands.Standing.{Fixed, HasBegunSo, Stands, next_id}
+use Rattle.murder_core.proofs.Commands.Standing.Stands.{reads, waits, faulted, finished}
+use Rattle.murder_core.proofs.Connections.BytesCome.{Behind, after_data, asked_more, asked_tale, closed_heard, elsewhere_heard, heard_more, new, nothing_heard}
+use Rattle.murder_core.proofs.Connections.BytesCome.{other_heard, reading_behind, reading_noops, still_heard, turned, waiting_behind, waiting_noops, ways_same}
+use Rattle.murder_core.proofs.Connections.ConnectionLaw.{IsInPlaceOf, IsReading, IsStanding}
+use Rattle.murder_core.proofs.Connections.KeepsFront.{front_keeps, is_at_after, standing_after, turned_so, with_connection, world_after}
+use Rattle.murder_core.proofs.Connections.KeepsLaw.{ConnectionIs, FeedsHold, IsAt, KeepsLaw, KeepsOn, NumbersFit, fixed_of}
+use Rattle.murder_core.proofs.Connections.KeepsLaw.ConnectionIs.{is_nobody, is_elsewhere, is_open, is_closed}
+use Rattle.murder_core.proofs.Connections.KeepsStill.{MasterServes, elsewhere_kept, put_kept, same_kept}
+use Rattle.murder_core.proofs.Connections.Stays.{ReplicasStay, connection_stays, fixed_places, is_not_closed, same_front}
+use Rattle.murder_core.proofs.Feeds.Beside.{front_client_feeds}
+use Rattle.murder_core.proofs.Feeds.Many.{front_keeps_many}
+use Rattle.murder_core.proofs.Nodes.Comes.{front_comes, with_front}
+
+-- ---- what a frontend does with the bytes
+
+pub inputs_keep_reader : (setting : Setting) (ways : Ways) (conn : ℕ) (connection : Connection) (new : List Input)
+    → (inputs_come setting ways conn connection new).connection.reader ≡ connection.reader
+unfolding inputs_come
+inputs_keep_reader setting ways conn connection [] = refl
+inputs_keep_reader setting ways conn connection (input ∷ new) =
+    inputs_keep_reader setting ways conn (input_comes setting ways conn connection input).connection new ∙ reader_kept setting ways conn connection input
+
+at_ended : (front : Front) (conn : ℕ) (bytes : List ℕ) (connection : Connection) → connection_at front conn ≡ Some connection → connection.stage ≡ Ended
+    → bytes_in front conn bytes ≡ still front
+unfolding bytes_in front_bytes_at bytes_by
+at_ended front conn bytes connection has stage = ap (front_bytes_at front conn bytes) has ∙ ap (bytes_by front conn bytes connection) stage
+
+abbrev read_turned : Front → ℕ → Connection → List ℕ → Turned
+read_turned front conn connection bytes =
+    inputs_come front.setting (ways_of front) conn (having_read front.setting connection bytes) (inputs_of_more front.setting connection.reader bytes)
+
+at_reading : (front : Front) (conn : ℕ) (bytes : List ℕ) (connection : Connection) → connection_at front conn ≡ Some connection → connection.stage ≡ Reading
+    → bytes_in front conn bytes ≡ with_turned front conn (read_turned front conn connection bytes)
+unfolding bytes_in front_bytes_at bytes_by
+at_reading front conn bytes connection has stage = ap (front_bytes_at front conn bytes) has ∙ ap (bytes_by front conn bytes connection) stage
+
+at_waiting : (front : Front) (conn : ℕ) (bytes : List ℕ) (connection : Connection) (tag : Tag) (it : Ask_waits) → connection_at front conn ≡ Some connection
+    → connection.stage ≡ Waits tag it → bytes_in front conn bytes ≡ with_turned front conn (read_turned front conn connection bytes)
+unfolding bytes_in front_bytes_at bytes_by
+at_waiting front conn bytes connection tag it has stage = ap (front_bytes_at front conn bytes) has ∙ ap (bytes_by front conn bytes connection) stage
+
+-- the reader of a connection that hasn't ended
+reader_of : (connection : Connection) (held : Read) → (connection.stage ≡ Ended → ⊥) → HasBegunSo connection held → connection.reader ≡ held
+reader_of connection held lasts is = ⊎_elim (λ ended. absurd (lasts ended)) (λ same. same) is
+
+pub reading_reader : (connection : Connection) (held : Read) → connection.stage ≡ Reading → HasBegunSo connection held → connection.reader ≡ held
+reading_reader connection held stage is = reader_of connection held (λ ended. (let both : Reading ≡ Ended = sym stage ∙ ended in cc)) is
+
+pub waiting_reader : (connection : Connection) (held : Read) (tag : Tag) (it : Ask_waits) → connection.stage ≡ Waits tag it
+    → HasBegunSo connection held → connection.reader ≡ held
+waiting_reader connection held tag it stage is = reader_of connection held (λ ended. (let both : Waits tag it ≡ Ended = sym stage ∙ ended in cc)) is
+
+-- a connection that has ended holds nothing
+pub standing_released : (fixed : Fixed) (front : List ℕ) (replica : Replica) (conn : ℕ) (inputs : List Input) (held : Option (List ℕ))
+    (connection : Connection) (world : World) (story : Tale) → IsStanding fixed front replica conn inputs held connection world story
+    → IsStanding fixed front replica conn inputs held (released connection) world story
+standing_released fixed front replica conn inputs held connection world story is = record {
+  count = released_count connection ∙ is.count;
+  client = is.client;
+  here = is.here;
+  placed = is.placed;
+  marked = is.marked;
+  stands = stands_released fixed front conn inputs held connection (story.told conn) (story.talk.answers conn) (story.course.sessions conn) is.here is.stands;
+}
+
+module _ (config : Config) (heard : ℕ → Heard) (world : World) (law : KeepsLaw config heard world) (conn : ℕ) (bytes more node : List ℕ) (front : Front)
+    (connection : Connection) (e : heard conn ≡ client bytes false) (at : IsAt world conn node front connection)
+    (fits : NumbersFit (after_data config heard conn more)) where
+  abbrev fixed : Fixed
+  fixed = fixed_of config
+
+  abbrev after : ℕ → Heard
+  after = after_data config heard conn more
+
+  abbrev told : Tale
+  told = asked_tale config heard conn more law.story
+
+  abbrev its_turn : Turned
+  its_turn = turned config heard world law conn bytes more node front connection e at fits
+
+  -- the frontend decides as its node does
+  turned_same : read_turned front conn connection more ≡ its_turn
+  turned_same =
+      let is = (law.nodes).fronts node front at.at in
+      ap (λ s. inputs_come s (ways_of front) conn (having_read s connection more) (inputs_of_more s connection.reader more)) is.setting_is
+      ∙ ap (λ m. inputs_come (setting_of config) (record { recs = (front.replica).records; master = m; first = front.first }) conn
+      (having_read (setting_of config) connection more) (inputs_of_more (setting_of config) connection.reader more)) is.master_is
+      ∙ ap (λ f. inputs_come (setting_of config) (record { recs = (front.replica).records; master = master_of config; first = f }) conn
+      (having_read (setting_of config) connection more) (inputs_of_more (setting_of config) connection.reader more)) is.first_is
+
+  abbrev kept : Connection
+  kept = released its_turn.connection
+
+  -- a connection that hasn't ended takes more bytes
+  taken_more : bytes_in front conn more ≡ with_turned front conn (read_turned front conn connection more)
+      → connection.reader ≡ reading_of (setting_of config) bytes → AreNoops (messages_to (master_of config) its_turn.outs)
+      → Behind config heard world law conn bytes more node front connection e at fits
+      → KeepsOn config (talk_told law.story) after (with_front world node (bytes_in front conn more))
+  taken_more does reader noops behind =
+      let step : bytes_in front conn more ≡ turned_so front conn kept its_turn.outs = does ∙ ap (with_turned front conn) turned_same in
+      let read : having_read (setting_of config) connection more ≡ having_read (setting_of config) connection more = refl in
+      let reads_so : HasBegunSo its_turn.connection (reading_of (setting_of config) (bytes ++ more)) =
+      inr (inputs_keep_reader (setting_of config) (ways_same config front) conn (having_read (setting_of config) connection more)
+      (inputs_of_more (setting_of config) connection.reader more)
+      ∙ sym (reading_with_more (setting_of config) bytes more connection.reader (sym reader))) in
+      subst (λ s. KeepsOn config (talk_told law.story) after (with_front world node s)) (sym step)
+      (front_keeps config heard after world law world.links conn node front connection kept its_turn.outs told behind.story
+      (λ other ne. record { in_place = λ f r c here is. is; in_none = λ is. is })
+      at.at at.has
+      (record {
+        requests = asked_more config heard conn bytes more connection.reader e (sym reader) law.story.talk.requests law.requests;
+        answers = same_lists law.story.told;
+        serials = same_lists law.story.talk.serials;
+      }) refl refl refl (λ other. refl) (λ other ne. other_heard config conn other more (heard other) ne)
+      (λ shut. absurd (is_not_closed (after conn) (bytes ++ more) (heard_more config conn bytes more (heard conn) e) shut))
+      behind.made
+      (front_keeps_many config world law.master law.given law.story.course.store law.nodes law.many node front (turned_so front conn kept its_turn.outs) at.at)
+      (subst (λ s. FeedsHold config (with_front world node s) law.master) step
+      (front_client_feeds config world law.master law.nodes law.feeds node front (Piece conn more) at.at tt
+      (subst (λ (s : Stepped). AreNoops (messages_to (master_of config) s.outs)) (sym step) noops)))
+      (subst (λ h. ConnectionIs fixed conn (world_after world node front conn kept its_turn.outs) behind.story h)
+      (sym (heard_more config conn bytes more (heard conn) e))
+      (is_open (bytes ++ more) node (with_connection front conn kept) kept
+      (is_at_after world node front conn connection kept its_turn.outs at.at at.has)
+      (begun_released its_turn.connection (reading_of (setting_of config) (bytes ++ more)) reads_so)
+      (standing_after fixed world node front conn kept its_turn.outs (inputs_in (setting_of config) (bytes ++ more)) (begun (bytes ++ more)) front.replica
+      behind.story at.at behind.made.others.nodes
+      (standing_released fixed node front.replica conn (inputs_in (setting_of config) (bytes ++ more)) (begun (bytes ++ more)) its_turn.connection
+      (carry_all node world its_turn.outs) behind.story behind.standing)))))
+
+  -- ---- one that has ended drops them
+
+  -- its law, once they are heard
+  heard_on : connection.stage ≡ Ended
+      → IsStanding fixed node front.replica conn (inputs_in (setting_of config) (bytes ++ more)) (begun (bytes ++ more)) connection world told
+      → KeepsOn config (talk_told law.story) after world
+  heard_on stage standing = record {
+    law = record {
+      master = law.master;
+      nodes = law.nodes;
+      whole = law.whole;
+      story = told;
+      given = law.given;
+      many = law.many;
+      feeds = law.feeds;
+      is_told = asks_more world.steps world.marks law.story _ (ended_asked stage standing) law.is_told;
+      requests = λ other. refl;
+      connections = λ other. ⊎_elim
+          (λ (same : other ≡ conn). subst (λ c. ConnectionIs fixed c world told (after c)) (sym same)
+          (subst (λ h. ConnectionIs fixed conn world told h) (sym (heard_more config conn bytes more (heard conn) e))
+          (is_open (bytes ++ more) node front connection at (inl stage) standing)))
+          (λ (ne : other ≢ conn). subst (λ h. ConnectionIs fixed other world told h) (sym (other_heard config conn other more (heard other) ne))
+          (connection_stays fixed other world world law.story told (heard other)
+          (record {
+            fronts = λ any. same_front other (front_at world any) (front_at world any) refl;
+            client = refl;
+            in_place = fixed_places fixed other world world (record { in_place = λ f r c here is. is; in_none = λ is. is }) same_replicas;
+            in_none = λ is. is;
+            marks = λ command. refl;
+            told = refl;
+            said = refl;
+            session = refl;
+          }) (law.connections other)))
+          (cases_eq other conn);
+    };
+    more = record { requests = ended_asked stage standing; answers = same_lists law.story.told; serials = same_lists law.story.talk.serials };
+    closed = λ other shut. refl;
+  }
+    where
+      ended_asked : connection.stage ≡ Ended
+          → IsStanding fixed node front.replica conn (inputs_in (setting_of config) (bytes ++ more)) (begun (bytes ++ more)) connection world told
+          → GoesOn law.story.talk.requests told.talk.requests
+      ended_asked stage standing = asked_more config heard conn bytes more (reading_of (setting_of config) bytes) e refl law.story.talk.requests law.requests
+
+      just_front : {one other : Front} → Some one ≡ Some other → one ≡ other
+      just_front h = cc
+
+      same_replicas : ReplicasStay world world
+      same_replicas any was now before later = ap (λ (f : Front). f.replica) (just_front (sym later ∙ before))
+
+  ended_more : connection.stage ≡ Ended
+      → IsStanding fixed node front.replica conn (inputs_in (setting_of config) (bytes ++ more)) (begun (bytes ++ more)) connection world told
+      → KeepsOn config (talk_told law.story) after (with_front world node (bytes_in front conn more))
+  unfolding carry_all
+  ended_more stage standing =
+      let on = heard_on stage standing in
+      let put = put_kept config after after world node (state.Front front) (front_is (node_at world node) front at.at) (λ other. refl) on.law in
+      subst (λ s. KeepsOn config (talk_told law.story) after (with_front world node s))
+      (sym (at_ended front conn more connection at.has stage))
+      (record {
+        law = put.law;
+        more = talks_follow (talk_told law.story) (talk_told on.law.story) (talk_told put.law.story) on.more put.more;
+        closed = λ other shut. put.closed other shut ∙ on.closed other shut;
+      })
+
+  -- no frame ends in what is sent behind a fault
+  faulted_on : IsStanding fixed node front.replica conn (inputs_in (setting_of config) bytes) (begun bytes) connection world law.story → begun bytes ≡ None
+      → IsStanding fixed node front.replica conn (inputs_in (setting_of config) (bytes ++ more)) (begun (bytes ++ more)) connection world told
+  faulted_on standing none =
+      subst (λ f. IsStanding fixed node front.replica conn f (begun (bytes ++ more)) connection world told)
+      (sym (ap (inputs_from (setting_of config)) (frames-ended bytes more none)))
+      (subst (λ h. IsStanding fixed node front.replica conn (inputs_in (setting_of config) bytes) h connection world told)
+      (none ∙ sym (begun-ended bytes more none)) (record {
+        count = standing.count;
+        client = standing.client;
+        here = standing.here;
+        placed = standing.placed;
+        marked = standing.marked;
+        stands = standing.stands;
+      }))
+
+  -- the frames that are sent behind the answer that ended a session are answered by nothing
+  finished_on : (passed rest : List Input) (asked : Request) (before : List Answer) (final : Answer)
+      → (standing : IsStanding fixed node front.replica conn (inputs_in (setting_of config) bytes) (begun bytes) connection world law.story)
+      → connection.stage ≡ Ended → inputs_in (setting_of config) bytes ≡ passed ++ Asks asked ∷ rest → AreAnswered passed before
+      → law.story.told conn ≡ before ++ final ∷ [] → ends final.reply ≡ true → law.story.talk.answers conn ≡ law.story.told conn
+      → standing.here ≡ place.nowhere
+      → IsStanding fixed node front.replica conn (inputs_in (setting_of config) (bytes ++ more)) (begun (bytes ++ more)) connection world told
+  finished_on passed rest asked before final standing stage parts answered is_told is_end said none =
+      let reader : Read = reading_of (setting_of config) bytes in
+      let behind : List Input = inputs_of_more (setting_of config) reader more in
+      let now : inputs_in (setting_of config) (bytes ++ more) ≡ passed ++ Asks asked ∷ (rest ++ behind) =
+      inputs_with_more (setting_of config) bytes more reader refl ∙ ap (λ f. f ++ behind) parts ∙ append_assoc passed (Asks asked ∷ rest) behind in
+      record {
+        count = standing.count;
+        client = standing.client ∙ ap (λ t. Some (record { at = node; given = greeting ++ t }))
+            (ap (λ f. replies_to f (law.story.told conn)) parts ∙ ap (λ t. replies_to (passed ++ Asks asked ∷ rest) t) is_told
+            ∙ end_told silent passed before asked rest final [] answered is_end
+            ∙ sym (end_told silent passed before asked (rest ++ behind) final [] answered is_end)
+            ∙ ap (λ t. replies_to (passed ++ Asks asked ∷ (rest ++ behind)) t) (sym is_told) ∙ ap (λ f. replies_to f (law.story.told conn)) (sym now));
+        here = standing.here;
+        placed = standing.placed;
+        marked = standing.marked;
+        stands = finished passed (rest ++ behind) asked before final stage now answered is_told is_end said none;
+      }
+
+  -- ---- whatever it is at
+
+  stands_more : HasBegunSo connection (reading_of (setting_of config) bytes)
+      → (standing : IsStanding fixed node front.replica conn (inputs_in (setting_of config) bytes) (begun bytes) connection world law.story)
+      → Stands fixed node conn (inputs_in (setting_of config) bytes) (begun bytes) connection (law.story.told conn)
+      (law.story.talk.answers conn) (law.story.course.sessions conn) standing.here
+      → KeepsOn config (talk_told law.story) after (with_front world node (bytes_in front conn more))
+  stands_more reader standing (reads stage waiting session lasts all said none) =
+      let has_reader = reading_reader connection (reading_of (setting_of config) bytes) stage reader in
+      let reading : IsReading fixed node front.replica conn (inputs_in (setting_of config) bytes) connection world law.story = record {
+        stage_is = stage;
+        waiting_is = waiting;
+        session_is = session;
+        goes_on = lasts;
+        count = standing.count;
+        answered = all;
+        said = said;
+        client = standing.client;
+        nothing = subst (λ p. IsInPlaceOf fixed world node front.replica (next_id conn (law.story.told conn)) p) none standing.placed;
+      } in
+      taken_more (at_reading front conn more connection at.has stage) has_reader
+      (reading_noops config heard world law conn bytes more node front connection e at fits reading)
+      (reading_behind config heard world law conn bytes more node front connection e at fits has_reader reading)
+  stands_more reader standing (waits waiting) =
+      let it : Ask_waits = (waiting.c).waiting in
+      let has_reader = waiting_reader connection (reading_of (setting_of config) bytes) waiting.tag it waiting.stage reader in
+      taken_more (at_waiting front conn more connection waiting.tag it at.has waiting.stage) has_reader
+      (waiting_noops config heard world law conn bytes more node front connection e at fits waiting.tag it waiting.stage)
+      (waiting_behind config heard world law conn bytes more node front connection e at fits has_reader standing waiting)
+  stands_more reader standing (faulted stage none lengths said lasts at_none) = ended_more stage (faulted_on standing none)
+  stands_more reader standing (finished passed rest asked before final stage parts answered is_told is_end said none) =
+      ended_more stage (finished_on passed rest asked before final standing stage parts answered is_told is_end said none)
+
+-- ---- the event
+
+at_front : (world : World) (conn : ℕ) (bytes node : List ℕ) (front : Front) (given : List ℕ)
+    → world.broken ≡ [] → client_at world conn ≡ Some (record { at = node; given = given }) → front_at world node ≡ Some front
+    → client_does world (Piece conn bytes) (client_at world conn) ≡ with_front world node (bytes_in front conn bytes)
+unfolding client_does
+at_front world conn bytes node front given whole at is =
+    ap (client_does world (Piece conn bytes)) at ∙ front_comes world node (Piece conn bytes) front whole is
+
+data_by : (config : Config) (heard : ℕ → Heard) (world : World) (conn : ℕ) (bytes : List ℕ) (law : KeepsLaw config heard world) (was : Heard) → heard conn ≡ was
+    → NumbersFit (after_data config heard conn bytes) → MasterServes config → ConnectionIs (fixed_of config) conn world law.story was
+    → KeepsOn config (talk_told law.story) (after_data config heard conn bytes) (client_does world (Piece conn bytes) (client_at world conn))
+unfolding client_does carry_all
+data_by config heard world conn bytes law was e fits serves (is_nobody none fronts untold) =
+    subst (λ c. KeepsOn config (talk_told law.story) (after_data config heard conn bytes) (client_does world (Piece conn bytes) c)) (sym none)
+    (same_kept config heard (after_data config heard conn bytes) world
+    (still_heard config heard conn bytes (ap (λ h. hears config conn h (Data conn bytes)) e ∙ nothing_heard config conn bytes ∙ sym e)) law)
+data_by config heard world conn bytes law was e fits serves (is_elsewhere node given at none untold) =
+    subst (λ c. KeepsOn config (talk_told law.story) (after_data config heard conn bytes) (client_does world (Piece conn bytes) c)) (sym at)
+    (elsewhere_kept config heard (after_data config heard conn bytes) world node conn (Piece conn bytes) given refl serves at none law
+    (still_heard config heard conn bytes (ap (λ h. hears config conn h (Data conn bytes)) e ∙ elsewhere_heard config conn bytes ∙ sym e)))
+data_by config heard world conn bytes law was e fits serves (is_open b node front connection at reader standing) =
+    subst (λ w. KeepsOn config (talk_told law.story) (after_data config heard conn bytes) w)
+    (sym (at_front world conn bytes node front _ law.whole standing.client at.at))
+    (stands_more config heard world law conn b bytes node front connection e at fits reader standing standing.stands)
+data_by config heard world conn bytes law was e fits serves (is_closed b node front connection at gone) =
+    subst (λ w. KeepsOn config (talk_told law.story) (after_data config heard conn bytes) w)
+    (sym (at_front world conn bytes node front _ law.whole gone.client at.at
+    ∙ ap (with_front world node) (at_ended front conn bytes connection at.has gone.stage_is)))
+    (put_kept config heard (after_data config heard conn bytes) world node (state.Front front) (front_is (node_at world node) front at.at)
+    (still_heard config heard conn bytes (ap (λ h. hears config conn h (Data conn bytes)) e ∙ closed_heard config conn b bytes ∙ sym e)) law)
+
+pub data_keeps : (config : Config) (heard : ℕ → Heard) (world : World) (conn : ℕ) (bytes : List ℕ) (law : KeepsLaw config heard world)
+    → NumbersFit (after_data config heard conn bytes) → MasterServes config
+    → KeepsOn config (talk_told law.story) (after_data config heard conn bytes) (client_does world (Piece conn bytes) (client_at world conn))
+data_keeps config heard world conn bytes law fits serves = data_by config heard world conn bytes law (heard conn) refl fits serves (law.connections conn)

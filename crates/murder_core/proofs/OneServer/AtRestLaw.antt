@@ -1,0 +1,26 @@
+-- Nothing waits on empty links, behind whatever steps keep the law.
+use Rattle.std.proofs.Common.{List}
+use Rattle.imap_talk.specs.Heard.{frames_heard}
+use Rattle.imap_talk.proofs.RequestsOf.{asks_all, requests_of}
+use Rattle.mur_config.specs.declared.config.Config.{Config}
+use Rattle.schedule_text.specs.declared.event.Event.{Event}
+use Rattle.cluster_core.specs.Heard.{heard}
+use Rattle.cluster_core.specs.LawSetting.{law_setting}
+use Rattle.murder_core.specs.Flow.{run_steps}
+use Rattle.murder_core.specs.Headline.AtRest.{NothingWaits}
+use Rattle.murder_core.specs.World.{start}
+use Rattle.murder_core.proofs.OneServer.EachStep.{LawBehind}
+use Rattle.murder_core.proofs.OneServer.SaysOf.{says_of}
+use Rattle.murder_core.proofs.OneServer.ToldSoFar.{OthersAreSilent}
+
+pub at_rest : (config : Config) (steps : List Event) → LawBehind config steps → OthersAreSilent config steps
+    → NothingWaits config steps (run_steps (start config) steps)
+at_rest config steps law silent = λ empty conn mail stays.
+    let says = says_of config (λ c. heard config c steps) (run_steps (start config) steps) law conn in
+    record {
+      requests = requests_of (law_setting config) (frames_heard (heard config conn steps));
+      answers = law.story.told conn;
+      asked = asks_all (law_setting config) (frames_heard (heard config conn steps));
+      given = says.given (λ _. silent conn mail);
+      each = says.waits_not empty stays;
+    }

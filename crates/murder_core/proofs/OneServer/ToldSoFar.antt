@@ -1,0 +1,136 @@
+-- What is told at every step of a run.
+use Rattle.std.proofs.Common.{◌≡◌, ℕ, false, List, [], ◌++◌, refl, sym, subst}
+use Rattle.std.specs.Prelude.{IfSome}
+use Rattle.std.proofs.lemmas.List.{append-nil}
+use Rattle.imap_command.specs.Ruled.{IsDate}
+use Rattle.imap_talk.specs.Heard.{Heard, bytes_heard, frames_heard}
+use Rattle.imap_talk.specs.Requests.{AreRequests}
+use Rattle.imap_talk.proofs.ReadLaw.{heard_sound, read_of_legal}
+use Rattle.imap_talk.proofs.RequestsOf.{asks_all}
+use Rattle.imap_talk.proofs.SoundStores.{empty_is}
+use Rattle.mail_store.specs.Kept.{AreUidsBelowNext}
+use Rattle.mark_history.specs.FirstCourse.{first_course}
+use Rattle.mark_history.specs.Marked.{talk_told}
+use Rattle.mark_history.specs.Moments.{GoOn}
+use Rattle.mur_config.specs.declared.config.Config.{Config}
+use Rattle.mur_config.specs.Nodes.{AreNodes}
+use Rattle.mur_model.specs.declared.store.Store.{Store}
+use Rattle.mur_model.specs.History.{Talk}
+use Rattle.mur_model.specs.Store.{box_at}
+use Rattle.schedule_text.specs.declared.event.Event.{Event}
+use Rattle.store_law.proofs.AppendedThere.{keeps_appended}
+use Rattle.store_law.proofs.BegunLaw.{begins_as_read}
+use Rattle.store_law.proofs.CausesTold.{have_causes}
+use Rattle.store_law.proofs.DoneIsDone.{does_what_it_says}
+use Rattle.store_law.proofs.LinesLaw.{speaks_by_numbers}
+use Rattle.store_law.proofs.LoginLaw.{begins_by_login}
+use Rattle.store_law.proofs.MirrorsAlong.{views_are_told}
+use Rattle.store_law.proofs.NewsTold.{news_are_told}
+use Rattle.store_law.proofs.NoneLost.{both_hold, loses_none}
+use Rattle.store_law.proofs.OpenedLaw.{reads_what_is_examined}
+use Rattle.store_law.proofs.OthersUnseen.{keeps_to_its_own}
+use Rattle.store_law.proofs.OwnSelected.{none_own, points_own}
+use Rattle.store_law.proofs.RisingStores.{Rises, box_rises, none_rises, points_rise, some_rising}
+use Rattle.cluster_core.specs.Heard.{heard}
+use Rattle.cluster_core.specs.LawSetting.{law_setting}
+use Rattle.murder_core.specs.declared.world.World.{World}
+use Rattle.murder_core.specs.Flow.{run_steps, steps_of_run}
+use Rattle.murder_core.specs.Headline.Homes.{ShowsBoxesOf}
+use Rattle.murder_core.specs.Headline.OneStore.{HasBoxesOf, IsAnsweredThrough, IsToldByOneStore, IsToldSoFar}
+use Rattle.murder_core.specs.Headline.Outside.{guest_of, is_guest}
+use Rattle.murder_core.specs.History.{history_of}
+use Rattle.murder_core.specs.Shown.{given_to}
+use Rattle.murder_core.specs.World.{start}
+use Rattle.murder_core.proofs.OneServer.Boxes.{has_boxes}
+use Rattle.murder_core.proofs.OneServer.EachStep.{EachKeeps, IsKeptAt, LawBehind, kept_all}
+use Rattle.murder_core.proofs.OneServer.HistoryLaw.{history_is, stands_in_time}
+use Rattle.murder_core.proofs.OneServer.MarksGoOn.{run_goes_on, run_steps-append, steps_made}
+use Rattle.murder_core.proofs.OneServer.SaysOf.{IsSilent, SaysOf, says_of}
+use Rattle.murder_core.proofs.OneServer.ShownHomes.{shows_boxes}
+use Rattle.murder_core.proofs.OneServer.UidsBelow.{some_below}
+
+-- a client that is connected where no frontend is, and doesn't talk with the master, was given nothing
+abbrev pub OthersAreSilent : Config → List Event → Type 0
+OthersAreSilent config steps = (conn : ℕ) → is_guest (guest_of config conn steps) ≡ false → IsSilent (run_steps (start config) steps) conn
+
+-- behind some steps of a run that ends so
+told_so_far : (config : Config) (talk : Talk) (before later : List Event) → AreNodes config.nodes → IsDate config.date → OthersAreSilent config before
+    → IsKeptAt config talk before → LawBehind config (before ++ later)
+    → IsToldSoFar config talk (history_of (run_steps (start config) (before ++ later))) before (run_steps (start config) before)
+told_so_far config talk before later are date_is silent now last =
+    let law = now.law in
+    let world : World = run_steps (start config) before in
+    let whole : World = run_steps (start config) (before ++ later) in
+    let came : ℕ → Heard = λ conn. heard config conn before in
+    let all : ℕ → Heard = λ conn. heard config conn (before ++ later) in
+    let says : (conn : ℕ) → SaysOf (law_setting config) world conn (came conn) (law.story.told conn) = λ conn. says_of config came world law conn in
+    let history = history_is config came world law in
+    let legal = history.legal in
+    let on : GoOn world.steps world.marks whole.marks =
+    subst (λ (w : World). GoOn world.steps world.marks w.marks) (sym (run_steps-append (start config) before later)) (run_goes_on world later) in
+    let asked : (conn : ℕ) → AreRequests (law_setting config) (frames_heard (came conn)) (law.story.talk.requests conn) =
+    λ conn. subst (λ r. AreRequests (law_setting config) (frames_heard (came conn)) r) (sym (law.requests conn))
+    (asks_all (law_setting config) (frames_heard (came conn))) in
+    let rises : (name : List ℕ) → IfSome (box_at legal.last.store name) Rises =
+    λ name. box_rises legal.last.store name
+    (points_rise (law_setting config) (talk_told law.story) first_course legal.last (history_of world) legal.legal.follows none_rises) in
+    let below : (name : List ℕ) → IfSome (box_at legal.last.store name) AreUidsBelowNext =
+    λ name. some_below (box_at legal.last.store name) (rises name) in
+    record {
+      so_far = talk_told law.story;
+      goes_on = now.more;
+      asked = asked;
+      given = λ conn mail. (says conn).given (λ _. silent conn mail);
+      read = λ conn mail. read_of_legal (law_setting config) first_course (talk_told law.story) (history_of world) legal.last legal.legal date_is empty_is
+          (λ other. heard_sound (law_setting config) (came other) (law.story.talk.requests other) (asked other)) conn (given_to world conn)
+          (bytes_heard (came conn)) ((says conn).given (λ _. silent conn mail));
+      ends_only_last = λ conn. (says conn).lasts;
+      last = legal.last;
+      legal = legal.legal;
+      refusals = have_causes (law_setting config) first_course (talk_told law.story) (history_of world) legal.last legal.legal;
+      one_content = subst (λ (s : Store). HasBoxesOf config s world) (sym legal.same_store) (has_boxes config came world law);
+      homes_shown = subst (λ (s : Store). ShowsBoxesOf config s world) (sym legal.same_store) (shows_boxes config came world law are);
+      below_next = below;
+      uids_rise = λ name. some_rising (box_at legal.last.store name) (rises name);
+      none_lost = loses_none (law_setting config) legal.last.store (λ name. both_hold (box_at legal.last.store name) (below name) (rises name));
+      appended_there = keeps_appended (law_setting config) legal.last.store rises;
+      done = does_what_it_says (law_setting config) legal.last.store rises;
+      others_unseen = λ conn. keeps_to_its_own (law_setting config) legal.last.store (legal.last.sessions conn)
+          (points_own (law_setting config) (talk_told law.story) first_course legal.last (history_of world) legal.legal.follows
+          (none_own (law_setting config)) conn);
+      views_told = views_are_told (law_setting config) first_course (talk_told law.story) (history_of world) legal.last legal.legal none_rises (λ conn. refl);
+      news_told = news_are_told (law_setting config) first_course (talk_told law.story) (history_of world) legal.last legal.legal none_rises (λ conn. refl);
+      lost_next = history.lost_next;
+      made_by_now = history.made_by_now;
+      in_time = stands_in_time config came all world whole law last on;
+      counted = steps_made config before;
+      nothing_waits = λ empty conn stays.
+          subst (λ r. IsAnsweredThrough r (law.story.told conn)) (sym (law.requests conn)) ((says conn).waits_not empty stays);
+    }
+
+told_at : (config : Config) (talk : Talk) (steps before later : List Event) → steps ≡ before ++ later → AreNodes config.nodes → IsDate config.date
+    → OthersAreSilent config before → IsKeptAt config talk before → LawBehind config steps
+    → IsToldSoFar config talk (history_of (run_steps (start config) steps)) before (run_steps (start config) before)
+told_at config talk steps before later e are date_is silent now last =
+    subst (λ s. IsToldSoFar config talk (history_of (run_steps (start config) s)) before (run_steps (start config) before)) (sym e)
+    (told_so_far config talk before later are date_is silent now (subst (LawBehind config) e last))
+
+-- so it is where each step keeps the law
+abbrev pub IsToldWhereKept : Config → List Event → Type 0
+IsToldWhereKept config events = AreNodes config.nodes → IsDate config.date → EachKeeps config (steps_of_run config events)
+    → ((before later : List Event) → steps_of_run config events ≡ before ++ later → OthersAreSilent config before) → IsToldByOneStore config events
+
+pub told_by_one_store : (config : Config) (events : List Event) → IsToldWhereKept config events
+told_by_one_store config events are date_is each silent =
+    let steps : List Event = steps_of_run config events in
+    let all = kept_all config steps each in
+    let last = (all.at steps [] (sym (append-nil steps))).law in
+    record {
+      begins_as_read = begins_as_read (law_setting config);
+      examined_stays = reads_what_is_examined (law_setting config);
+      speaks_by_numbers = speaks_by_numbers (law_setting config);
+      begins_by_login = begins_by_login (law_setting config);
+      talk = all.talk;
+      at_each_step = λ before later e. told_at config all.talk steps before later e are date_is (silent before later e) (all.at before later e) last;
+      steps_rise = (history_is config (λ conn. heard config conn steps) (run_steps (start config) steps) last).steps_rise;
+    }

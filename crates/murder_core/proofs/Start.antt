@@ -1,0 +1,7 @@
+-- What holds before the first step.
+pub mod Kinds
+pub mod Fresh
+pub mod Ups
+pub mod Quiet
+pub mod Begins
+pub mod StartLaw
