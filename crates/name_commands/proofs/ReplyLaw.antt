@@ -41,7 +41,7 @@ reserved_told : reserve_refused (codes "2 reserved") ≡ NotNow
 unfolding reserve_refused
 reserved_told = refl
 
-spent_told : reserve_refused (codes "7 serials spent") ≡ done Limit
+spent_told : reserve_refused (codes "7 serials spent") ≡ NotNow
 unfolding reserve_refused
 spent_told = refl
 
@@ -84,7 +84,7 @@ module _ (table : MailboxTable) (b : List ℕ) (me : Location) (mailbox : List �
       (does Reserving (response.No (codes "2 reserved")) (ends flow NotNow) at (only_one _ it answers) (ap (λ body. Some (ends flow body)) reserved_told))
   reserved_by at low false false true a r s answers =
       serials_spent at (no_record (record_at table mailbox) a r) (eqb-true table.serial 4294967295 s) refl
-      (does Reserving (response.No (codes "7 serials spent")) (ends flow (done Limit)) at (only_one _ it answers)
+      (does Reserving (response.No (codes "7 serials spent")) (ends flow NotNow) at (only_one _ it answers)
       (ap (λ body. Some (ends flow body)) spent_told))
   reserved_by at low false false false a r s answers =
       name_reserved at (no_record (record_at table mailbox) a r) refl

@@ -29,7 +29,7 @@ pub data IsReplied (table : MailboxTable) (me : Location) (mailbox : List ℕ) (
   was_reserved : flow.stage ≡ Reserving → is_reserved (record_at table mailbox) ≡ true → reply ≡ refused None refusal.Reserved
       → heard_move mailbox flow it ≡ Some (ends flow NotNow) → IsReplied table me mailbox flow it reply
   serials_spent : flow.stage ≡ Reserving → record_at table mailbox ≡ None → table.serial ≡ 4294967295 → reply ≡ refused (Some IfAnswered) refusal.SerialsSpent
-      → heard_move mailbox flow it ≡ Some (ends flow (done Limit)) → IsReplied table me mailbox flow it reply
+      → heard_move mailbox flow it ≡ Some (ends flow NotNow) → IsReplied table me mailbox flow it reply
   -- ACTIVATE
   name_activated : flow.stage ≡ Making → is_full table (record_at table mailbox) ≡ false
       → reply ≡ changed (entry.Active mailbox me (first_acl mailbox)) (Some Always) done_text

@@ -26,12 +26,9 @@ serial_in text = serial_of (number_of text)
 abbrev pub is_text : List ℕ → List ℕ → Bool
 is_text one other = pointwise nat_eq one other
 
--- RESERVE's NO tells why: the name is active, the serials are spent; or it is reserved, and then what becomes of it isn't known yet
+-- RESERVE's NO tells why: the name is active; or it is reserved, or the master has no UIDVALIDITY left, and then what becomes of it isn't known yet
 unfoldable pub reserve_refused : List ℕ → AnswerBody
-reserve_refused text =
-    if is_text text (codes "1 exists") then done Exists
-    else if is_text text (codes "7 serials spent") then done Limit
-    else NotNow
+reserve_refused text = if is_text text (codes "1 exists") then done Exists else NotNow
 
 -- the mailbox is made, empty, and ACTIVATE sent
 abbrev pub makes : Flows → Tag → List ℕ → ℕ → FlowStep

@@ -35,9 +35,6 @@ fn refused(alloc: Global, text: &Bytes) -> AnswerBody
     if text.as_slice() == b"1 exists".as_slice() {
         return done(alloc, Outcome::Exists);
     }
-    if text.as_slice() == b"7 serials spent".as_slice() {
-        return done(alloc, Outcome::Limit);
-    }
     AnswerBody::NotNow
 }
 

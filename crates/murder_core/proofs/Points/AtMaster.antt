@@ -1,6 +1,6 @@
 -- The master takes the line of a CREATE's flow. ACTIVATE, or a RESERVE that is refused for good, is the CREATE's point; a RESERVE whose OK lets its backend go
 -- on, or that puts it off, isn't, and the step makes no mark for it.
-use Rattle.std.proofs.Common.{◌≡◌, ◌≢◌, ◌⊎◌, inl, inr, ℕ, ◌<◌, ◌-◌, ◌^◌, Bool, true, false, List, [], ◌∷◌, ◌++◌, filter, Option, None, Some, refl, sym, ◌∙◌, ap, subst, arith}
+use Rattle.std.proofs.Common.{◌≡◌, ◌≢◌, ◌⊎◌, inl, inr, ℕ, ◌<◌, ◌-◌, ◌^◌, Bool, true, false, List, [], ◌∷◌, ◌++◌, filter, Option, None, Some, refl, sym, ◌∙◌, ap, subst}
 use Rattle.asking_core.specs.Answered.{answered}
 use Rattle.asking_core.specs.declared.waiting.At.{At}
 use Rattle.back_links.specs.MasterEvents.{given_in}
@@ -53,7 +53,7 @@ use Rattle.murder_core.proofs.Commands.Place.{Place}
 use Rattle.murder_core.proofs.Commands.Place.{Place as place}
 use Rattle.murder_core.proofs.Commands.Standing.{Fixed}
 use Rattle.murder_core.proofs.Nodes.Carried.{mark_made, marks_made}
-use Rattle.murder_core.proofs.Points.Acts.{IsCarriedOut, IsOpen, KnowsOf, carried_so, home_mark, known_so}
+use Rattle.murder_core.proofs.Points.Acts.{IsCarriedOut, IsOpen, IsSeen, KnowsOf, carried_so, home_mark, known_so, seen_so}
 use Rattle.murder_core.proofs.Points.Marks.{line_marks_its}
 
 -- ---- what the master makes of it
@@ -87,22 +87,28 @@ pub record WaitsAtMaster (fixed : Fixed) (front : List ℕ) (conn now : ℕ) (ma
   pub then_holds : ManyHold (master_takes murder name message) (given ++ given_in murder.master.table name message) story.course.store
   pub knows : KnowsOf fixed front conn tag c story (heard_at node c.name flow it)
 
+-- it isn't, and the step sees the command: the master has no UIDVALIDITY left
+pub record IsSeenAtMaster (fixed : Fixed) (front : List ℕ) (conn now : ℕ) (marks : List Mark) (story : Tale) (tag : Tag) (c : ClientCommand)
+    (murder : Murder) (given : Given) (name : List ℕ) (node : BackNode) (message : LinkMsg) (flow : Flow) : Type 0 where
+  pub it : MResponse
+  pub responds : Responds now c murder name node message flow it (mark c.id IfAnswered ∷ []) (home_mark now c.id IfAnswered ∷ [])
+  pub then_holds : ManyHold (master_takes murder name message) (given ++ given_in murder.master.table name message) story.course.store
+  pub seen : IsSeen fixed front conn now marks story tag c (heard_at node c.name flow it)
+
 pub data LineGoes (fixed : Fixed) (front : List ℕ) (conn now : ℕ) (marks : List Mark) (story : Tale) (tag : Tag) (c : ClientCommand)
     (murder : Murder) (given : Given) (name : List ℕ) (node : BackNode) (message : LinkMsg) (flow : Flow) : Type 0 where
   is_point : IsPointAtMaster fixed front conn now marks story tag c murder given name node message flow
       → LineGoes fixed front conn now marks story tag c murder given name node message flow
+  is_seen : IsSeenAtMaster fixed front conn now marks story tag c murder given name node message flow
+      → LineGoes fixed front conn now marks story tag c murder given name node message flow
   waits_on : WaitsAtMaster fixed front conn now marks story tag c murder given name node message flow
       → LineGoes fixed front conn now marks story tag c murder given name node message flow
-
--- the master has a UIDVALIDITY left
-abbrev pub HasLeft : Murder → Type 0
-HasLeft murder = murder.master.table.serial < 2 ^ 32 - 1
 
 abbrev pub EachLineGoes : Type 0
 EachLineGoes = (fixed : Fixed) (front : List ℕ) (conn now : ℕ) (marks : List Mark) (story : Tale) (tag : Tag) (c : ClientCommand)
     (murder : Murder) (given : Given) (name : List ℕ) (node : BackNode) (message : LinkMsg) (rest : List LinkMsg) (flow : Flow)
     → IsOpen fixed conn now marks story tag c → IsFlowOf front c c.name flow
-    → LineComes murder given story.course.store c name node message rest flow → HasLeft murder
+    → LineComes murder given story.course.store c name node message rest flow
     → LineGoes fixed front conn now marks story tag c murder given name node message flow
 
 -- ---- the reply to a CREATE doesn't tell the UIDVALIDITY
@@ -128,7 +134,7 @@ same_turn store name work one other makes =
 module _ (fixed : Fixed) (front : List ℕ) (conn now : ℕ) (marks : List Mark) (story : Tale) (tag : Tag) (c : ClientCommand)
     (murder : Murder) (given : Given) (name : List ℕ) (node : BackNode) (message : LinkMsg) (rest : List LinkMsg) (flow : Flow)
     (is_open : IsOpen fixed conn now marks story tag c) (of : IsFlowOf front c c.name flow)
-    (comes : LineComes murder given story.course.store c name node message rest flow) (left : HasLeft murder) where
+    (comes : LineComes murder given story.course.store c name node message rest flow) where
   abbrev store : Store
   store = story.course.store
 
@@ -201,6 +207,16 @@ module _ (fixed : Fixed) (front : List ℕ) (conn now : ℕ) (marks : List Mark)
     knows = known_so fixed front conn now marks story tag c is_open here (of, goes);
   })
 
+  seen_here : reply.counts ≡ Some IfAnswered → flow.stage ≡ Reserving → GoesOnAtResponse c.name flow it_is
+      → LineGoes fixed front conn now marks story tag c murder given name node message flow
+  seen_here are stage goes = is_seen (record {
+    it = it_is;
+    responds = responds_so (Some IfAnswered) (mark c.id IfAnswered ∷ []) are
+        (law.outs_are murder given store c name node message rest flow comes (Some IfAnswered) are);
+    then_holds = law.does_nothing murder given store c name node message rest flow comes stage one.later one.does one.hold;
+    seen = seen_so fixed front conn now marks story tag c is_open here (of, goes);
+  })
+
   full_so : (heard : heard_move c.name flow it_is ≡ Some (ends flow (done Limit))) → reply.counts ≡ Some IfAnswered → flow.stage ≡ Making
       → is_full murder.master.table (record_at murder.master.table c.name) ≡ true
       → LineGoes fixed front conn now marks story tag c murder given name node message flow
@@ -221,7 +237,7 @@ module _ (fixed : Fixed) (front : List ℕ) (conn now : ℕ) (marks : List Mark)
       point_so store IfAnswered (done Exists) 0 (ap (λ (r : Reply). r.counts) is) heard (there.point 0).then_holds (there.point 0).carries
       (λ at. (let its = reserve_of_one_there murder given store (waiting_at c at) name node message rest flow (comes_at at) stage active in
       (0, (its.point 0).told fixed.master)))
-  goes_by (serials_spent stage none spent is heard) = absurd (omega (arith, left, spent))
+  goes_by (serials_spent stage none spent is heard) = seen_here (ap (λ (r : Reply). r.counts) is) stage (puts_off heard)
   goes_by (table_full stage over is heard) = full_so heard (ap (λ (r : Reply). r.counts) is) stage over
   goes_by (name_activated stage room is heard) =
       let made = activate_creates murder given store c name node message rest flow comes stage room in
@@ -235,5 +251,5 @@ module _ (fixed : Fixed) (front : List ℕ) (conn now : ℕ) (marks : List Mark)
   goes = goes_by (law.taken murder given store c name node message rest flow comes).replied
 
 pub each_line_goes : EachLineGoes
-each_line_goes fixed front conn now marks story tag c murder given name node message rest flow is_open of comes left =
-    goes fixed front conn now marks story tag c murder given name node message rest flow is_open of comes left
+each_line_goes fixed front conn now marks story tag c murder given name node message rest flow is_open of comes =
+    goes fixed front conn now marks story tag c murder given name node message rest flow is_open of comes

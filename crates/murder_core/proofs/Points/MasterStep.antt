@@ -56,7 +56,7 @@ use Rattle.murder_core.proofs.Steps.Worlds.{in_murder, in_world_behind, is_fed_f
 use Rattle.murder_core.proofs.Points.Marks.{nobodys_mark_none}
 use Rattle.murder_core.proofs.Points.OthersAtHome.{LeavesElse, gone_stays, standing_stays, untold_stays}
 use Rattle.murder_core.proofs.Points.Own.{OwnStep}
-use Rattle.murder_core.proofs.Points.OwnAtMaster.{HasSerial, master_step_is_own}
+use Rattle.murder_core.proofs.Points.OwnAtMaster.{master_step_is_own}
 use Rattle.murder_core.proofs.Points.Waits.{AskedFit, TellsPlace, WhoWaits, closed_waits, first_tells, open_waits}
 
 -- what the step gives a client: nothing, or it is connected to the master
@@ -91,7 +91,7 @@ client_front : (one other : Client) → Some one ≡ Some other → one.at ≡ o
 client_front one other e = (let is : one ≡ other = cc in ap (λ (c : Client). c.at) is)
 
 module _ (config : Config) (heard : ℕ → Heard) (world : World) (law : KeepsLaw config heard world) (from : List ℕ)
-    (message : LinkMsg) (rest : List LinkMsg) (fit : AskedFit world law.story) (left : HasSerial law.master.table.serial)
+    (message : LinkMsg) (rest : List LinkMsg) (fit : AskedFit world law.story)
     (first : on_link world.links from (master_of config) ≡ message ∷ rest) where
   abbrev name : List ℕ
   name = master_of config
@@ -209,7 +209,7 @@ module _ (config : Config) (heard : ℕ → Heard) (world : World) (law : KeepsL
 
     of_command : (conn : ℕ) → about message ≡ of_connection conn → MasterKeeps config heard world law next says
     of_command conn own =
-        let it = master_step_is_own config heard world law conn from message rest fit left first own (own_client conn own (clients conn)) in
+        let it = master_step_is_own config heard world law conn from message rest fit first own (own_client conn own (clients conn)) in
         let step : OwnStep config conn (heard conn) world story next says.master it.0 = it.1 in
         record {
           later = step.later;
@@ -285,12 +285,12 @@ module _ (config : Config) (heard : ℕ → Heard) (world : World) (law : KeepsL
 -- THE STEP OF THE MASTER
 abbrev pub MasterStepKeeps : Type 0
 MasterStepKeeps = (config : Config) (heard : ℕ → Heard) (world : World) (law : KeepsLaw config heard world) (from : List ℕ) (message : LinkMsg)
-    (rest : List LinkMsg) → AskedFit world law.story → HasSerial law.master.table.serial → on_link world.links from (master_of config) ≡ message ∷ rest
+    (rest : List LinkMsg) → AskedFit world law.story → on_link world.links from (master_of config) ≡ message ∷ rest
     → ((conn : ℕ) → ClientThen config world
     (with_master (taken_from_link world from (master_of config)) (master_of config) (node_says law.master from message)) conn)
     → MasterKeeps config heard world law
     (with_master (taken_from_link world from (master_of config)) (master_of config) (node_says law.master from message)) (node_says law.master from message)
 
 pub master_step_keeps : MasterStepKeeps
-master_step_keeps config heard world law from message rest fit left first clients =
-    keeps_by config heard world law from message rest fit left first clients (about message) refl
+master_step_keeps config heard world law from message rest fit first clients =
+    keeps_by config heard world law from message rest fit first clients (about message) refl

@@ -63,7 +63,7 @@ use Rattle.murder_core.proofs.Steps.Narrow.{narrows}
 use Rattle.murder_core.proofs.Steps.Worlds.{in_murder, in_world_behind, is_fed_front, is_front, master_takes}
 use Rattle.murder_core.proofs.Points.Acts.{KnowsOf, home_mark}
 use Rattle.murder_core.proofs.Points.AtBarrier.{ClearsIt, IsDecidedSo, cleared_at, is_point as is_its_point, is_seen as is_only_seen, noop_clears}
-use Rattle.murder_core.proofs.Points.AtMaster.{LineGoes, Responds, each_line_goes, heard_at, is_point, waits_on}
+use Rattle.murder_core.proofs.Points.AtMaster.{LineGoes, Responds, each_line_goes, heard_at, is_point, is_seen, waits_on}
 use Rattle.murder_core.proofs.Points.Found.{IsFoundIn, found_in, in_answer, in_ask, in_line, in_noop, in_ok, in_response}
 use Rattle.murder_core.proofs.Points.Own.{Leaves, Outcome, OwnStep, made_by, of_carried, of_known, of_seen, own_step}
 use Rattle.murder_core.proofs.Points.Waits.{AskedFit, BringsNothing, CommandWaits, IsOpenAt, each_command_waits, first_tells, is_open_there, whom_barred}
@@ -75,12 +75,8 @@ flow_own me name flow id fit its =
     (own_command flow.ask (stage_command me name flow.stage) ∙ ap (λ (a : AskId). ask_id_of (tag_of a)) its ∙ ask_again id fit.0 fit.1)
     ∙ is_itself id
 
--- the master has a UIDVALIDITY left
-abbrev pub HasSerial : ℕ → Type 0
-HasSerial serial = serial < 2 ^ 32 - 1
-
 module _ (config : Config) (heard : ℕ → Heard) (world : World) (law : KeepsLaw config heard world) (conn : ℕ)
-    (fits : IsNumbered (next_id conn (law.story.told conn))) (left : HasSerial law.master.table.serial) where
+    (fits : IsNumbered (next_id conn (law.story.told conn))) where
   abbrev story : Tale
   story = law.story
 
@@ -267,6 +263,15 @@ module _ (config : Config) (heard : ℕ → Heard) (world : World) (law : KeepsL
             (many from message (law.given ++ given_in law.master.table from message) it.later it.then_holds)
             (placed_then it.it it.responds.answer) tt (whom_then it.it),
       )
+      line_by (is_seen it) = (
+        law.given ++ given_in law.master.table from message,
+        own_step config conn fnode front world story (heard conn) here waits (then from message) (says from message).master
+            (law.given ++ given_in law.master.table from message) store (Some IfAnswered) (heard_at node c.name flow it.it)
+            (leaves from message same (Some IfAnswered) it.responds.marks)
+            (of_seen fixed fnode conn world.steps world.marks story waits.tag c (heard_at node c.name flow it.it) it.seen)
+            (many from message (law.given ++ given_in law.master.table from message) store it.then_holds)
+            (placed_then it.it it.responds.answer) tt (whom_then it.it),
+      )
       line_by (waits_on it) = (
         law.given ++ given_in law.master.table from message,
         own_step config conn fnode front world story (heard conn) here waits (then from message) (says from message).master
@@ -280,7 +285,7 @@ module _ (config : Config) (heard : ℕ → Heard) (world : World) (law : KeepsL
       line_own : OwnAtMaster from message
       line_own =
           line_by (each_line_goes fixed fnode conn world.steps world.marks story waits.tag c murder law.given from node message rest flow
-          opened.is_open of comes left)
+          opened.is_open of comes)
 
     -- ---- which it is
 
@@ -313,7 +318,7 @@ module _ (config : Config) (heard : ℕ → Heard) (world : World) (law : KeepsL
 -- THE STEP OF THE MASTER THAT TAKES WHAT IS ABOUT A COMMAND, for that command's connection, whose client it gives nothing
 abbrev pub MasterStepIsOwn : Type 0
 MasterStepIsOwn = (config : Config) (heard : ℕ → Heard) (world : World) (law : KeepsLaw config heard world) (conn : ℕ) (from : List ℕ)
-    (message : LinkMsg) (rest : List LinkMsg) → AskedFit world law.story → HasSerial law.master.table.serial
+    (message : LinkMsg) (rest : List LinkMsg) → AskedFit world law.story
     → on_link world.links from (master_of config) ≡ message ∷ rest → about message ≡ of_connection conn
     → client_at (with_master (taken_from_link world from (master_of config)) (master_of config) (node_says law.master from message)) conn
     ≡ client_at world conn
@@ -322,11 +327,11 @@ MasterStepIsOwn = (config : Config) (heard : ℕ → Heard) (world : World) (law
     (node_says law.master from message).master given
 
 pub master_step_is_own : MasterStepIsOwn
-master_step_is_own config heard world law conn from message rest fit left first own same =
+master_step_is_own config heard world law conn from message rest fit first own same =
     let fixed = fixed_of config in
     let story = law.story in
     let tells = first_tells fixed conn world story (heard conn) from (master_of config) message rest first own (law.connections conn) in
     let waits = each_command_waits fixed conn tells.node tells.front tells.connection world story (heard conn) tells.here tells.at tells.count tells.who in
     let fits = fit conn tells.node tells.front tells.connection tells.at in
-    by_found config heard world law conn fits left tells.node tells.front tells.here (tells.at).at waits tells.placed from message rest first own same
+    by_found config heard world law conn fits tells.node tells.front tells.here (tells.at).at waits tells.placed from message rest first own same
     tells.here refl (found_in (master_of config) tells.node (next_id conn (story.told conn)) from (master_of config) message tells.here tells.is_found)
