@@ -5,7 +5,7 @@ pub mod OpenHere
 mod NameAsks
 pub mod Courses
 pub mod Owed
-mod Said
+pub mod Said
 mod OneName
 mod FlowNext
 mod RestNext

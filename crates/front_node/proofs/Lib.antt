@@ -9,3 +9,4 @@ pub mod BegunLaws
 pub mod SlotLaws
 pub mod Counts
 pub mod StrangerLaw
+pub mod OwnOuts

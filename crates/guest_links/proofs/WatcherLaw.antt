@@ -87,14 +87,14 @@ keeps_by master conn (Some guest) (leaves other) order can is keeps = by (nat_eq
 keeps_by master conn (Some guest) (sends node message) order can is keeps =
     told_keeps master.table guest (change_by master node message) (change_read master node message) keeps
 
-step_keeps : (master : Master) (conn : ℕ) (seen : Option Guest) (happening : Happening) → HasWatchers master → CanBeTold master.table → IsSeen master conn seen
+pub step_keeps : (master : Master) (conn : ℕ) (seen : Option Guest) (happening : Happening) → HasWatchers master → CanBeTold master.table → IsSeen master conn seen
     → SeenKeeps master.table seen → SeenKeeps (step_of master happening).master.table (next_seen master conn seen happening)
 step_keeps master conn seen happening order can is keeps =
     subst (λ table. SeenKeeps table (next_seen master conn seen happening)) (sym (changes_are_of_the_table master happening))
     (keeps_by master conn seen happening order can is keeps)
 
 -- and the table can be told after it
-step_told : (master : Master) (happening : Happening) → CanBeTold master.table → CanBeTold (step_of master happening).master.table
+pub step_told : (master : Master) (happening : Happening) → CanBeTold master.table → CanBeTold (step_of master happening).master.table
 unfolding step_of
 step_told master (connects conn) can = subst CanBeTold (sym (changes_are_of_the_table master (connects conn))) can
 step_told master (says conn bytes) can = subst CanBeTold (sym (changes_are_of_the_table master (says conn bytes))) can

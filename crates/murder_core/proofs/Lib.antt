@@ -7,4 +7,6 @@ pub mod Start
 pub mod Steps
 pub mod Answers
 pub mod Points
+pub mod Alone
 pub mod OneServer
+pub mod Guests

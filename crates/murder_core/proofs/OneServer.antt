@@ -15,3 +15,4 @@ pub mod ToldSoFar
 pub mod ClosedLaw
 pub mod AtRestLaw
 pub mod AnyStep
+pub mod OneStoreLaw

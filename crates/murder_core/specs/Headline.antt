@@ -5,4 +5,7 @@ pub mod HomeLaw
 pub mod Homes
 pub mod OneStore
 pub mod Closed
+pub mod OneNode
+pub mod FlowLaw
 pub mod AtRest
+pub mod Replicas

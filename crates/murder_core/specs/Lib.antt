@@ -2,4 +2,5 @@ pub mod World
 pub mod Flow
 pub mod History
 pub mod Shown
+pub mod Room
 pub mod Headline

@@ -143,7 +143,7 @@ module _ (world : World) (node : List ℕ) (it : NodeState) (outs : List Out) wh
         (λ (ne : any ≢ node). ap look (made_other any ne))
         (same_or_other (slice_cmp nat_cmp) names_apart any node)
 
-a_master : (master : Master) → as_master (Some (state.Master master)) ≡ Some master
+pub a_master : (master : Master) → as_master (Some (state.Master master)) ≡ Some master
 unfolding as_master
 a_master master = refl
 

@@ -17,7 +17,8 @@ use Rattle.imap_talk.specs.Heard.{Heard}
 use Rattle.cluster_core.specs.World.{master_of}
 use Rattle.murder_core.specs.declared.world.World.{World}
 use Rattle.murder_core.specs.Headline.OneStore.{HasBoxesOf, box_by, box_in}
-use Rattle.murder_core.specs.Headline.Outside.{table_at, table_by}
+use Rattle.cluster_core.specs.Headline.Outside.{table_by}
+use Rattle.murder_core.specs.Headline.Outside.{table_at}
 use Rattle.murder_core.specs.Shown.{held_at_node, held_by}
 use Rattle.murder_core.specs.World.{home_at}
 use Rattle.murder_core.proofs.Connections.KeepsLaw.{KeepsLaw}
