@@ -10,3 +10,4 @@ pub mod Points
 pub mod Alone
 pub mod OneServer
 pub mod Guests
+pub mod Whole

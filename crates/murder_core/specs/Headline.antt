@@ -1,4 +1,4 @@
--- The headline's parts, of a run of the cluster.
+-- What holds of a run of the cluster.
 pub mod Outside
 pub mod OpenAt
 pub mod HomeLaw
@@ -9,3 +9,37 @@ pub mod OneNode
 pub mod FlowLaw
 pub mod AtRest
 pub mod Replicas
+use Rattle.std.specs.Prelude.{◌≡◌, List}
+use Rattle.imap_command.specs.Ruled.{IsDate}
+use Rattle.mur_config.specs.declared.config.Config.{Config}
+use Rattle.mur_config.specs.Nodes.{AreNodes}
+use Rattle.schedule_text.specs.declared.event.Event.{Event}
+use Rattle.murder_core.specs.Flow.{run_of, run_steps, steps_of_run}
+use Rattle.murder_core.specs.Headline.Closed.{GivesNoMore}
+use Rattle.murder_core.specs.Headline.HomeLaw.{KeepsOneHomeEach}
+use Rattle.murder_core.specs.Headline.OneNode.{GoesOverLinks, OneNodeWorksEach, ServesItsOwnEach}
+use Rattle.murder_core.specs.Headline.OneStore.{IsToldByOneStore}
+use Rattle.murder_core.specs.Headline.Outside.{ServesGuests}
+use Rattle.murder_core.specs.Headline.Replicas.{FollowTheTable}
+use Rattle.murder_core.specs.Numbers.{AreNamed, NumbersFitAll}
+use Rattle.murder_core.specs.World.{start}
+
+-- What the mail clients were given is what one mailbox store replies to the printed history, one command at a time, in each session's order; in each single
+-- step one node works, for its own clients alone, and sends only over the links that it has; a client that has closed its connection is given nothing
+-- more; a client at the master is given the replies to its lines of MUPDATE and, once it asked for that, each change of the table; the replicas of the
+-- frontends follow the master's table; a mailbox has at most one writable home.
+pub record IsOneMailServer (config : Config) (events : List Event) : Type 0 where
+  pub by_steps : run_of config events ≡ run_steps (start config) (steps_of_run config events)
+  pub one_node : OneNodeWorksEach (start config) (steps_of_run config events)
+  pub own_clients : ServesItsOwnEach (start config) (steps_of_run config events)
+  pub over_links : GoesOverLinks config events
+  pub one_store : IsToldByOneStore config events
+  pub closed : GivesNoMore config events
+  pub guests : ServesGuests config events
+  pub replicas : FollowTheTable config events
+  pub one_home : KeepsOneHomeEach config events
+
+-- so it is with every configuration and all events whose numbers fit
+abbrev pub EachRunIsOneServer : Type 0
+EachRunIsOneServer = (config : Config) (events : List Event) → AreNodes config.nodes → AreNamed config.nodes → IsDate config.date
+    → NumbersFitAll config (steps_of_run config events) → IsOneMailServer config events

@@ -1,4 +1,5 @@
 pub mod World
+pub mod Numbers
 pub mod Flow
 pub mod History
 pub mod Shown

@@ -16,11 +16,12 @@ use Rattle.mur_base.specs.declared.point.AskId.{AskId}
 use Rattle.mur_config.specs.declared.config.Config.{Config}
 use Rattle.murder_core.specs.declared.world.World.{World}
 use Rattle.murder_core.specs.World.{front_at, home_at}
-use Rattle.murder_core.proofs.Connections.KeepsLaw.{KeepsLaw, KeepsOn, NumbersFit}
+use Rattle.murder_core.proofs.Connections.KeepsLaw.{KeepsLaw, KeepsOn}
 use Rattle.murder_core.proofs.Places.Stays.{same_name_or}
 use Rattle.murder_core.proofs.Answers.AnswerComes.{NamesBackend}
 use Rattle.murder_core.proofs.Answers.Keeps.{IsTakenBy, answer_stands, ok_stands, taken_by}
 use Rattle.murder_core.proofs.Answers.OtherMessages.{idle_stands, news_stand}
+use Rattle.murder_core.specs.Numbers.{NumbersFit}
 
 -- a server that the message names is a backend
 abbrev pub MessageNamesBackend : Nodes → LinkMsg → Type 0

@@ -25,7 +25,7 @@ use Rattle.murder_core.proofs.Commands.Standing.{Fixed, HasBegunSo, next_id}
 use Rattle.murder_core.proofs.Connections.BytesCome.{bytes_many}
 use Rattle.murder_core.proofs.Connections.FrameLaw.{HasNumbersOf}
 use Rattle.murder_core.proofs.Connections.KeepsFront.{front_keeps, with_connection}
-use Rattle.murder_core.proofs.Connections.KeepsLaw.{ConnectionIs, FeedsHold, HeardFits, IsAt, KeepsLaw, KeepsOn, NumbersFit, fixed_of, murder_of}
+use Rattle.murder_core.proofs.Connections.KeepsLaw.{ConnectionIs, FeedsHold, IsAt, KeepsLaw, KeepsOn, fixed_of, murder_of}
 use Rattle.murder_core.proofs.Connections.KeepsLaw.ConnectionIs.{is_nobody, is_elsewhere, is_open, is_closed}
 use Rattle.murder_core.proofs.Connections.MayAskAt.{may_ask}
 use Rattle.murder_core.proofs.Connections.Stays.{is_not_closed}
@@ -36,6 +36,7 @@ use Rattle.murder_core.proofs.Answers.ClosedSteps.{ClosedStep, closed_answer, cl
 use Rattle.murder_core.proofs.Answers.OkSteps.{ok_step}
 use Rattle.murder_core.proofs.Answers.OpenSteps.{OpenStep, answer_step}
 use Rattle.murder_core.proofs.Answers.Steps.{IsBefore}
+use Rattle.murder_core.specs.Numbers.{HeardFits, NumbersFit}
 
 module _ (config : Config) (heard : ℕ → Heard) (world : World) (law : KeepsLaw config heard world) where
   abbrev fixed : Fixed

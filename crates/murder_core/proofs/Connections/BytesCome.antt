@@ -46,9 +46,10 @@ use Rattle.murder_core.proofs.Commands.Standing.{Fixed, Waiting}
 use Rattle.murder_core.proofs.Commands.Standing.Stands.{waits}
 use Rattle.murder_core.proofs.Connections.ConnectionLaw.{IsReading, IsStanding, StandsOn, keeps_all, same_story}
 use Rattle.murder_core.proofs.Connections.FrameLaw.{HasNumbersOf, asked_waits, inputs_kept, ways_for}
-use Rattle.murder_core.proofs.Connections.KeepsLaw.{HeardFits, IsAt, KeepsLaw, NumbersFit, fixed_of}
+use Rattle.murder_core.proofs.Connections.KeepsLaw.{IsAt, KeepsLaw, fixed_of}
 use Rattle.murder_core.proofs.Connections.MayAskAt.{may_ask}
 use Rattle.murder_core.proofs.Connections.OwnOuts.{inputs_own, own_noops}
+use Rattle.murder_core.specs.Numbers.{HeardFits, NumbersFit}
 
 -- ---- what is heard
 

@@ -11,9 +11,10 @@ use Rattle.murder_core.specs.World.{client_at, stepped, steps_by, takes}
 use Rattle.murder_core.proofs.Connections.AtMaster.{master_serves}
 use Rattle.murder_core.proofs.Connections.KeepsData.{data_keeps}
 use Rattle.murder_core.proofs.Connections.KeepsHang.{hang_keeps}
-use Rattle.murder_core.proofs.Connections.KeepsLaw.{KeepsLaw, KeepsOn, NumbersFit}
+use Rattle.murder_core.proofs.Connections.KeepsLaw.{KeepsLaw, KeepsOn}
 use Rattle.murder_core.proofs.Connections.KeepsOpen.{open_keeps}
 use Rattle.murder_core.proofs.Connections.KeepsStill.{same_kept, stepped_law}
+use Rattle.murder_core.specs.Numbers.{NumbersFit}
 
 -- what is heard of each client behind an event
 abbrev pub heard_then : Config → (ℕ → Heard) → Event → ℕ → Heard

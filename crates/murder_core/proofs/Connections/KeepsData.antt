@@ -52,13 +52,14 @@ use Rattle.murder_core.proofs.Connections.BytesCome.{Behind, after_data, asked_m
 use Rattle.murder_core.proofs.Connections.BytesCome.{other_heard, reading_behind, reading_noops, still_heard, turned, waiting_behind, waiting_noops, ways_same}
 use Rattle.murder_core.proofs.Connections.ConnectionLaw.{IsInPlaceOf, IsReading, IsStanding}
 use Rattle.murder_core.proofs.Connections.KeepsFront.{front_keeps, is_at_after, standing_after, turned_so, with_connection, world_after}
-use Rattle.murder_core.proofs.Connections.KeepsLaw.{ConnectionIs, FeedsHold, IsAt, KeepsLaw, KeepsOn, NumbersFit, fixed_of}
+use Rattle.murder_core.proofs.Connections.KeepsLaw.{ConnectionIs, FeedsHold, IsAt, KeepsLaw, KeepsOn, fixed_of}
 use Rattle.murder_core.proofs.Connections.KeepsLaw.ConnectionIs.{is_nobody, is_elsewhere, is_open, is_closed}
 use Rattle.murder_core.proofs.Connections.KeepsStill.{MasterServes, elsewhere_kept, put_kept, same_kept}
 use Rattle.murder_core.proofs.Connections.Stays.{ReplicasStay, connection_stays, fixed_places, is_not_closed, same_front}
 use Rattle.murder_core.proofs.Feeds.Beside.{front_client_feeds}
 use Rattle.murder_core.proofs.Feeds.Many.{front_keeps_many}
 use Rattle.murder_core.proofs.Nodes.Comes.{front_comes, with_front}
+use Rattle.murder_core.specs.Numbers.{NumbersFit}
 
 -- ---- what a frontend does with the bytes
 

@@ -152,17 +152,6 @@ pub record FeedsHold (config : Config) (world : World) (master : Master) : Type 
   pub backends : TableNamesBackends (home_at world) master.table
   pub kept : AreKeptAtBackends (home_at world) master.table
 
--- ---- numbers
-
--- its number has 64 bits, and it sent less than 2^32 bytes
-abbrev pub HeardFits : ℕ → Heard → Type 0
-HeardFits conn nobody = Unit {0}
-HeardFits conn elsewhere = Unit {0}
-HeardFits conn (client bytes closed) = (conn < 2 ^ 64) × (length bytes < 2 ^ 32)
-
-abbrev pub NumbersFit : (ℕ → Heard) → Type 0
-NumbersFit heard = (conn : ℕ) → HeardFits conn (heard conn)
-
 -- ---- the law
 
 pub record KeepsLaw (config : Config) (heard : ℕ → Heard) (world : World) : Type 0 where

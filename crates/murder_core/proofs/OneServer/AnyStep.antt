@@ -10,20 +10,17 @@ use Rattle.murder_core.specs.declared.world.World.{World}
 use Rattle.murder_core.specs.Flow.{run_steps, steps_of_run}
 use Rattle.murder_core.specs.Headline.HomeLaw.{KeepsOneHomeEach}
 use Rattle.murder_core.specs.World.{start, steps_by}
-use Rattle.murder_core.proofs.Connections.KeepsLaw.{KeepsLaw, KeepsOn, NumbersFit}
+use Rattle.murder_core.proofs.Connections.KeepsLaw.{KeepsLaw, KeepsOn}
 use Rattle.murder_core.proofs.OneServer.EachStep.{EachKeeps, LawBehind, heard_next, kept_all}
 use Rattle.murder_core.proofs.OneServer.MarksGoOn.{run_steps-append}
 use Rattle.murder_core.proofs.OneServer.OneHome.{one_home_each}
+use Rattle.murder_core.specs.Numbers.{NumbersFit, NumbersFitAll}
 
 -- each event keeps the law of any world, where the numbers fit then
 abbrev pub AnyStepKeeps : Config → Type 0
 AnyStepKeeps config = (came : ℕ → Heard) (world : World) (event : Event) (law : KeepsLaw config came world)
     → NumbersFit (λ conn. hears config conn (came conn) event)
     → KeepsOn config (talk_told law.story) (λ conn. hears config conn (came conn) event) (steps_by world event)
-
--- the numbers fit behind each step
-abbrev pub NumbersFitAll : Config → List Event → Type 0
-NumbersFitAll config steps = (before later : List Event) → steps ≡ before ++ later → NumbersFit (λ conn. heard config conn before)
 
 same_heard : {A B : Type 0} {f g : A → B} → ((x : A) → f x ≡ g x) → f ≡ g
 same_heard h = λ i x. h x i

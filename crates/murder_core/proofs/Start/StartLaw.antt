@@ -1,4 +1,5 @@
 -- THE LAW HOLDS BEFORE THE FIRST STEP.
+use Rattle.murder_core.specs.Numbers.{AreNamed}
 use Rattle.std.proofs.Common.{◌≡◌, ◌≢◌, ℕ, ◌≤◌, ◌||◌, nat_eq, Bool, true, false, if◌then◌else◌, is_some, List, [], ◌∷◌, Option, None, Some, refl, sym, ◌∙◌, ap, subst, arith, append-nil, All, Contains}
 use Rattle.std.specs.List.{list_any, AllByRecursion}
 use Rattle.std.specs.List.Sorted.{IsStrictlySortedBy}
@@ -65,10 +66,6 @@ use Rattle.murder_core.proofs.Connections.KeepsLaw.ConnectionIs.{is_nobody}
 use Rattle.murder_core.proofs.Start.Begins.{FrontStarts, HomeStarts, SilentStarts, Starts, asks_once, first_front, first_master, master_starts, start_quiet, starts}
 use Rattle.murder_core.proofs.Start.Begins.Starts.{is_front, is_home, is_silent}
 use Rattle.murder_core.proofs.Start.Kinds.{backend_named, first_backend, is_backend_node, only_master}
-
--- each node has a name that is one (the reader of a configuration takes no other)
-abbrev pub AreNamed : List Node → Type 0
-AreNamed nodes = All (λ (node : Node). short_name_fault node.name ≡ None) nodes
 
 no_one : {X : Type 0} (found : Option X) (x : X) → found ≡ Some x → found ≡ None → ⊥
 no_one found x one none = (let no : Some x ≡ None = sym one ∙ none in cc)

@@ -1,0 +1,2 @@
+-- What holds of whole runs.
+pub mod HeadlineLaw
