@@ -8,3 +8,4 @@ pub mod Steps
 pub mod Answers
 pub mod Points
 pub mod OneServer
+pub mod Keeps
