@@ -10,4 +10,5 @@ pub mod Points
 pub mod Alone
 pub mod OneServer
 pub mod Guests
+pub mod Keeps
 pub mod Whole

@@ -242,7 +242,7 @@ module _ (held : Names) (flows : Flows) (quiet : IsQuietTalk held flows) where
   no_resync : (name : List ℕ) (stage : Stage) → is_at flows name stage ≡ true → (it : Resync) → flows.resync ≡ Some it → ⊥
   no_resync name stage at it e =
       let none : is_at flows name stage ≡ false =
-          ap (λ (r : List (List ℕ × Flow)). has_stage stage (value_at (slice_cmp nat_cmp) r name)) (quiet.resyncs it e).1 in
+      ap (λ (r : List (List ℕ × Flow)). has_stage stage (value_at (slice_cmp nat_cmp) r name)) (quiet.resyncs it e).1 in
       let no : true ≡ false = sym at ∙ none in cc
 
   -- a mailbox is there, so there is none either

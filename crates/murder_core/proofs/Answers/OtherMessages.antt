@@ -167,7 +167,7 @@ unfolding line_from
 not_line front bytes false e = refl
 not_line front bytes true e = cc
 
-idles : (front : Front) (from : List ℕ) (message : LinkMsg) → from ≢ front.master → IsIdle front.master from message → deliver front from message ≡ still front
+pub idles : (front : Front) (from : List ℕ) (message : LinkMsg) → from ≢ front.master → IsIdle front.master from message → deliver front from message ≡ still front
 unfolding deliver
 idles front from Up ne idle = not_up front (pointwise nat_eq from front.master) (other_name from front.master ne)
 idles front from End ne idle = refl

@@ -165,12 +165,15 @@ frames_few bytes = omega (
   frames_of_more-length (begun []) bytes,
 )
 
-requests_few : (inputs : List Input) → length (requests_in inputs) ≤ length inputs
+pub requests_few : (inputs : List Input) → length (requests_in inputs) ≤ length inputs
 unfolding requests_in
 requests_few [] = omega arith
 requests_few (Asks request ∷ inputs) = omega (arith, requests_few inputs)
 requests_few (goes_on why ∷ inputs) = omega (arith, requests_few inputs)
 requests_few (Faults fault ∷ inputs) = omega (arith, requests_few inputs)
+
+pub inputs_many : (setting : Setting) (bytes : List ℕ) → length (inputs_in setting bytes) ≤ length bytes
+inputs_many setting bytes = omega (arith, inputs-length setting at_first (frames bytes), frames_few bytes)
 
 pub bytes_many : (setting : Setting) (bytes : List ℕ) → length (requests_in (inputs_in setting bytes)) ≤ length bytes
 bytes_many setting bytes =

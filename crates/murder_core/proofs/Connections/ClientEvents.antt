@@ -25,7 +25,7 @@ abbrev pub Keeps : (config : Config) (heard : ℕ → Heard) (world : World) →
 Keeps config heard world law event = KeepsOn config (talk_told law.story) (heard_then config heard event) (steps_by world event)
 
 -- told of the world in which the step has begun
-begins : (config : Config) (heard : ℕ → Heard) (world : World) (law : KeepsLaw config heard world) (event : Event)
+pub begins : (config : Config) (heard : ℕ → Heard) (world : World) (law : KeepsLaw config heard world) (event : Event)
     → ((then : KeepsLaw config heard (stepped world)) → KeepsOn config (talk_told then.story) (heard_then config heard event) (steps_by world event))
     → Keeps config heard world law event
 begins config heard world law event keeps =

@@ -84,6 +84,11 @@ answered_well master id session it (answer.Done outcome seen) numbered well = to
 answered_well master id session it (answer.Unreached node) numbered well = tt
 answered_well master id session it answer.Lost numbered well = tt
 
+-- where a command waits, there are numbers left for the inputs behind it
+abbrev pub HasRoomAt : Connection → Stage → Type 0
+HasRoomAt connection (Waits tag it) = connection.answered + 1 + length connection.waiting < 2 ^ 64
+HasRoomAt connection stage = Unit {0}
+
 module _ (setting : Setting) (ways : Ways) (apart : AreApart ways) (conn : ℕ) (fits : conn < 2 ^ 64) where
   reserved_well : (server : List ℕ) (cause : Why) → server ≢ ways.master → IsWellNext ways.master (behind_reserved server cause)
   reserved_well server why.NotNow ne = tt
@@ -141,7 +146,7 @@ module _ (setting : Setting) (ways : Ways) (apart : AreApart ways) (conn : ℕ) 
   numbered_here : (connection : Connection) → HasRoomBehind connection → IsNumbered (next_of conn connection)
   numbered_here connection room = (fits, omega (arith, room))
 
-  answer_stage_well : (connection : Connection) (it : BackAnswer) (same : Bool) (stage : Stage) → HasRoomBehind connection → IsWellAnswer ways.master it.body
+  answer_stage_well : (connection : Connection) (it : BackAnswer) (same : Bool) (stage : Stage) → HasRoomAt connection stage → IsWellAnswer ways.master it.body
       → AreWellSent ways.master (answer_by setting ways conn connection it same stage).outs
   unfolding answer_by
   answer_stage_well connection it true (Waits tag waiting) room well =
@@ -151,7 +156,7 @@ module _ (setting : Setting) (ways : Ways) (apart : AreApart ways) (conn : ℕ) 
   answer_stage_well connection it true Ended room well = tt
   answer_stage_well connection it false stage room well = tt
 
-  pub answer_well : (connection : Connection) (it : BackAnswer) → HasRoomBehind connection → IsWellAnswer ways.master it.body
+  pub answer_well : (connection : Connection) (it : BackAnswer) → HasRoomAt connection connection.stage → IsWellAnswer ways.master it.body
       → AreWellSent ways.master (answer_comes setting ways conn connection it).outs
   unfolding answer_comes
   answer_well connection it room well = answer_stage_well connection it ((it.id).command == connection.answered + 1) connection.stage room well
@@ -163,7 +168,7 @@ module _ (setting : Setting) (ways : Ways) (apart : AreApart ways) (conn : ℕ) 
       went_well connection tag (cleared ways.recs ways.master ways.first (next_of conn connection) connection.session it cause) room
       (cleared_well (next_of conn connection) connection.session it cause (numbered_here connection room))
 
-  ok_stage_well : (connection : Connection) (same : Bool) (stage : Stage) → HasRoomBehind connection
+  ok_stage_well : (connection : Connection) (same : Bool) (stage : Stage) → HasRoomAt connection stage
       → AreWellSent ways.master (ok_by setting ways conn connection same stage).outs
   unfolding ok_by
   ok_stage_well connection true (Waits tag it) room = clears_well connection tag it it.at room
@@ -171,6 +176,6 @@ module _ (setting : Setting) (ways : Ways) (apart : AreApart ways) (conn : ℕ) 
   ok_stage_well connection true Ended room = tt
   ok_stage_well connection false stage room = tt
 
-  pub ok_well : (connection : Connection) (id : AskId) → HasRoomBehind connection → AreWellSent ways.master (ok_comes setting ways conn connection id).outs
+  pub ok_well : (connection : Connection) (id : AskId) → HasRoomAt connection connection.stage → AreWellSent ways.master (ok_comes setting ways conn connection id).outs
   unfolding ok_comes
   ok_well connection id room = ok_stage_well connection (id.command == connection.answered + 1) connection.stage room

@@ -61,7 +61,7 @@ module _ {X : Type 0} (Q : X → Type 0) where
     put_by e es all more Equal = (new, all.1)
     put_by e es all more Greater = (all.0, more)
 
-    put_all_at : (es : List (List ℕ × X)) → AreAll es → AreAll (with_entry (slice_cmp nat_cmp) es k it)
+    pub put_all_at : (es : List (List ℕ × X)) → AreAll es → AreAll (with_entry (slice_cmp nat_cmp) es k it)
     put_all_at [] all = (new, tt)
     put_all_at (e ∷ es) all = put_by e es all (put_all_at es all.1) (slice_cmp nat_cmp k e.0)
 
@@ -69,7 +69,7 @@ module _ {X : Type 0} (Q : X → Type 0) where
     value_by e es rest true all more = (new, all.1)
     value_by e es rest false all more = (all.0, more)
 
-    value_all_at : (es : List (List ℕ × X)) → AreAll es → AreAll (with_value (slice_cmp nat_cmp) es k it)
+    pub value_all_at : (es : List (List ℕ × X)) → AreAll es → AreAll (with_value (slice_cmp nat_cmp) es k it)
     value_all_at [] all = tt
     value_all_at (e ∷ es) all = value_by e es (with_value (slice_cmp nat_cmp) es k it) (is_eq (slice_cmp nat_cmp k e.0)) all (value_all_at es all.1)
 
@@ -77,7 +77,7 @@ module _ {X : Type 0} (Q : X → Type 0) where
   gone_by e es rest true all more = all.1
   gone_by e es rest false all more = (all.0, more)
 
-  gone_all_at : (k : List ℕ) (es : List (List ℕ × X)) → AreAll es → AreAll (without_key (slice_cmp nat_cmp) es k)
+  pub gone_all_at : (k : List ℕ) (es : List (List ℕ × X)) → AreAll es → AreAll (without_key (slice_cmp nat_cmp) es k)
   gone_all_at k [] all = tt
   gone_all_at k (e ∷ es) all = gone_by e es (without_key (slice_cmp nat_cmp) es k) (is_eq (slice_cmp nat_cmp k e.0)) all (gone_all_at k es all.1)
 

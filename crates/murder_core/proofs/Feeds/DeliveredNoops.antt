@@ -1,5 +1,5 @@
 -- What a frontend sends the master as it takes a message, of its whole step.
-use Rattle.std.proofs.Common.{◌≡◌, ◌≢◌, ℕ, ◌+◌, ◌<◌, ◌^◌, nat_eq, Bool, true, false, List, [], ◌∷◌, length, Option, None, Some, refl, subst}
+use Rattle.std.proofs.Common.{◌≡◌, ℕ, ◌<◌, ◌^◌, nat_eq, Bool, true, false, List, Option, None, Some, refl}
 use Rattle.std.specs.Cmp.Lexicographic.{pointwise}
 use Rattle.ask_routes.specs.Barrier.{barrier_answered}
 use Rattle.feed_links.specs.Lines.{messages_to}
@@ -10,13 +10,13 @@ use Rattle.front_node.specs.Front.{answer_at, answer_from, connection_at, delive
 use Rattle.link_msg.specs.declared.answer.BackAnswer.{BackAnswer}
 use Rattle.link_msg.specs.declared.message.LinkMsg.TheVariants.{Line, Answer}
 use Rattle.mur_base.specs.declared.point.AskId.{AskId}
-use Rattle.murder_core.proofs.Feeds.AnsweredNoops.{IsWellAnswer, answer_well, ok_well}
+use Rattle.murder_core.proofs.Feeds.AnsweredNoops.{HasRoomAt, IsWellAnswer, answer_well, ok_well}
 use Rattle.murder_core.proofs.Feeds.Noops.{AreApart, AreWellSent, well_sent_noops}
 
 -- the connections of a frontend have 64-bit numbers, and numbers left for the commands that wait
 pub record HasNumbers (front : Front) (conn : ℕ) : Type 0 where
   pub fits : conn < 2 ^ 64
-  pub room : (connection : Connection) → connection_at front conn ≡ Some connection → connection.answered + 1 + length connection.waiting < 2 ^ 64
+  pub room : (connection : Connection) → connection_at front conn ≡ Some connection → HasRoomAt connection connection.stage
 
 module _ (front : Front) (apart : AreApart (ways_of front)) where
   answer_at_well : (it : BackAnswer) (found : Option Connection) → connection_at front (it.id).conn ≡ found → HasNumbers front (it.id).conn

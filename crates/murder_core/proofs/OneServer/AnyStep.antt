@@ -16,11 +16,15 @@ use Rattle.murder_core.proofs.OneServer.MarksGoOn.{run_steps-append}
 use Rattle.murder_core.proofs.OneServer.OneHome.{one_home_each}
 use Rattle.murder_core.specs.Numbers.{NumbersFit, NumbersFitAll}
 
--- each event keeps the law of any world, where the numbers fit then
-abbrev pub AnyStepKeeps : Config → Type 0
-AnyStepKeeps config = (came : ℕ → Heard) (world : World) (event : Event) (law : KeepsLaw config came world)
+-- each event keeps the law of any world of which this holds, where the numbers fit then
+abbrev pub AnyStepKeeps : Config → (World → Type 0) → Type 0
+AnyStepKeeps config Holds = (came : ℕ → Heard) (world : World) (event : Event) (law : KeepsLaw config came world) → Holds world
     → NumbersFit (λ conn. hears config conn (came conn) event)
     → KeepsOn config (talk_told law.story) (λ conn. hears config conn (came conn) event) (steps_by world event)
+
+-- it holds behind each step
+abbrev pub HoldsBehindAll : Config → (World → Type 0) → List Event → Type 0
+HoldsBehindAll config Holds steps = (before later : List Event) → steps ≡ before ++ later → Holds (run_steps (start config) before)
 
 same_heard : {A B : Type 0} {f g : A → B} → ((x : A) → f x ≡ g x) → f ≡ g
 same_heard h = λ i x. h x i
@@ -43,19 +47,20 @@ numbers_next : (config : Config) (before : List Event) (event : Event) → Numbe
 numbers_next config before event fit = subst NumbersFit (same_heard (λ conn. heard_next config conn before event)) fit
 
 -- a run whose numbers fit
-abbrev pub StepsKeep : Config → List Event → Type 0
-StepsKeep config steps = AnyStepKeeps config → KeepsLaw config (λ conn. nobody) (start config) → NumbersFitAll config steps → EachKeeps config steps
+abbrev pub StepsKeep : Config → (World → Type 0) → List Event → Type 0
+StepsKeep config Holds steps = AnyStepKeeps config Holds → KeepsLaw config (λ conn. nobody) (start config)
+    → HoldsBehindAll config Holds steps → NumbersFitAll config steps → EachKeeps config steps
 
 begins : (config : Config) → KeepsLaw config (λ conn. nobody) (start config) → LawBehind config []
 unfolding run_steps heard_from
 begins config law = law
 
-pub each_keeps : (config : Config) (steps : List Event) → StepsKeep config steps
-each_keeps config steps any first fit = record {
+pub each_keeps : (config : Config) (steps : List Event) (Holds : World → Type 0) → StepsKeep config Holds steps
+each_keeps config steps Holds any first holds fit = record {
   first = begins config first;
   next = λ before event later e law.
       as_run config before event (λ came w. KeepsOn config (talk_told law.story) came w)
-      (any (λ conn. heard config conn before) (run_steps (start config) before) event law
+      (any (λ conn. heard config conn before) (run_steps (start config) before) event law (holds before (event ∷ later) e)
       (numbers_next config before event (fit (before ++ event ∷ []) later (e ∙ sym (append_assoc before (event ∷ []) later)))));
 }
 

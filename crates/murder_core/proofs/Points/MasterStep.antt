@@ -135,13 +135,13 @@ module _ (config : Config) (heard : ℕ → Heard) (world : World) (law : KeepsL
     id = next_id conn (story.told conn)
 
     placed_next : (fnode : List ℕ) (front : Front) (here : Place) → front_at world fnode ≡ Some front
-        → ((connection : Connection) → IsAt world conn fnode front connection → IsInPlaceOf fixed world fnode front.replica id here
-        → IsInPlaceOf fixed next fnode front.replica id here)
-    placed_next fnode front here at connection is_at placed =
+        → ((connection : Connection) → IsAt world conn fnode front connection → (its : Client) → client_at world conn ≡ Some its → its.at ≡ fnode
+        → IsInPlaceOf fixed world fnode front.replica id here → IsInPlaceOf fixed next fnode front.replica id here)
+    placed_next fnode front here at connection is_at its is_its its_node placed =
         in_world_behind fixed world law.master law.nodes.me (without_first world.links from name) says law.nodes.is_there fnode front.replica id here
         (subst (λ m. IsInBehind murder (without_first world.links from m) says fnode front.replica id here) law.nodes.me
         (lines_leave murder law.given store from message fnode front.replica id here takes
-        (is_fed_front config world law.master law.nodes law.feeds fnode front id at (fit conn fnode front connection is_at)) other
+        (is_fed_front config world law.master law.nodes law.feeds fnode front id at (fit conn fnode front connection is_at its is_its its_node)) other
         (in_murder fixed world law.master law.nodes.me fnode front.replica id here placed)).placed)
 
     none_next : IsInNoneOf fixed world conn → IsInNoneOf fixed next conn
@@ -159,11 +159,12 @@ module _ (config : Config) (heard : ℕ → Heard) (world : World) (law : KeepsL
     others_go later same _ (is_open bytes fnode front connection at reader standing) =
         is_open bytes fnode front connection (record { at = same.fronts fnode ∙ at.at; has = at.has }) reader
         (standing_stays fixed conn world next story later same fnode front.replica (inputs_in fixed.setting bytes) (begun bytes) connection standing
-        (placed_next fnode front standing.here at.at connection at standing.placed))
+        (placed_next fnode front standing.here at.at connection at (client_with fnode (inputs_in fixed.setting bytes) (story.told conn)) standing.client refl
+        standing.placed))
     others_go later same _ (is_closed bytes fnode front connection at gone) =
         is_closed bytes fnode front connection (record { at = same.fronts fnode ∙ at.at; has = at.has })
         (gone_stays fixed conn world next story later same fnode front.replica (inputs_in fixed.setting bytes) connection gone
-        (placed_next fnode front gone.here at.at connection at gone.placed))
+        (placed_next fnode front gone.here at.at connection at (client_with fnode (inputs_in fixed.setting bytes) (story.told conn)) gone.client refl gone.placed))
 
     -- one that is connected to the master
     given_goes : (later : Tale) → later.told conn ≡ story.told conn → later.talk.answers conn ≡ story.talk.answers conn

@@ -289,7 +289,7 @@ says_watched master node End = ended_watched master _ node
 says_watched master node (Ask ask) = refl
 says_watched master node (Answer answer) = refl
 
-they_keep : (P Q : ℕ → Type 0) → ((conn : ℕ) → P conn → Q conn) → (watchers : List (ℕ × Tag)) → AreThey P watchers → AreThey Q watchers
+pub they_keep : (P Q : ℕ → Type 0) → ((conn : ℕ) → P conn → Q conn) → (watchers : List (ℕ × Tag)) → AreThey P watchers → AreThey Q watchers
 they_keep P Q to [] are = All-nil (λ (w : ℕ × Tag). Q w.0)
 they_keep P Q to (w ∷ watchers) are =
     All-cons (λ (x : ℕ × Tag). Q x.0) w watchers (to w.0 (All-head (λ (x : ℕ × Tag). P x.0) w watchers are))

@@ -81,7 +81,7 @@ use Rattle.murder_core.proofs.Points.AtBackend.{CreateComes, MovesOn, create_fit
 use Rattle.murder_core.proofs.Points.AtHome.{answer_outs, answered_at, closed_is_seen, open_is_its_point}
 use Rattle.murder_core.proofs.Points.Found.{IsFoundIn, found_in, in_answer, in_ask, in_line, in_noop, in_ok, in_response}
 use Rattle.murder_core.proofs.Points.Own.{Leaves, Outcome, OwnStep, made_by, of_carried, of_known, of_seen, own_step}
-use Rattle.murder_core.proofs.Points.Waits.{AskedFit, BringsNothing, CommandWaits, IsOpenAt, each_command_waits, first_tells, is_open_there, whom_begun, whom_moved}
+use Rattle.murder_core.proofs.Points.Waits.{AskedFit, BringsNothing, CommandWaits, IsOpenAt, each_command_waits, first_tells, is_open_there, waits_fit, whom_begun, whom_moved}
 
 -- ---- a backend gives clients nothing
 
@@ -388,7 +388,7 @@ home_step_is_own config heard world law conn from to node message rest fit there
     let story = law.story in
     let tells = first_tells fixed conn world story (heard conn) from to message rest first own (law.connections conn) in
     let waits = each_command_waits fixed conn tells.node tells.front tells.connection world story (heard conn) tells.here tells.at tells.count tells.who in
-    let fits = fit conn tells.node tells.front tells.connection tells.at in
+    let fits = waits_fit fixed conn tells.node tells.front tells.connection world story (heard conn) tells.here fit tells.at tells.who in
     let found = found_in (master_of config) tells.node (next_id conn (story.told conn)) from to message tells.here tells.is_found in
     record {
       fits = fitting config heard world law conn fits tells.node tells.front tells.here (tells.at).at waits tells.placed from to node message rest there first own

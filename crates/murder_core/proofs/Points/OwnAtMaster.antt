@@ -66,7 +66,7 @@ use Rattle.murder_core.proofs.Points.AtBarrier.{ClearsIt, IsDecidedSo, cleared_a
 use Rattle.murder_core.proofs.Points.AtMaster.{LineGoes, Responds, each_line_goes, heard_at, is_point, is_seen, waits_on}
 use Rattle.murder_core.proofs.Points.Found.{IsFoundIn, found_in, in_answer, in_ask, in_line, in_noop, in_ok, in_response}
 use Rattle.murder_core.proofs.Points.Own.{Leaves, Outcome, OwnStep, made_by, of_carried, of_known, of_seen, own_step}
-use Rattle.murder_core.proofs.Points.Waits.{AskedFit, BringsNothing, CommandWaits, IsOpenAt, each_command_waits, first_tells, is_open_there, whom_barred}
+use Rattle.murder_core.proofs.Points.Waits.{AskedFit, BringsNothing, CommandWaits, IsOpenAt, each_command_waits, first_tells, is_open_there, waits_fit, whom_barred}
 
 -- a message of a flow is its command's
 flow_own : (me : Location) (name : List ℕ) (flow : Flow) (id : AskId) → IsNumbered id → flow.ask ≡ id → is_own_message (is_command id) (flow_message me name flow) ≡ true
@@ -332,6 +332,6 @@ master_step_is_own config heard world law conn from message rest fit first own s
     let story = law.story in
     let tells = first_tells fixed conn world story (heard conn) from (master_of config) message rest first own (law.connections conn) in
     let waits = each_command_waits fixed conn tells.node tells.front tells.connection world story (heard conn) tells.here tells.at tells.count tells.who in
-    let fits = fit conn tells.node tells.front tells.connection tells.at in
+    let fits = waits_fit fixed conn tells.node tells.front tells.connection world story (heard conn) tells.here fit tells.at tells.who in
     by_found config heard world law conn fits tells.node tells.front tells.here (tells.at).at waits tells.placed from message rest first own same
     tells.here refl (found_in (master_of config) tells.node (next_id conn (story.told conn)) from (master_of config) message tells.here tells.is_found)

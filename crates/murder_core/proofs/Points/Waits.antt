@@ -39,6 +39,7 @@ use Rattle.point_links.specs.Commands.{ClientCommand}
 use Rattle.route_links.specs.Barriers.{Place as Barrier}
 use Rattle.route_links.specs.Barriers.{Place as barrier}
 use Rattle.murder_core.specs.declared.world.World.{World}
+use Rattle.cluster_core.specs.declared.world.Client.{Client}
 use Rattle.murder_core.specs.World.{client_at, front_at}
 use Rattle.murder_core.proofs.Commands.Knows.{Brings, Knows, Undecided}
 use Rattle.murder_core.proofs.Commands.Knows.Knows.{is_decided, undecided}
@@ -270,10 +271,19 @@ each_command_waits fixed conn node front connection world story heard here at co
           });
     })
 
--- the next command of each connection at a frontend has numbers of 64 bits
+-- the next command of each client that is connected to a frontend has numbers of 64 bits
 abbrev pub AskedFit : World → Tale → Type 0
 AskedFit world story = (conn : ℕ) (node : List ℕ) (front : Front) (connection : Connection) → IsAt world conn node front connection
+    → (client : Client) → client_at world conn ≡ Some client → client.at ≡ node → IsNumbered (next_id conn (story.told conn))
+
+-- so has a command that waits
+pub waits_fit : (fixed : Fixed) (conn : ℕ) (node : List ℕ) (front : Front) (connection : Connection) (world : World) (story : Tale) (heard : Heard) (here : Place)
+    → AskedFit world story → IsAt world conn node front connection → WhoWaits fixed conn node connection world story heard here
     → IsNumbered (next_id conn (story.told conn))
+waits_fit fixed conn node front connection world story heard here fit at (open_waits bytes e reader given waiting) =
+    fit conn node front connection at (client_with node (inputs_in fixed.setting bytes) (story.told conn)) given refl
+waits_fit fixed conn node front connection world story heard here fit at (closed_waits bytes e stage lasts given waiting) =
+    fit conn node front connection at (client_with node (inputs_in fixed.setting bytes) (story.told conn)) given refl
 
 -- ---- a command at a place that no answer comes of is open
 

@@ -18,7 +18,7 @@ use Rattle.cluster_core.specs.Headline.Outside.{table_by}
 use Rattle.cluster_core.specs.World.{layout_of, master_of}
 use Rattle.murder_core.specs.declared.world.World.{World}
 use Rattle.murder_core.specs.Flow.{run_steps, steps_of_run}
-use Rattle.murder_core.specs.Headline.{IsOneMailServer}
+use Rattle.murder_core.specs.Headline.{EachRunIsOneServer, IsOneMailServer}
 use Rattle.murder_core.specs.Headline.Outside.{table_at}
 use Rattle.murder_core.specs.Headline.Replicas.{Follows, ReplicasFollow}
 use Rattle.murder_core.specs.Headline.Replicas.{Follows as follows}
@@ -29,6 +29,7 @@ use Rattle.murder_core.proofs.Alone.OwnClientsLaw.{serves_its_own_each}
 use Rattle.murder_core.proofs.Alone.Unrolled.{by_steps}
 use Rattle.murder_core.proofs.Connections.KeepsLaw.{KeepsLaw}
 use Rattle.murder_core.proofs.Guests.GuestsServed.{serves_guests}
+use Rattle.murder_core.proofs.Keeps.AnyStep.{law_of_run}
 use Rattle.murder_core.proofs.OneServer.AnyStep.{keeps_one_home_each}
 use Rattle.murder_core.proofs.OneServer.ClosedLaw.{gives_no_more}
 use Rattle.murder_core.proofs.OneServer.EachStep.{EachKeeps, kept_all}
@@ -46,7 +47,7 @@ replicas_follow config came world law node front at =
     followed law.master (table_at world (master_of config)) world (master_of config) node front.replica (ap table_by (law.nodes).is_there)
     (((law.feeds).each node front at).fed)
 
-pub one_mail_server : (config : Config) (events : List Event) → AreNodes config.nodes → IsDate config.date → EachKeeps config (steps_of_run config events)
+one_mail_server : (config : Config) (events : List Event) → AreNodes config.nodes → IsDate config.date → EachKeeps config (steps_of_run config events)
     → IsOneMailServer config events
 one_mail_server config events are dated each =
     let law_at = λ (before later : List Event) (parts : steps_of_run config events ≡ before ++ later).
@@ -64,3 +65,7 @@ one_mail_server config events are dated each =
           replicas_follow config (λ conn. heard config conn before) (run_steps (start config) before) (law_at before later parts);
       one_home = keeps_one_home_each config events are each;
     }
+
+pub each_run_is_one_server : EachRunIsOneServer
+each_run_is_one_server config events are named dated fit =
+    one_mail_server config events are dated (law_of_run config (steps_of_run config events) are named fit)
