@@ -12,10 +12,11 @@ pub mod Replicas
 use Rattle.std.specs.Prelude.{◌≡◌, List}
 use Rattle.imap_command.specs.Ruled.{IsDate}
 use Rattle.mur_config.specs.declared.config.Config.{Config}
-use Rattle.mur_config.specs.Nodes.{AreNodes}
+use Rattle.mur_config.specs.Nodes.{AreNodes, links_of}
 use Rattle.schedule_text.specs.declared.event.Event.{Event}
 use Rattle.murder_core.specs.Flow.{run_of, run_steps, steps_of_run}
 use Rattle.murder_core.specs.Headline.Closed.{GivesNoMore}
+use Rattle.murder_core.specs.Headline.FlowLaw.{AreStepsOfAll}
 use Rattle.murder_core.specs.Headline.HomeLaw.{KeepsOneHomeEach}
 use Rattle.murder_core.specs.Headline.OneNode.{GoesOverLinks, OneNodeWorksEach, ServesItsOwnEach}
 use Rattle.murder_core.specs.Headline.OneStore.{IsToldByOneStore}
@@ -29,7 +30,9 @@ use Rattle.murder_core.specs.World.{start}
 -- more; a client at the master is given the replies to its lines of MUPDATE and, once it asked for that, each change of the table; the replicas of the
 -- frontends follow the master's table; a mailbox has at most one writable home.
 pub record IsOneMailServer (config : Config) (events : List Event) : Type 0 where
+  -- the run is that of its single steps, and those are its events, but of a flow as many deliveries as it may make, or until none is left
   pub by_steps : run_of config events ≡ run_steps (start config) (steps_of_run config events)
+  pub its_steps : AreStepsOfAll (links_of config.nodes) (start config) events (steps_of_run config events)
   pub one_node : OneNodeWorksEach (start config) (steps_of_run config events)
   pub own_clients : ServesItsOwnEach (start config) (steps_of_run config events)
   pub over_links : GoesOverLinks config events

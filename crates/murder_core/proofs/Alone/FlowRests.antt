@@ -1,5 +1,5 @@
 -- A flow delivers as many messages as it may, and fewer only where none is on its way any more.
-use Rattle.std.proofs.Common.{◌≡◌, ◌≢◌, ℕ, zero, suc, ◌+◌, ◌≤◌, ◌==◌, Bool, true, false, cond, List, [], ◌∷◌, ◌++◌, length, drop, None, Some, refl}
+use Rattle.std.proofs.Common.{append_assoc, ◌≡◌, ◌≢◌, ℕ, zero, suc, ◌+◌, ◌≤◌, ◌==◌, Bool, true, false, cond, List, [], ◌∷◌, ◌++◌, length, drop, None, Some, refl}
 use Rattle.std.proofs.Common.{sym, ◌∙◌, ap, subst, arith, length-append, Option, All, Contains}
 use Rattle.std.proofs.lemmas.Bool.{eqb-true, eq-eqb}
 use Rattle.std.proofs.lemmas.List.Elements.{All-nil, All-cons, All-contains, Contains-append_right}
@@ -24,7 +24,7 @@ use Rattle.murder_core.specs.World.{not_lost, node_at, comes_to, taken_from_link
 use Rattle.cluster_core.specs.World.{layout_of}
 use Rattle.murder_core.proofs.Alone.LinkedNodes.{AreApart, pairs_apart}
 use Rattle.murder_core.proofs.Alone.OneNodeLaw.{carry_all_sends}
-use Rattle.murder_core.proofs.Alone.OnPairs.{KnowBackendsAlways, IsIdle, all_empty}
+use Rattle.murder_core.proofs.Alone.OnPairs.{KnowBackendsAlways, KnowBackendsSoFar, IsIdle, all_empty}
 use Rattle.murder_core.proofs.Alone.Unrolled.{event_made, run_steps-append}
 use Rattle.link_queue.proofs.Wires.{same_itself, on_link-taken}
 
@@ -216,8 +216,12 @@ flow_rests : (layout : Layout) (world : World) (count : ℕ) → (flow layout wo
 unfolding flow
 flow_rests layout world count some = rounds_rest count layout.pairs (record { world = world; made = []; left = count }) (omega arith) some
 
-is_flow : (config : Config) (steps : List Event) (count : ℕ) (world : World) → AreNodes config.nodes → KnowBackendsAlways config
-    → world ≡ run_steps (start config) steps
+-- what is known so far of some steps is known of the first of them
+known_first : (config : Config) (one two : List Event) → KnowBackendsSoFar config (one ++ two) → KnowBackendsSoFar config one
+known_first config one two known = λ before later parts. known before (later ++ two) (ap (λ l. l ++ two) parts ∙ append_assoc before later two)
+
+is_flow : (config : Config) (steps : List Event) (count : ℕ) (world : World) → AreNodes config.nodes
+    → KnowBackendsSoFar config (steps ++ (flow (layout_of config) world count).made) → world ≡ run_steps (start config) steps
     → IsFlow (links_of config.nodes) count world (flow (layout_of config) world count).made
 is_flow config steps count world are known there =
     let ran = flow (layout_of config) world count in
@@ -230,11 +234,12 @@ is_flow config steps count world are known there =
       fewer = λ fewer from to.
           let some : ran.left ≢ 0 = λ none. omega (arith, flows.counts, fewer, none) in
           ap (λ (w : World). on_link w.links from to) (sym flows.steps ∙ ends)
-          ∙ all_empty config (steps ++ ran.made) are (λ before later parts. known before)
+          ∙ all_empty config (steps ++ ran.made) are known
           (subst (λ w. All (IsIdle w) (links_of config.nodes)) ends (flow_rests (layout_of config) world count some)) from to;
     }
 
-are_steps : (config : Config) (steps : List Event) (world : World) (event : Event) → AreNodes config.nodes → KnowBackendsAlways config
+are_steps : (config : Config) (steps : List Event) (world : World) (event : Event) → AreNodes config.nodes
+    → KnowBackendsSoFar config (steps ++ steps_of_event (layout_of config) world event)
     → world ≡ run_steps (start config) steps → AreStepsOf (links_of config.nodes) world event (steps_of_event (layout_of config) world event)
 unfolding steps_of_event
 are_steps config steps world (Flow count) are known there = is_flow config steps count world are known there
@@ -245,25 +250,26 @@ pub are_its_steps : (layout : Layout) (world : World) (event : Event) → ((conf
     → AreItsSteps layout world event
 are_its_steps layout world event know = λ config steps are laid there.
     subst (λ l. AreStepsOf (links_of config.nodes) world event (steps_of_event l world event)) (sym laid)
-    (are_steps config steps world event are (know config are) there)
+    (are_steps config steps world event are (λ before later parts. know config are before) there)
 
-all_from : (config : Config) (steps : List Event) (world : World) (events : List Event) → AreNodes config.nodes → KnowBackendsAlways config
-    → world ≡ run_steps (start config) steps
+all_from : (config : Config) (steps : List Event) (world : World) (events : List Event) → AreNodes config.nodes
+    → KnowBackendsSoFar config (steps ++ unrolled (layout_of config) world events) → world ≡ run_steps (start config) steps
     → AreStepsOfAll (links_of config.nodes) world events (unrolled (layout_of config) world events)
 unfolding unrolled
 all_from config steps world [] are known there = no_event world
 all_from config steps world (event ∷ events) are known there =
     let its = steps_of_event (layout_of config) world event in
     let next = happens (layout_of config) world event in
+    let rest = unrolled (layout_of config) next events in
     let made = event_made (layout_of config) world event in
     let later : next ≡ run_steps (start config) (steps ++ its) =
     made ∙ ap (λ w. run_steps w its) there ∙ sym (run_steps-append (start config) steps its) in
-    an_event world event events its (unrolled (layout_of config) next events) (are_steps config steps world event are known there)
-    (subst (λ w. AreStepsOfAll (links_of config.nodes) w events (unrolled (layout_of config) next events)) made
-    (all_from config (steps ++ its) next events are known later))
+    let known_on = subst (KnowBackendsSoFar config) (sym (append_assoc steps its rest)) known in
+    an_event world event events its rest (are_steps config steps world event are (known_first config (steps ++ its) rest known_on) there)
+    (subst (λ w. AreStepsOfAll (links_of config.nodes) w events rest) made (all_from config (steps ++ its) next events are known_on later))
 
 -- the steps of a run are those of its events
-pub are_steps_of_all : (config : Config) (events : List Event) → AreNodes config.nodes → KnowBackendsAlways config
+pub are_steps_of_all : (config : Config) (events : List Event) → AreNodes config.nodes → KnowBackendsSoFar config (steps_of_run config events)
     → AreStepsOfAll (links_of config.nodes) (start config) events (steps_of_run config events)
 unfolding run_steps
 are_steps_of_all config events are known = all_from config [] (start config) events are known refl

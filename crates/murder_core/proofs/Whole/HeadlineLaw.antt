@@ -23,6 +23,7 @@ use Rattle.murder_core.specs.Headline.Outside.{table_at}
 use Rattle.murder_core.specs.Headline.Replicas.{Follows, ReplicasFollow}
 use Rattle.murder_core.specs.Headline.Replicas.{Follows as follows}
 use Rattle.murder_core.specs.World.{front_at, start}
+use Rattle.murder_core.proofs.Alone.FlowRests.{are_steps_of_all}
 use Rattle.murder_core.proofs.Alone.OneNodeLaw.{one_node_each}
 use Rattle.murder_core.proofs.Alone.OnPairs.{goes_over_links, know_by_law}
 use Rattle.murder_core.proofs.Alone.OwnClientsLaw.{serves_its_own_each}
@@ -52,12 +53,14 @@ one_mail_server : (config : Config) (events : List Event) → AreNodes config.no
 one_mail_server config events are dated each =
     let law_at = λ (before later : List Event) (parts : steps_of_run config events ≡ before ++ later).
     ((kept_all config (steps_of_run config events) each).at before later parts).law in
+    let known = λ (before later : List Event) (parts : steps_of_run config events ≡ before ++ later).
+    know_by_law config (λ conn. heard config conn before) (run_steps (start config) before) (law_at before later parts) in
     record {
       by_steps = by_steps (layout_of config) (start config) events;
+      its_steps = are_steps_of_all config events are known;
       one_node = one_node_each (start config) (steps_of_run config events);
       own_clients = serves_its_own_each config (steps_of_run config events);
-      over_links = goes_over_links config events are
-          (λ before later parts. know_by_law config (λ conn. heard config conn before) (run_steps (start config) before) (law_at before later parts));
+      over_links = goes_over_links config events are known;
       one_store = one_store_tells config events are dated each;
       closed = gives_no_more config events each;
       guests = serves_guests config events are each;
