@@ -1,6 +1,6 @@
 -- The cluster before its first step, and what an event that is one step does: something comes to one node, which changes its state and
 -- lets outputs out.
-use Rattle.std.specs.Prelude.{ℕ, ◌+◌, Bool, false, if◌then◌else◌, List, [], ◌∷◌, ◌++◌, map, Option, None, Some}
+use Rattle.std.specs.Prelude.{ℕ, ◌+◌, Bool, false, if◌then◌else◌, List, [], ◌∷◌, ◌++◌, Option, None, Some}
 use Rattle.std.specs.Ordering.{nat_cmp}
 use Rattle.std.specs.Cmp.Lexicographic.{slice_cmp}
 use Rattle.back_node.specs.declared.node.BackNode.{BackNode}
@@ -24,7 +24,6 @@ use Rattle.master_core.specs.declared.master.Master.{Master}
 use Rattle.mur_config.specs.declared.node.Link.{Link}
 use Rattle.mur_config.specs.declared.node.Node.{Node}
 use Rattle.mur_config.specs.Nodes.{links_of}
-use Rattle.mur_model.specs.declared.setting.Setting.{Setting}
 use Rattle.node_record.specs.Table.{empty_table}
 use Rattle.murder_step.specs.declared.node.NodeState.{NodeState}
 use Rattle.murder_step.specs.declared.node.NodeState.TheVariants as state

@@ -1,5 +1,5 @@
 -- A step counts at most as many commands of a connection more as bytes came.
-use Rattle.std.proofs.Common.{◌≡◌, ℕ, ◌+◌, ◌<◌, ◌^◌, length, Option, Some, None, refl, subst, arith}
+use Rattle.std.proofs.Common.{◌≡◌, ℕ, ◌+◌, ◌<◌, ◌^◌, length, Some, refl, subst, arith}
 use Rattle.back_node.specs.declared.node.BackNode.{BackNode}
 use Rattle.front_node.specs.declared.front.Front.{Front}
 use Rattle.front_node.specs.Front.{connect, bytes_in, hang, deliver}

@@ -1,5 +1,5 @@
 -- One step of a node: what an input makes of its state, and what it lets out.
-use Rattle.std.specs.Prelude.{ℕ, List, [], Option, None, Some}
+use Rattle.std.specs.Prelude.{List, [], Option, None, Some}
 use Rattle.back_node.specs.declared.node.BackNode.{BackNode}
 use Rattle.back_node.specs.Acted.{BackActed}
 use Rattle.back_node.specs.Takes.{node_takes}

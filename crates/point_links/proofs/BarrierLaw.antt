@@ -36,7 +36,7 @@ use Rattle.route_links.proofs.DecidedLaw.{by_its_table}
 use Rattle.store_links.proofs.OpenLaw.{none_is_missing}
 use Rattle.many_links.specs.Murder.{Murder, homes_of}
 use Rattle.many_links.proofs.MasterLaw.{frontends_keep_many}
-use Rattle.point_links.specs.Barriers.{NoopComes, NoopTaken, decided, IsMissing, IsReserved, IsAskedOn, MissingIsAPoint, ReservedIsAPoint, BarrierIs}
+use Rattle.point_links.specs.Barriers.{NoopComes, NoopTaken, decided, IsMissing, IsReserved, MissingIsAPoint, ReservedIsAPoint, BarrierIs}
 use Rattle.point_links.specs.Barriers.{is_missing, is_refused, is_asked, EachBarrier}
 use Rattle.point_links.specs.Carried.{turn_at}
 use Rattle.point_links.specs.Commands.{ClientCommand, WaitsOn, refused_turn}

@@ -1,5 +1,5 @@
 -- The master takes the line of a CREATE.
-use Rattle.std.proofs.Common.{◌≡◌, ◌≢◌, ℕ, ◌&&◌, nat_le, Bool, true, false, cond, is_some, List, [], ◌∷◌, ◌++◌, filter, Option, None, Some, refl}
+use Rattle.std.proofs.Common.{◌≡◌, ℕ, ◌&&◌, nat_le, Bool, true, false, cond, is_some, List, [], ◌∷◌, ◌++◌, filter, Option, None, Some, refl}
 use Rattle.std.proofs.Common.{sym, ◌∙◌, ap, subst}
 use Rattle.std.specs.Prelude.{not}
 use Rattle.std.specs.List.{AllByRecursion}
@@ -8,7 +8,6 @@ use Rattle.asking_core.specs.Answered.{answered}
 use Rattle.back_links.specs.MasterEvents.{given_in}
 use Rattle.back_links.specs.OneTalk.{HasTalk}
 use Rattle.back_links.specs.Spelled.{HasCommandTexts, HasLineTexts}
-use Rattle.back_links.specs.Written.{command_message}
 use Rattle.back_links.proofs.StepsSaid.{sends_spelled}
 use Rattle.back_links.proofs.Texts.{command_read}
 use Rattle.back_node.specs.declared.node.BackNode.{BackNode}
@@ -75,11 +74,11 @@ use Rattle.store_links.proofs.BoxesLaw.{each_is_a_box}
 use Rattle.many_links.specs.Murder.{Murder, homes_of, master_takes}
 use Rattle.many_links.specs.ManyHold.{ManyHold}
 use Rattle.many_links.specs.Marks.{CarryNoneOut, IsOnlyTold, mark_in, marks_in}
-use Rattle.many_links.specs.MasterEvents.{IsDoneFor, IsOneCommand, StoreTakes, nothing, created, removed}
+use Rattle.many_links.specs.MasterEvents.{IsOneCommand, StoreTakes, nothing, created, removed}
 use Rattle.many_links.proofs.BoxesLaw.{mailboxes_are_boxes}
 use Rattle.many_links.proofs.TakesLaw.{takes_keeps_many}
 use Rattle.point_links.specs.Carried.{CarriesOut, turn_at}
-use Rattle.point_links.specs.Commands.{ClientCommand, WaitsOn, told_turn}
+use Rattle.point_links.specs.Commands.{ClientCommand, told_turn}
 use Rattle.point_links.specs.Creates.{ActivateCreates, ActivateOfFull, IsCreated, IsPutOff, IsThere, LineComes, LineIsPoint, ReserveOfOneReserved, ReserveOfOneThere}
 use Rattle.point_links.proofs.Told.{done_so, not_now_waits}
 

@@ -1,14 +1,11 @@
 -- A backend takes the ask of a command at a mailbox: where it has the name open it does what the one store does, and else the command is sent on.
-use Rattle.std.proofs.Common.{◌≡◌, ◌≢◌, ℕ, ◌+◌, ◌&&◌, Bool, true, false, List, Option, None}
+use Rattle.std.proofs.Common.{◌≡◌, ℕ, ◌+◌, ◌&&◌, Bool, true, false, List, Option, None}
 use Rattle.std.proofs.Common.{Some, refl, sym, ◌∙◌, ap, subst}
-use Rattle.std.specs.Ordering.{nat_cmp}
-use Rattle.std.specs.Cmp.Lexicographic.{slice_cmp}
 use Rattle.asking_core.specs.Answered.{answered}
-use Rattle.asking_core.specs.Begins.{ask_of}
 use Rattle.back_links.specs.BackEvents.{IsFitting, fits_by}
 use Rattle.back_node.specs.declared.node.BackNode.{BackNode}
-use Rattle.back_node.specs.NodeLaws.{IsCarriedOut, IsDone, answered_only, elsewhere, elsewhere_by, is_of_messages}
-use Rattle.back_node.specs.Takes.{name_kind, node_takes}
+use Rattle.back_node.specs.NodeLaws.{IsCarriedOut, IsDone, elsewhere, elsewhere_by, is_of_messages}
+use Rattle.back_node.specs.Takes.{node_takes}
 use Rattle.back_node.proofs.OpenHere.{elsewhere_is_told, no_kind}
 use Rattle.backend_core.specs.declared.backend.Backend.{Backend}
 use Rattle.backend_core.specs.HomeLaws.{is_open_here}
@@ -18,41 +15,33 @@ use Rattle.backend_core.specs.Step.{home_step}
 use Rattle.link_msg.specs.declared.answer.AnswerBody.{AnswerBody}
 use Rattle.link_msg.specs.declared.answer.AnswerBody.TheVariants as answer
 use Rattle.link_msg.specs.declared.ask.FrontAsk.{FrontAsk}
-use Rattle.link_msg.specs.declared.counts.Counts.{Counts}
-use Rattle.link_msg.specs.declared.counts.Counts.TheVariants.{IfAnswered}
 use Rattle.link_msg.specs.declared.message.LinkMsg.TheVariants.{Ask}
-use Rattle.link_msg.specs.declared.out.Out.{Out}
-use Rattle.mail_message.specs.Boxes.{Content}
 use Rattle.mur_model.specs.declared.need.Asking.{Asking}
 use Rattle.mur_model.specs.declared.session.Turn.{Turn}
 use Rattle.mur_model.specs.declared.store.Store.{Store}
-use Rattle.mur_model.specs.Act.{work_on, worked_at}
+use Rattle.mur_model.specs.Act.{worked_at}
 use Rattle.mur_model.specs.Asking.{asked_for}
-use Rattle.mur_model.specs.Left.{Left, Worked, kept, made, changed, store_after}
-use Rattle.mur_model.specs.Needed.{Mailbox, Work, Make}
+use Rattle.mur_model.specs.Left.{Left, Worked, store_after}
+use Rattle.mur_model.specs.Needed.{Mailbox}
 use Rattle.mur_model.specs.Store.{box_at, is_full}
-use Rattle.mur_model.proofs.OwnView.{IsOfNeeded, IsOfWork, work_own}
+use Rattle.mur_model.proofs.OwnView.{IsOfNeeded, work_own}
 use Rattle.name_flows.specs.declared.ask.AskKind.{AskKind}
 use Rattle.name_flows.specs.Phases.{pointer_in}
 use Rattle.name_links.specs.Serials.{Given}
-use Rattle.node_record.specs.declared.held.Held.{Held}
 use Rattle.session_core.specs.Begin.{user_of}
-use Rattle.session_core.specs.Finish.{turn_of}
 use Rattle.session_core.specs.Results.{result_of, turn_behind, turn_by}
-use Rattle.session_core.specs.declared.result.OpResult.TheVariants.{Done}
 use Rattle.serve_law.specs.AsTheStore.{HaveAlike}
 use Rattle.serve_law.specs.AsTheStore.HaveAlike.{neither, both}
 use Rattle.serve_law.proofs.HomeStore.{IsStoreOf, other_boxes}
 use Rattle.serve_law.proofs.HomeStore.IsStoreOf.{is_missing, is_there}
 use Rattle.serve_law.proofs.ServedAlike.{ServesAlike}
 use Rattle.serve_law.proofs.ServeLaw.{plain_ask, serves_others}
-use Rattle.many_links.specs.Murder.{Murder, home_takes}
-use Rattle.many_links.specs.ManyHold.{ManyHold}
+use Rattle.many_links.specs.Murder.{Murder}
 use Rattle.many_links.specs.HomeEvents.{IsStoreWith, is_served}
 use Rattle.many_links.proofs.HomeLaw.{alike_has_it, asks_keep_many, serves_keeps_many}
 use Rattle.many_links.proofs.OpenLaw.{open_is_the_stores}
 use Rattle.point_links.specs.AtHome.{AskComes, ClosedSendsOn, IsElsewhere, IsSentOn, IsServed, OpenServes, its_ask, not_now, moved}
-use Rattle.point_links.specs.Carried.{CarriesOut, turn_at}
+use Rattle.point_links.specs.Carried.{turn_at}
 use Rattle.point_links.specs.Commands.{ClientCommand, WaitsOn, told_turn}
 use Rattle.point_links.proofs.Told.{done_so, moved_waits, not_now_waits}
 use Rattle.point_links.proofs.Works.{MakesNone, given_stays, may_work, of_messages, order_stays, same_work, work_makes_none}

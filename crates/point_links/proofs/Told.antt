@@ -1,31 +1,22 @@
 -- What comes of an answer for a command that waits.
-use Rattle.std.proofs.Common.{◌≡◌, ℕ, List, Option, None, Some, refl, sym, ◌∙◌, ap}
-use Rattle.asking_core.specs.declared.waiting.Waiting.{Waiting}
-use Rattle.asking_core.specs.Answered.{answered, goes_on, refused, refused_in, sends, told, told_in}
+use Rattle.std.proofs.Common.{◌≡◌, ℕ, List, Option, Some, refl, sym, ◌∙◌, ap}
+use Rattle.asking_core.specs.Answered.{answered, refused, refused_in, sends, told, told_in}
 use Rattle.asking_core.specs.Begins.{ask_sent, asks_server, noop_sent}
-use Rattle.ask_routes.specs.declared.next.Next.TheVariants as next
-use Rattle.imap_types.specs.declared.command.Command.{Command}
 use Rattle.imap_types.specs.declared.reply.NoText.TheVariants.{BeingMoved}
-use Rattle.imap_types.specs.declared.reply.Reply.{Reply as ReplyOf}
 use Rattle.link_msg.specs.declared.answer.AnswerBody.TheVariants as answer
 use Rattle.link_msg.specs.declared.outcome.Outcome.{Outcome}
 use Rattle.mail_message.specs.declared.message.Snapshot.{Snapshot}
 use Rattle.mur_base.specs.declared.point.What.TheVariants.{Reserved}
 use Rattle.mur_model.specs.declared.need.Asking.{Asking}
 use Rattle.mur_model.specs.declared.session.Sess.{Sess}
-use Rattle.mur_model.specs.declared.session.Sess.TheVariants.{Off, In, Selected, Ended}
+use Rattle.mur_model.specs.declared.session.Sess.TheVariants.{Ended}
 use Rattle.mur_model.specs.declared.session.Turn.{Turn}
-use Rattle.mur_model.specs.declared.setting.Setting.{Setting}
-use Rattle.mur_model.specs.Act.{need_of, session_after}
+use Rattle.mur_model.specs.Act.{need_of}
 use Rattle.mur_model.specs.Asking.{asked_for}
-use Rattle.mur_model.specs.Need.{told_with}
-use Rattle.mur_model.specs.Needed.{Mailbox, Work}
 use Rattle.mur_model.specs.Relocation.{cause_text, refused_for}
-use Rattle.mur_model.specs.Traits.{is_in}
 use Rattle.session_core.specs.declared.result.OpResult.{OpResult}
 use Rattle.session_core.specs.declared.result.OpResult.TheVariants.{Done}
 use Rattle.session_core.specs.Finish.{finish, finished_by, turn_of}
-use Rattle.session_core.specs.Need.{Behind}
 use Rattle.session_core.specs.Relocated.{relocated}
 use Rattle.session_core.proofs.RefusedLaw.{refused_as_told}
 use Rattle.serve_law.proofs.AnswersAsActed.{ended_needs_none, finished_so}

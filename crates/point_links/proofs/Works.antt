@@ -1,5 +1,5 @@
 -- Work at a mailbox, but for making one: which operation is asked, what the store does with a name that it hasn't, and that it makes no mailbox.
-use Rattle.std.proofs.Common.{◌≡◌, ◌≢◌, ◌⊎◌, inl, inr, ℕ, ◌==◌, Bool, true, false, List, [], ◌∷◌, Option, None, Some, refl, sym, ap}
+use Rattle.std.proofs.Common.{◌≡◌, ◌≢◌, ◌⊎◌, inl, inr, ℕ, ◌==◌, Bool, true, false, List, [], ◌∷◌, Option, None, Some, refl}
 use Rattle.std.specs.Prelude.{⊤, if◌then◌else◌}
 use Rattle.std.specs.Ordering.{nat_cmp}
 use Rattle.std.specs.Cmp.Lexicographic.{slice_cmp}
@@ -8,7 +8,6 @@ use Rattle.ask_routes.specs.Ways.{ask_for}
 use Rattle.back_node.specs.NodeLaws.{is_of_messages}
 use Rattle.imap_types.specs.declared.op.Op.{Op}
 use Rattle.imap_types.specs.declared.op.Op.TheVariants as op
-use Rattle.link_msg.specs.declared.counts.Counts.TheVariants.{IfAnswered}
 use Rattle.mail_message.specs.Boxes.{Content}
 use Rattle.mail_message.specs.declared.message.Message.{Message}
 use Rattle.mail_store.specs.Append.{append_fault}
@@ -16,7 +15,6 @@ use Rattle.mail_store.specs.Store.{has_too_many_flags, rows_stored}
 use Rattle.mail_store.specs.declared.fault.StoreFault.{StoreFault}
 use Rattle.mur_base.specs.Map.{IsInOrder}
 use Rattle.mur_base.proofs.MapOrder.{with_value-in_order}
-use Rattle.mur_model.specs.declared.session.Sess.{Sess}
 use Rattle.mur_model.specs.declared.store.Store.{Store}
 use Rattle.mur_model.specs.declared.view.View.{View}
 use Rattle.mur_model.specs.declared.work.ViewWork.{ViewWork}
@@ -33,17 +31,9 @@ use Rattle.mur_model.specs.Needed.{Work, Make, Append as append_work, Status as 
 use Rattle.mur_model.specs.SearchRows.{are_keys_in_rows}
 use Rattle.mur_model.specs.Select.{select_on}
 use Rattle.mur_model.specs.Status.{status_on}
-use Rattle.mur_model.specs.Store.{box_at}
 use Rattle.mur_model.specs.StoreFlags.{stored_at}
 use Rattle.mur_model.specs.Viewing.{found_gone, viewed_on, work_there}
 use Rattle.mur_model.specs.declared.commands.fetch.Fetching.{Fetching}
-use Rattle.mur_model.proofs.OwnView.{IsOfWork}
-use Rattle.session_core.specs.declared.result.OpResult.TheVariants.{Missing}
-use Rattle.session_core.specs.Append.{reply_to_append}
-use Rattle.session_core.specs.Finish.{turn_of}
-use Rattle.session_core.specs.Select.{select_turn}
-use Rattle.session_core.specs.Status.{reply_to_status}
-use Rattle.session_core.specs.Viewed.{viewed_in, viewed_turn}
 
 -- it makes a mailbox, or not
 pub is_make : (work : Work) → (work ≡ Make) ⊎ (work ≢ Make)

@@ -3,7 +3,7 @@ use Rattle.std.specs.Prelude.{◌≡◌, ◌≢◌, ℕ, true, false, List, [], 
 use Rattle.asking_core.specs.Answered.{answered}
 use Rattle.asking_core.specs.Begins.{ask_of}
 use Rattle.back_node.specs.declared.node.BackNode.{BackNode}
-use Rattle.back_node.specs.NodeLaws.{answered_only, elsewhere}
+use Rattle.back_node.specs.NodeLaws.{answered_only}
 use Rattle.back_node.specs.Takes.{node_takes}
 use Rattle.backend_core.specs.HomeLaws.{is_open_here}
 use Rattle.backend_core.specs.HomeStep.{held_at}

@@ -14,7 +14,7 @@ use Rattle.front_node.specs.Taken.{Turned, Ways, next_of}
 use Rattle.imap_talk.specs.declared.inputs.Input.{Input}
 use Rattle.imap_types.specs.declared.command.Tag.{Tag}
 use Rattle.link_msg.specs.declared.answer.AnswerBody.{AnswerBody}
-use Rattle.link_msg.specs.declared.answer.AnswerBody.TheVariants.{NotNow, Moved}
+use Rattle.link_msg.specs.declared.answer.AnswerBody.TheVariants.{Moved}
 use Rattle.link_msg.specs.declared.answer.BackAnswer.{BackAnswer}
 use Rattle.mark_history.specs.Marked.{Tale}
 use Rattle.mur_base.specs.declared.point.AskId.{AskId}

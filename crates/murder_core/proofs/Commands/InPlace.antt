@@ -1,6 +1,6 @@
 -- The command of a connection is in one place: of all that is on its way over all links just one message is about the connection, no backend but the one of
 -- the place has a flow or a waiting ask of it, and its barrier is where the place says.
-use Rattle.std.specs.Prelude.{◌≡◌, ℕ, List, Option, None, Some}
+use Rattle.std.specs.Prelude.{◌≡◌, ℕ, List, None, Some}
 use Rattle.back_node.specs.declared.node.BackNode.{BackNode}
 use Rattle.feed_core.specs.declared.replica.Replica.{Replica}
 use Rattle.front_core.proofs.OneConnection.Places.{IsPlaced, of_connection}
@@ -8,7 +8,6 @@ use Rattle.link_msg.specs.declared.message.LinkMsg.{LinkMsg}
 use Rattle.link_queue.specs.Links.{Links, on_link}
 use Rattle.mur_base.specs.declared.point.AskId.{AskId}
 use Rattle.name_commands.specs.Places.{TalkShows}
-use Rattle.name_commands.specs.Places.{NamePlace as name_at}
 use Rattle.name_commands.specs.Whose.{is_of_connection}
 use Rattle.route_links.specs.Barriers.{IsBarrierAt}
 use Rattle.many_links.specs.Murder.{Nodes}

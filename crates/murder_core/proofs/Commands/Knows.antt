@@ -1,6 +1,6 @@
 -- What the place of a command tells: the one store has replied nothing to it, and what comes of the place is no reply; or the store has replied, and what
 -- comes of the place is that reply.
-use Rattle.std.specs.Prelude.{◌≡◌, ◌⊎◌, ℕ, List, [], ◌∷◌, ◌++◌, Some}
+use Rattle.std.specs.Prelude.{◌≡◌, ℕ, List, [], ◌∷◌, ◌++◌, Some}
 use Rattle.ask_routes.specs.declared.next.Why.{Why}
 use Rattle.asking_core.specs.Answered.{WentOn, answered}
 use Rattle.asking_core.specs.declared.waiting.At.{At}
@@ -9,7 +9,6 @@ use Rattle.imap_types.specs.declared.command.Tag.{Tag}
 use Rattle.imap_types.specs.declared.request.Answer.{Answer}
 use Rattle.link_msg.specs.declared.answer.AnswerBody.{AnswerBody}
 use Rattle.link_msg.specs.declared.answer.AnswerBody.TheVariants.{NotNow}
-use Rattle.link_msg.specs.declared.answer.BackAnswer.{BackAnswer}
 use Rattle.imap_types.specs.declared.reply.NoText.TheVariants.{BeingMoved}
 use Rattle.mupdate_codec.specs.declared.command.MResponse.{MResponse}
 use Rattle.mur_model.specs.Act.{session_after}

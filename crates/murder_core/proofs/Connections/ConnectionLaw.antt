@@ -1,6 +1,6 @@
 -- What holds of a connection: what its client was told is a front of what the one store replied, and at most one command waits,
 -- in one place.
-use Rattle.std.proofs.Common.{◌≡◌, ◌≢◌, ℕ, true, false, nat_eq, List, [], ◌++◌, length, Option, None, Some, refl, ◌∙◌}
+use Rattle.std.proofs.Common.{◌≡◌, ◌≢◌, ℕ, true, false, nat_eq, List, [], ◌++◌, length, Option, Some, refl, ◌∙◌}
 use Rattle.std.proofs.Common.{arith}
 use Rattle.std.proofs.lemmas.Bool.Decides.{nat_tests}
 use Rattle.feed_core.specs.declared.replica.Replica.{Replica}
@@ -18,7 +18,6 @@ use Rattle.mark_history.specs.declared.mark.Mark.{Mark}
 use Rattle.mark_history.specs.declared.mark.MarkKind.TheVariants.{Home}
 use Rattle.mur_base.specs.declared.point.AskId.{AskId}
 use Rattle.mur_model.specs.declared.session.Sess.{Sess}
-use Rattle.mur_model.specs.declared.setting.Setting.{Setting}
 use Rattle.mur_model.specs.History.{TalkGoesOn, with_session}
 use Rattle.mur_model.proofs.HistoryGrows.{same_talk, talks_follow}
 use Rattle.route_links.specs.Barriers.{Place as Barrier}

@@ -1,19 +1,18 @@
 -- What a frontend sends the master as it takes an answer of a backend, or the master's OK, are NOOPs.
-use Rattle.std.proofs.Common.{◌≡◌, ◌≢◌, inl, inr, ℕ, ◌+◌, ◌<◌, ◌^◌, ◌==◌, Bool, true, false, List, [], ◌∷◌, ◌++◌, length, Option, None, Some, refl, sym, ap, ◌∙◌, subst, arith}
+use Rattle.std.proofs.Common.{◌≡◌, ◌≢◌, inl, inr, ℕ, ◌+◌, ◌<◌, ◌^◌, ◌==◌, Bool, true, false, List, length, Option, None, Some, refl, ap, arith}
 use Rattle.ask_routes.specs.declared.ask_for.AskFor.{AskFor}
 use Rattle.ask_routes.specs.declared.ask_for.AskFor.TheVariants as about
 use Rattle.ask_routes.specs.declared.next.Next.{Next}
 use Rattle.ask_routes.specs.declared.next.Next.TheVariants as next
 use Rattle.ask_routes.specs.declared.next.Why.{Why}
 use Rattle.ask_routes.specs.declared.next.Why.TheVariants as why
-use Rattle.ask_routes.specs.Ways.{ask_for, behind_answer, behind_ok, behind_record, behind_reserved, create_behind, mailbox_behind}
-use Rattle.asking_core.specs.Answered.{WentOn, answered, answered_by, goes_on, needs_by, told, told_by}
+use Rattle.ask_routes.specs.Ways.{ask_for, behind_ok, behind_record, behind_reserved, create_behind, mailbox_behind}
+use Rattle.asking_core.specs.Answered.{WentOn, answered, goes_on, needs_by, told_by}
 use Rattle.asking_core.specs.Cleared.{cleared}
 use Rattle.asking_core.specs.declared.then.Then.{Then}
 use Rattle.asking_core.specs.declared.then.Then.TheVariants as then
 use Rattle.asking_core.specs.declared.waiting.At.{At}
 use Rattle.asking_core.specs.declared.waiting.At.TheVariants.{Home, Barrier}
-use Rattle.asking_core.specs.declared.waiting.Sent.{Sent}
 use Rattle.asking_core.specs.declared.waiting.Waiting.{Waiting}
 use Rattle.feed_core.specs.declared.rec.Rec.{Rec}
 use Rattle.feed_core.specs.declared.rec.Rec.TheVariants.{Active, Reserved as reserved_rec}
@@ -23,7 +22,7 @@ use Rattle.front_node.specs.declared.connection.Connection.{Connection}
 use Rattle.front_node.specs.declared.connection.Stage.{Stage}
 use Rattle.front_node.specs.declared.connection.Stage.TheVariants.{Reading, Waits, Ended}
 use Rattle.front_node.specs.Answered.{answer_by, answer_comes, by_then, clears_at, goes_on_by, need_behind, ok_by, ok_comes, reading_again}
-use Rattle.front_node.specs.Taken.{Turned, Ways, next_of, to_begin}
+use Rattle.front_node.specs.Taken.{Ways, next_of, to_begin}
 use Rattle.imap_types.specs.declared.command.Tag.{Tag}
 use Rattle.link_msg.specs.declared.answer.AnswerBody.{AnswerBody}
 use Rattle.link_msg.specs.declared.answer.AnswerBody.TheVariants as answer
@@ -37,8 +36,7 @@ use Rattle.mur_model.specs.declared.session.Sess.{Sess}
 use Rattle.mur_model.specs.declared.setting.Setting.{Setting}
 use Rattle.route_links.specs.Answered.{IsNumbered}
 use Rattle.route_links.proofs.Tags.{is_noop}
-use Rattle.session_core.specs.Finish.{Finished, finish}
-use Rattle.session_core.specs.declared.result.OpResult.{OpResult}
+use Rattle.session_core.specs.Finish.{finish}
 use Rattle.session_core.specs.declared.result.OpResult.TheVariants.{Missing}
 use Rattle.murder_core.proofs.Feeds.Noops.{AreApart, AreWellSent, IsWellSent, first_well, inputs_well}
 

@@ -4,7 +4,7 @@ use Rattle.std.specs.Option.{IsSome}
 use Rattle.cluster_core.specs.World.{home_of, master_of}
 use Rattle.feed_core.specs.declared.rec.Rec.{Rec}
 use Rattle.feed_core.specs.Above.{rec_by, rec_of_text}
-use Rattle.feed_core.specs.Feed.{Recs, rec_at}
+use Rattle.feed_core.specs.Feed.{Recs}
 use Rattle.feed_core.specs.Routes.{above_at, above_within, home_by, home_for, or_else, server_in}
 use Rattle.feed_links.proofs.Names.{found_has}
 use Rattle.front_node.specs.declared.front.Front.{Front}

@@ -1,10 +1,9 @@
 -- The feeds after a step of the master.
-use Rattle.std.proofs.Common.{◌≡◌, ◌≢◌, ◌⊎◌, inl, inr, ℕ, ◌&&◌, not, nat_eq, Bool, true, false, cond, is_some, List, [], ◌∷◌, ◌++◌, map, Option, None, Some, refl, sym, ap, ◌∙◌, subst, append-nil}
-use Rattle.std.specs.List.{list_any, AllByRecursion}
+use Rattle.std.proofs.Common.{◌≡◌, ◌≢◌, ◌⊎◌, inl, inr, ℕ, is_some, List, [], ◌∷◌, ◌++◌, Option, None, Some, refl, sym, ap, ◌∙◌, subst, append-nil}
+use Rattle.std.specs.List.{AllByRecursion}
 use Rattle.std.specs.Option.{IsSome}
 use Rattle.std.specs.Ordering.{nat_cmp}
-use Rattle.std.specs.Cmp.Lexicographic.{pointwise, slice_cmp}
-use Rattle.std.proofs.Math.Logic.{⊎_elim}
+use Rattle.std.specs.Cmp.Lexicographic.{slice_cmp}
 use Rattle.back_links.specs.OneTalk.{HasTalk}
 use Rattle.back_links.specs.Written.{command_message}
 use Rattle.back_links.proofs.FirstLine.{IsItsLine, its_line, says_reply}
@@ -13,56 +12,38 @@ use Rattle.back_links.proofs.Texts.{command_read}
 use Rattle.back_node.specs.declared.node.BackNode.{BackNode}
 use Rattle.cluster_core.specs.World.{master_of}
 use Rattle.feed_core.specs.declared.replica.Replica.{Replica}
-use Rattle.feed_core.specs.Stream.{is_update_tag, update_line, update_tag}
-use Rattle.feed_core.proofs.StreamLaw.{update_read}
-use Rattle.feed_links.specs.Lines.{IsOf, IsOfAnother, messages_to, stream_of}
-use Rattle.feed_links.specs.OneFeed.{AreLines, AreNoops, IsFed, IsLine, IsNoop}
+use Rattle.feed_core.specs.Stream.{update_tag}
+use Rattle.feed_links.specs.Lines.{messages_to, stream_of}
+use Rattle.feed_links.specs.OneFeed.{AreLines, IsFed, IsLine}
 use Rattle.feed_links.specs.OneFeed.IsFed.{asks, is_told}
 use Rattle.feed_links.specs.Spelled.{CanBeTold}
 use Rattle.feed_links.proofs.Arguments.{HasArguments, line_has}
-use Rattle.feed_links.proofs.Begun.{noop_tells_nothing}
 use Rattle.feed_links.proofs.Changes.{MakesChange, makes_change}
-use Rattle.feed_links.proofs.FeedLaw.{both, clients_keep_it, no_message, others_keep_it, says_order, says_told, takes_keeps_it}
+use Rattle.feed_links.proofs.FeedLaw.{both, clients_keep_it, no_message, others_keep_it, says_order, says_told}
 use Rattle.feed_links.proofs.Following.{change_parts, update_tagged}
-use Rattle.feed_links.proofs.Messages.{change_told, change_untold, no_answers, own_answers, reply_messages, settled_messages, told_line}
+use Rattle.feed_links.proofs.Messages.{change_told, change_untold, no_answers, reply_messages}
 use Rattle.feed_links.proofs.OnlyLines.{sends_lines}
 use Rattle.feed_links.proofs.Printed.{response_spelled}
-use Rattle.feed_links.proofs.Steps.{settled_table, taken}
-use Rattle.feed_links.proofs.TableLines.{table_written}
-use Rattle.front_core.proofs.OneConnection.Places.{of_no_command, update_nobodys}
 use Rattle.front_node.specs.declared.front.Front.{Front}
 use Rattle.link_msg.specs.declared.message.LinkMsg.{LinkMsg}
-use Rattle.link_msg.specs.declared.message.LinkMsg.TheVariants.{Line}
-use Rattle.link_msg.specs.declared.out.Out.{Out}
 use Rattle.link_queue.specs.Links.{Links, on_link, without_first}
 use Rattle.many_links.specs.ManyHold.{ManyHold}
 use Rattle.many_links.specs.Murder.{Nodes, put_all}
-use Rattle.many_links.proofs.Carried.{puts_else, puts_own, taken_else, taken_first}
-use Rattle.many_links.proofs.FrontTable.{front_table}
+use Rattle.many_links.proofs.Carried.{puts_else, puts_own, taken_else}
 use Rattle.master_core.specs.declared.master.Master.{Master}
 use Rattle.master_core.specs.declared.reply.Reply.{Reply}
-use Rattle.master_core.specs.declared.sender.Sender.{Sender}
-use Rattle.master_core.specs.declared.sender.Sender.TheVariants.{Backend, Frontend, Outside}
+use Rattle.master_core.specs.declared.sender.Sender.TheVariants.{Backend}
 use Rattle.master_core.specs.Changes.{change_line, change_outs}
-use Rattle.master_core.specs.Linked.{let_out, node_says, sender_by, sender_of}
+use Rattle.master_core.specs.Linked.{let_out, node_says}
 use Rattle.master_core.specs.Outside.{Stepped as Served}
-use Rattle.master_core.specs.Replies.{noop_reply, reply_to, update_reply}
-use Rattle.master_core.specs.Step.{Planned, answered, bad_step, command_step, line_by, line_step, replied, settled, table_with}
-use Rattle.master_core.specs.Streams.{is_stream, may_follow_update, stream_step}
-use Rattle.master_core.specs.Whose.{TellNobody, message_ask}
+use Rattle.master_core.specs.Replies.{reply_to}
+use Rattle.master_core.specs.Step.{Planned, replied, table_with}
+use Rattle.master_core.specs.Whose.{TellNobody}
 use Rattle.master_core.proofs.OutsideAlone.{bytes_alone, connects_alone, ends_alone}
-use Rattle.master_core.proofs.UpdateLaw.{table_lines}
-use Rattle.master_core.proofs.WhoseLaw.{message_tells_nobody}
-use Rattle.mupdate_codec.specs.declared.command.MCommand.{MCommand}
-use Rattle.mupdate_codec.specs.declared.command.MCommand.TheVariants as command
-use Rattle.mupdate_codec.specs.declared.tag.Tag.{Tag}
 use Rattle.mupdate_codec.specs.Arguments.{exact}
-use Rattle.mupdate_codec.specs.Asks.{line_ask}
 use Rattle.mupdate_codec.specs.Commands.{command_line}
-use Rattle.mupdate_codec.specs.Whole.{command_in}
 use Rattle.mupdate_codec.proofs.WholeLaw.{is_line}
 use Rattle.mur_base.specs.Map.{IsInOrder}
-use Rattle.mur_base.proofs.MapLaws.{names_apart, same_or_other}
 use Rattle.mur_config.specs.declared.config.Config.{Config}
 use Rattle.mur_model.specs.declared.store.Store.{Store}
 use Rattle.murder_step.specs.declared.input.NodeInput.{NodeInput}
@@ -70,11 +51,10 @@ use Rattle.murder_step.specs.declared.input.NodeInput.TheVariants.{Opened, Piece
 use Rattle.murder_step.specs.declared.node.NodeState.TheVariants as state
 use Rattle.name_links.specs.Serials.{Given}
 use Rattle.node_record.specs.declared.master.MasterRecord.{MasterRecord}
-use Rattle.node_record.specs.Table.{MailboxTable}
 use Rattle.murder_core.specs.declared.world.World.{World}
 use Rattle.murder_core.specs.World.{front_at, home_at, taken_from_link}
 use Rattle.murder_core.proofs.Connections.KeepsLaw.{AreKeptAtBackends, AreNodesOf, FeedsHold, IsFedAt, KnowsBackends, TellsBackends, murder_of}
-use Rattle.murder_core.proofs.Feeds.Backends.{LineAt, SameBackends, change_at, each_kept, kept_still, knows_more, knows_still, line_tells, lines_tell, made_at, no_news_tell, table_lines_at}
+use Rattle.murder_core.proofs.Feeds.Backends.{LineAt, SameBackends, change_at, each_kept, kept_still, knows_more, knows_still, line_tells, made_at}
 use Rattle.murder_core.proofs.Feeds.Beside.{fed_moved, front_apart, front_no_home, home_apart}
 use Rattle.murder_core.proofs.Nodes.Carried.{is_made}
 use Rattle.murder_core.proofs.Nodes.Comes.{IsOfClient, MasterMoved, master_does, master_moved, with_master}

@@ -1,5 +1,5 @@
 -- Each record of the master's table, and of a replica that follows it, names a backend, since a backend writes records for itself alone.
-use Rattle.std.proofs.Common.{◌≡◌, ◌≢◌, ℕ, Bool, true, false, cond, is_some, if◌then◌else◌, List, [], ◌∷◌, ◌++◌, map, Option, None, Some, refl, sym, ap, ◌∙◌, subst}
+use Rattle.std.proofs.Common.{◌≡◌, ℕ, Bool, true, false, cond, is_some, if◌then◌else◌, List, [], ◌∷◌, ◌++◌, map, Option, None, Some, refl, sym, ◌∙◌, subst}
 use Rattle.std.specs.declared.cmp.Ordering.{Ordering}
 use Rattle.std.specs.declared.cmp.Ordering.TheVariants.{Less, Equal, Greater}
 use Rattle.std.specs.List.{flat_map, AllByRecursion}
@@ -10,9 +10,9 @@ use Rattle.std.proofs.lemmas.List.Concat.{flat_map-cons}
 use Rattle.feed_core.specs.declared.rec.Rec.{Rec}
 use Rattle.feed_core.specs.declared.rec.Rec.TheVariants.{Active as active_rec, Reserved as reserved_rec}
 use Rattle.feed_core.specs.declared.replica.Replica.{Replica}
-use Rattle.feed_core.specs.Feed.{Recs, put, rec_at, recs_after, replica_after, reserved, reserved_in}
-use Rattle.feed_core.specs.Routes.{server_at, server_by, server_in}
-use Rattle.feed_core.specs.Stream.{heard, heard_by, is_update_tag, update_tag}
+use Rattle.feed_core.specs.Feed.{Recs, rec_at, recs_after, replica_after, reserved, reserved_in}
+use Rattle.feed_core.specs.Routes.{server_by, server_in}
+use Rattle.feed_core.specs.Stream.{heard, heard_by, is_update_tag}
 use Rattle.feed_links.specs.Replicas.{IsNoNews, AreNoNews, hears}
 use Rattle.feed_links.proofs.Changes.{MakesChange, reserves, activates, deactivates, deletes}
 use Rattle.feed_links.proofs.FeedLaw.{both}
@@ -22,30 +22,27 @@ use Rattle.feed_links.proofs.Names.{found_has}
 use Rattle.feed_links.proofs.TableLines.{AreWritten}
 use Rattle.link_msg.specs.declared.message.LinkMsg.{LinkMsg}
 use Rattle.many_links.specs.Murder.{Nodes}
-use Rattle.master_core.specs.Changes.{change_line, text_of}
+use Rattle.master_core.specs.Changes.{change_line}
 use Rattle.master_core.specs.Records.{record_lines}
 use Rattle.master_core.specs.Replies.{done}
 use Rattle.master_core.specs.Step.{table_with}
 use Rattle.master_core.proofs.UpdateLaw.{table_lines}
 use Rattle.mupdate_codec.specs.declared.command.MCommand.{MCommand}
-use Rattle.mupdate_codec.specs.declared.command.MCommand.TheVariants as command
 use Rattle.mupdate_codec.specs.declared.command.MResponse.{MResponse}
 use Rattle.mupdate_codec.specs.declared.command.MResponse.TheVariants as response
 use Rattle.mupdate_codec.specs.declared.tag.Tag.{Tag}
 use Rattle.mupdate_codec.specs.Responses.{IsSpelledResponse}
-use Rattle.mupdate_codec.specs.Whole.{response_in}
 use Rattle.mur_base.specs.declared.home.Location.{Location}
-use Rattle.mur_base.specs.Map.{value_at, with_entry, with_value, without_key}
+use Rattle.mur_base.specs.Map.{with_entry, with_value, without_key}
 use Rattle.home_law.specs.Items.{is_same_server}
 use Rattle.home_law.specs.ManyNames.{SentLine, sent_reserve, sent_make, sent_again, sent_deactivate}
 use Rattle.home_law.proofs.SameName.{is_the_same}
 use Rattle.name_links.specs.Lines.{backend_line, if_at, is_asked}
 use Rattle.node_record.specs.declared.master.MasterRecord.{MasterRecord}
-use Rattle.node_record.specs.declared.master.MasterRecord.TheVariants as entry
 use Rattle.node_record.specs.declared.table.Record.{Record}
 use Rattle.node_record.specs.declared.table.State.{State}
 use Rattle.node_record.specs.declared.table.State.TheVariants.{Bare, Kept, Active}
-use Rattle.node_record.specs.Table.{MailboxTable, Records, moved, records_after, reserved_again, table_after}
+use Rattle.node_record.specs.Table.{MailboxTable, Records, moved, reserved_again, table_after}
 use Rattle.murder_core.proofs.Connections.KeepsLaw.{AreAtBackends, AreKeptAtBackends, NamesBackends, KnowsBackends, TableNamesBackends, TellsBackends}
 
 -- ---- changes of a map, and what holds of each value

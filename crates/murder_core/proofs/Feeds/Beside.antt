@@ -1,5 +1,5 @@
 -- The feeds after a step of a backend or of a frontend: the master's table and streams stay, and so does what is between it and each other frontend.
-use Rattle.std.proofs.Common.{◌≡◌, ◌≢◌, inl, inr, ℕ, is_some, List, [], ◌∷◌, ◌++◌, Option, None, Some, refl, sym, ap, ◌∙◌, subst}
+use Rattle.std.proofs.Common.{◌≡◌, ◌≢◌, inl, inr, ℕ, is_some, List, ◌∷◌, ◌++◌, Option, None, Some, refl, sym, ap, ◌∙◌, subst}
 use Rattle.std.specs.Ordering.{nat_cmp}
 use Rattle.std.specs.Cmp.Lexicographic.{slice_cmp}
 use Rattle.std.proofs.Math.Logic.{⊎_elim}
@@ -13,10 +13,9 @@ use Rattle.feed_links.specs.OneFeed.{AreLines, AreNoops, IsFed}
 use Rattle.feed_links.specs.Replicas.{hears as hears_it}
 use Rattle.feed_links.proofs.FeedLaw.{hears_keeps_it, noops_keep_it}
 use Rattle.front_node.specs.declared.front.Front.{Front}
-use Rattle.front_node.specs.Front.{Stepped, bytes_in, connect, deliver, hang}
+use Rattle.front_node.specs.Front.{Stepped, deliver}
 use Rattle.link_msg.specs.declared.message.LinkMsg.{LinkMsg}
 use Rattle.link_msg.specs.declared.message.LinkMsg.TheVariants.{Line}
-use Rattle.link_msg.specs.declared.out.Out.{Out}
 use Rattle.link_queue.specs.Links.{Links, on_link, without_first}
 use Rattle.many_links.specs.Murder.{put_all}
 use Rattle.many_links.proofs.Carried.{puts_else, puts_own, taken_else, taken_first}
@@ -27,7 +26,7 @@ use Rattle.murder_step.specs.declared.input.NodeInput.{NodeInput}
 use Rattle.murder_step.specs.declared.input.NodeInput.TheVariants.{Opened, Piece, Hung, From}
 use Rattle.murder_step.specs.declared.node.NodeState.TheVariants as state
 use Rattle.murder_core.specs.declared.world.World.{World}
-use Rattle.murder_core.specs.World.{front_at, home_at, master_at, taken_from_link}
+use Rattle.murder_core.specs.World.{front_at, home_at, taken_from_link}
 use Rattle.murder_core.proofs.Connections.KeepsLaw.{AreNodesOf, FeedsHold, IsFedAt, KnowsBackends}
 use Rattle.murder_core.proofs.Feeds.Backends.{SameBackends, each_kept, kept_still, knows_heard, knows_still}
 use Rattle.murder_core.proofs.Nodes.Carried.{is_made}

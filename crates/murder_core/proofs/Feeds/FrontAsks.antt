@@ -1,5 +1,5 @@
 -- The feeds after the master has taken a line of a frontend: its UPDATE, or a NOOP.
-use Rattle.std.proofs.Common.{◌≡◌, ◌≢◌, ℕ, ◌&&◌, not, nat_eq, Bool, true, false, cond, is_some, List, [], ◌∷◌, ◌++◌, map, Option, None, Some, refl, sym, ap, ◌∙◌, subst, append-nil, inl, inr}
+use Rattle.std.proofs.Common.{◌≡◌, ◌≢◌, ℕ, ◌&&◌, not, nat_eq, Bool, true, false, cond, is_some, List, [], ◌∷◌, ◌++◌, map, Option, None, Some, refl, sym, ap, ◌∙◌, subst, append-nil, inl}
 use Rattle.std.specs.List.{list_any, AllByRecursion}
 use Rattle.std.specs.Ordering.{nat_cmp}
 use Rattle.std.specs.Cmp.Lexicographic.{pointwise, slice_cmp}
@@ -31,7 +31,7 @@ use Rattle.many_links.proofs.FrontTable.{front_table}
 use Rattle.master_core.specs.declared.master.Master.{Master}
 use Rattle.master_core.specs.declared.reply.Reply.{Reply}
 use Rattle.master_core.specs.declared.sender.Sender.{Sender}
-use Rattle.master_core.specs.declared.sender.Sender.TheVariants.{Backend, Frontend}
+use Rattle.master_core.specs.declared.sender.Sender.TheVariants.{Frontend}
 use Rattle.master_core.specs.declared.streams.StreamStep.TheVariants as stream
 use Rattle.master_core.specs.Changes.{change_outs}
 use Rattle.master_core.specs.Linked.{let_out, node_says, sender_by, sender_of}
@@ -39,7 +39,7 @@ use Rattle.master_core.specs.Outside.{Stepped as Served}
 use Rattle.master_core.specs.Replies.{noop_reply, reply_to, update_reply}
 use Rattle.master_core.specs.Step.{Planned, answered, bad_step, command_step, line_by, line_step, replied, settled}
 use Rattle.master_core.specs.Streams.{is_stream, may_follow_update, stream_step}
-use Rattle.master_core.specs.Whose.{TellNobody, message_ask}
+use Rattle.master_core.specs.Whose.{TellNobody}
 use Rattle.master_core.proofs.UpdateLaw.{table_lines}
 use Rattle.master_core.proofs.WhoseLaw.{message_tells_nobody}
 use Rattle.mupdate_codec.specs.declared.command.MCommand.{MCommand}

@@ -1,5 +1,5 @@
 -- THE NODES, THE NAMES AND THE FEEDS AFTER WHAT COMES TO A NODE.
-use Rattle.std.proofs.Common.{◌≡◌, ◌≢◌, ℕ, true, false, List, [], ◌∷◌, ◌++◌, Option, None, Some, refl, sym, ap, ◌∙◌, subst}
+use Rattle.std.proofs.Common.{◌≡◌, ◌≢◌, ℕ, true, false, List, [], ◌∷◌, ◌++◌, Some, refl, sym, ◌∙◌, subst}
 use Rattle.back_links.specs.BackEvents.{IsFitting}
 use Rattle.back_links.specs.MasterEvents.{given_in}
 use Rattle.back_node.specs.declared.node.BackNode.{BackNode}
@@ -17,7 +17,7 @@ use Rattle.link_queue.specs.Links.{on_link}
 use Rattle.many_links.specs.HomeEvents.{IsStoreWith, is_served}
 use Rattle.many_links.specs.ManyHold.{ManyHold}
 use Rattle.many_links.specs.MasterEvents.{StoreTakes}
-use Rattle.std.proofs.Common.{◌⊎◌, inl, inr}
+use Rattle.std.proofs.Common.{inr}
 use Rattle.master_core.specs.declared.master.Master.{Master}
 use Rattle.master_core.specs.Linked.{node_says}
 use Rattle.master_core.specs.Outside.{Stepped as Served}

@@ -1,5 +1,5 @@
 -- What holds of the master, the backends and the one store holds after each step of a node.
-use Rattle.std.proofs.Common.{◌≡◌, ◌≢◌, ◌⊎◌, inl, inr, ℕ, nat_eq, true, false, List, ◌∷◌, ◌++◌, Option, None, Some, refl, sym, ap, subst, ◌∙◌}
+use Rattle.std.proofs.Common.{◌≡◌, ◌≢◌, ◌⊎◌, ℕ, nat_eq, true, false, List, ◌∷◌, ◌++◌, Some, refl, sym, ap, subst, ◌∙◌}
 use Rattle.std.specs.List.{list_any}
 use Rattle.std.specs.Cmp.Lexicographic.{pointwise}
 use Rattle.back_links.specs.BackEvents.{IsFitting}
@@ -14,14 +14,14 @@ use Rattle.link_msg.specs.declared.ask.FrontAsk.{FrontAsk}
 use Rattle.link_msg.specs.declared.message.LinkMsg.{LinkMsg}
 use Rattle.link_msg.specs.declared.message.LinkMsg.TheVariants.{Ask}
 use Rattle.link_queue.specs.Links.{Links, on_link, without_first}
-use Rattle.many_links.specs.FrontEvents.{AreAlike, IsFront}
+use Rattle.many_links.specs.FrontEvents.{IsFront}
 use Rattle.many_links.specs.HomeEvents.{IsStoreWith, is_served}
 use Rattle.many_links.specs.ManyHold.{ManyHold}
 use Rattle.many_links.specs.MasterEvents.{StoreTakes}
-use Rattle.many_links.specs.Murder.{Murder, after_front, after_home, after_master, master_does as murder_does, put_all, taken}
+use Rattle.many_links.specs.Murder.{Murder, after_front, after_home, after_master, put_all}
 use Rattle.many_links.proofs.FrontLaw.{alike_hold, outs_keep_many, passing_keeps_many}
 use Rattle.many_links.proofs.HomeLaw.{asks_keep_many, hears_keeps_many, serves_keeps_many}
-use Rattle.many_links.proofs.MasterLaw.{clients_keep_many, frontends_keep_many, ups_keep_many}
+use Rattle.many_links.proofs.MasterLaw.{clients_keep_many, frontends_keep_many}
 use Rattle.many_links.proofs.TakesLaw.{takes_keeps_many}
 use Rattle.master_core.specs.declared.master.Master.{Master}
 use Rattle.master_core.specs.Linked.{node_says}

@@ -1,11 +1,11 @@
 -- What is no step of a node leaves the names and the feeds: a step is counted, a client comes, a message is taken by nobody.
-use Rattle.std.proofs.Common.{◌≡◌, ◌≢◌, inr, ℕ, is_some, List, Option, None, Some, refl, sym, ap, ◌∙◌, subst}
+use Rattle.std.proofs.Common.{◌≡◌, ◌≢◌, inr, ℕ, is_some, List, None, Some, refl, sym, ap, ◌∙◌}
 use Rattle.std.specs.Ordering.{nat_cmp}
 use Rattle.std.specs.Cmp.Lexicographic.{slice_cmp}
 use Rattle.cluster_core.specs.World.{master_of}
 use Rattle.front_node.specs.declared.front.Front.{Front}
 use Rattle.link_msg.specs.declared.message.LinkMsg.{LinkMsg}
-use Rattle.link_queue.specs.Links.{Links, on_link, without_first}
+use Rattle.link_queue.specs.Links.{Links, on_link}
 use Rattle.many_links.specs.ManyHold.{ManyHold}
 use Rattle.many_links.proofs.Carried.{taken_else}
 use Rattle.many_links.proofs.FrontLaw.{passing_keeps_many}

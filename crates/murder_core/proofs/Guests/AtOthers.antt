@@ -9,7 +9,6 @@ use Rattle.back_node.specs.declared.node.BackNode.{BackNode}
 use Rattle.cluster_core.specs.Headline.OneNode.{node_of}
 use Rattle.cluster_core.specs.World.{master_of}
 use Rattle.cluster_core.specs.declared.world.Client.{Client}
-use Rattle.front_node.specs.declared.front.Front.{Front}
 use Rattle.guest_links.specs.Guests.{Guest}
 use Rattle.guest_links.specs.Outputs.{given_by as given_out}
 use Rattle.master_core.specs.declared.master.Master.{Master}

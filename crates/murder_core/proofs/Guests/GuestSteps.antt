@@ -9,7 +9,7 @@ use Rattle.cluster_core.specs.World.{master_of}
 use Rattle.cluster_core.specs.declared.world.Client.{Client}
 use Rattle.feed_links.specs.Spelled.{CanBeTold}
 use Rattle.guest_links.specs.Guests.{Guest, arrived}
-use Rattle.guest_links.specs.Happenings.{Happening, connects, first_seen, leaves, step_of}
+use Rattle.guest_links.specs.Happenings.{Happening, connects, first_seen, step_of}
 use Rattle.guest_links.specs.Served.{HasWatchers, IsNoGuest, IsSeen}
 use Rattle.guest_links.proofs.Numbers.{other_number, same_number}
 use Rattle.guest_links.proofs.ServedLaw.{next_seen}

@@ -1,6 +1,6 @@
 -- WHAT EVERY WORLD OF A RUN HOLDS beside the law: whom a master tells of changes is connected to it, a master sends itself nothing, and nothing comes from
 -- where no node is. A step of a node keeps it.
-use Rattle.std.proofs.Common.{◌≡◌, ◌≢◌, ◌⊎◌, inl, inr, ℕ, Bool, true, false, List, [], ◌∷◌, ◌++◌, Option, None, Some, refl, sym, ◌∙◌, ap, subst, append-nil}
+use Rattle.std.proofs.Common.{◌≡◌, ◌≢◌, ℕ, List, [], ◌∷◌, ◌++◌, Option, None, Some, refl, sym, ◌∙◌, ap, subst}
 use Rattle.std.proofs.Math.Logic.{⊎_elim}
 use Rattle.std.proofs.lemmas.Bool.{cases_eq}
 use Rattle.std.specs.Ordering.{nat_cmp}
@@ -11,7 +11,6 @@ use Rattle.link_msg.specs.declared.message.LinkMsg.{LinkMsg}
 use Rattle.link_msg.specs.declared.out.Out.{Out}
 use Rattle.link_msg.specs.declared.out.Out.TheVariants.{Client as to_client, Close, Link as to_node, Mark as mark, Told as tell}
 use Rattle.link_queue.specs.Links.{on_link}
-use Rattle.many_links.specs.Murder.{put_all}
 use Rattle.many_links.proofs.Carried.{puts_else, puts_own}
 use Rattle.master_core.specs.declared.master.Master.{Master}
 use Rattle.mur_base.specs.Map.{value_at, with_value}
@@ -19,7 +18,7 @@ use Rattle.mur_base.proofs.MapLaws.{names_apart, numbers_apart, same_or_other, v
 use Rattle.murder_step.specs.declared.node.NodeState.{NodeState}
 use Rattle.murder_step.specs.NodeStep.{as_master}
 use Rattle.murder_core.specs.declared.world.World.{World}
-use Rattle.murder_core.specs.World.{client_at, master_at, node_at}
+use Rattle.murder_core.specs.World.{master_at, node_at}
 use Rattle.murder_core.proofs.Nodes.Carried.{given_all, given_by, given_out, is_made, made}
 use Rattle.murder_core.proofs.Nodes.Comes.{made_here, made_other}
 use Rattle.murder_core.proofs.Points.Outside.{AreThey, IsIts, they_keep}

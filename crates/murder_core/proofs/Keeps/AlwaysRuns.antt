@@ -1,5 +1,5 @@
 -- Each world of a run holds what every world of a run holds: the first one does, and each event keeps it.
-use Rattle.std.proofs.Common.{◌≡◌, ◌≢◌, ◌⊎◌, inl, inr, ℕ, Bool, true, false, cond, List, [], ◌∷◌, Option, None, Some, refl, sym, ◌∙◌, ap, subst}
+use Rattle.std.proofs.Common.{◌≡◌, ◌≢◌, inl, inr, ℕ, Bool, true, false, cond, List, [], ◌∷◌, Option, None, Some, refl, sym, ◌∙◌, ap, subst}
 use Rattle.std.specs.Prelude.{drop}
 use Rattle.std.proofs.Math.Logic.{⊎_elim}
 use Rattle.std.specs.Ordering.{nat_cmp}
@@ -12,7 +12,7 @@ use Rattle.link_queue.specs.Links.{Links, on_link, same_link, without_first}
 use Rattle.link_queue.proofs.Wires.{on_link-taken}
 use Rattle.master_core.specs.declared.master.Master.{Master}
 use Rattle.master_core.specs.Boot.{booted}
-use Rattle.mur_base.specs.Map.{value_at, with_entry}
+use Rattle.mur_base.specs.Map.{value_at}
 use Rattle.mur_base.proofs.MapLaws.{names_apart, numbers_apart, same_or_other, value_at-with_entry, value_at-with_entry-other}
 use Rattle.mur_config.specs.declared.config.Config.{Config}
 use Rattle.mur_config.specs.declared.node.Kind.{Kind}
@@ -20,10 +20,7 @@ use Rattle.mur_config.specs.declared.node.Kind.TheVariants.{Master as master_kin
 use Rattle.mur_config.specs.declared.node.Link.{Link}
 use Rattle.mur_config.specs.declared.node.Node.{Node}
 use Rattle.mur_config.specs.Nodes.{links_of}
-use Rattle.murder_step.specs.declared.input.NodeInput.{NodeInput}
 use Rattle.murder_step.specs.declared.input.NodeInput.TheVariants.{Opened, Piece, Hung, From}
-use Rattle.murder_step.specs.declared.node.NodeState.{NodeState}
-use Rattle.murder_step.specs.declared.node.NodeState.TheVariants as state
 use Rattle.murder_step.specs.NodeStep.{as_master}
 use Rattle.link_msg.specs.declared.message.LinkMsg.TheVariants.{Up}
 use Rattle.node_record.specs.Table.{empty_table}
@@ -31,11 +28,11 @@ use Rattle.schedule_text.specs.declared.event.Event.{Event}
 use Rattle.schedule_text.specs.declared.event.Event.TheVariants.{Open, Data, Hang, Deliver, Cut, Join, Crash, Arm, Start, Flow, Heal}
 use Rattle.murder_core.specs.declared.world.World.{World}
 use Rattle.murder_core.specs.Flow.{run_steps}
-use Rattle.murder_core.specs.World.{client_at, client_does, deliver_first, first_state, master_at, no_world, node_at, opens, start, stepped, steps_by, taken_from_link}
+use Rattle.murder_core.specs.World.{client_at, client_does, deliver_first, first_state, master_at, no_world, opens, start, stepped, steps_by, taken_from_link}
 use Rattle.murder_core.specs.World.{takes, told_up, with_client, with_node, with_nodes, with_ups}
 use Rattle.murder_core.proofs.Points.Outside.{AreThey, IsIts, they_keep}
-use Rattle.murder_core.proofs.Keeps.Always.{HoldsAlways, IsMasterOf}
-use Rattle.murder_core.proofs.Keeps.AlwaysSteps.{InputFits, comes_holds}
+use Rattle.murder_core.proofs.Keeps.Always.{HoldsAlways}
+use Rattle.murder_core.proofs.Keeps.AlwaysSteps.{comes_holds}
 
 -- ---- a message is taken off a link
 

@@ -1,9 +1,7 @@
 -- What comes to a node keeps what every world of a run holds, and so does each event.
-use Rattle.std.proofs.Common.{◌≡◌, ◌≢◌, ◌⊎◌, inl, inr, ℕ, Bool, true, false, List, [], ◌∷◌, ◌++◌, Option, None, Some, refl, sym, ◌∙◌, ap, subst}
-use Rattle.std.proofs.Math.Logic.{⊎_elim}
+use Rattle.std.proofs.Common.{◌≡◌, ◌≢◌, ◌⊎◌, inl, inr, ℕ, Bool, true, false, List, [], Option, None, Some, refl, sym, ◌∙◌, ap, subst}
 use Rattle.std.specs.Ordering.{nat_cmp}
 use Rattle.std.specs.Cmp.Lexicographic.{slice_cmp}
-use Rattle.cluster_core.specs.declared.world.Client.{Client}
 use Rattle.feed_links.specs.Lines.{messages_to, stream_of}
 use Rattle.feed_links.proofs.Begun.{others_leave}
 use Rattle.feed_links.proofs.FeedLaw.{no_message, other_sender}
@@ -12,8 +10,6 @@ use Rattle.front_node.specs.declared.front.Front.{Front}
 use Rattle.back_node.specs.declared.node.BackNode.{BackNode}
 use Rattle.link_msg.specs.declared.message.LinkMsg.{LinkMsg}
 use Rattle.link_msg.specs.declared.message.LinkMsg.TheVariants.{Up, End, Line, Ask, Answer}
-use Rattle.link_msg.specs.declared.out.Out.{Out}
-use Rattle.link_queue.specs.Links.{on_link}
 use Rattle.master_core.specs.declared.master.Master.{Master}
 use Rattle.master_core.specs.declared.sender.Sender.TheVariants as sender
 use Rattle.master_core.specs.Linked.{node_says, sender_by, sender_of}
@@ -28,9 +24,9 @@ use Rattle.murder_step.specs.declared.node.NodeState.TheVariants as state
 use Rattle.murder_step.specs.NodeStep.{as_back, as_front, as_master}
 use Rattle.murder_core.specs.declared.world.World.{World}
 use Rattle.murder_core.specs.World.{comes, master_at, node_at}
-use Rattle.murder_core.proofs.Nodes.Comes.{front_comes, front_does, home_comes, home_does, master_comes, master_does, none_comes, with_front, with_home, with_master}
+use Rattle.murder_core.proofs.Nodes.Comes.{front_comes, front_does, home_comes, home_does, master_comes, master_does, none_comes}
 use Rattle.murder_core.proofs.Points.Outside.{AreThey, IsIts, says_watched}
-use Rattle.murder_core.proofs.Keeps.Always.{HoldsAlways, IsWell, IsWellStep, made_holds}
+use Rattle.murder_core.proofs.Keeps.Always.{HoldsAlways, IsWell, made_holds}
 use Rattle.murder_core.proofs.Keeps.Watchers.{bytes_watch, connects_watch, leaves_watch}
 
 -- a client that does something is connected to the node, and a node that says something to a master is another one

@@ -1,5 +1,5 @@
 -- EVERY EVENT OF A RUN KEEPS THE LAW.
-use Rattle.std.proofs.Common.{◌≡◌, ◌≢◌, inl, inr, ℕ, List, [], ◌∷◌, ◌++◌, Option, None, Some, refl, sym, ◌∙◌, ap}
+use Rattle.std.proofs.Common.{◌≡◌, ◌≢◌, inl, inr, ℕ, List, [], ◌∷◌, Option, None, Some, refl, sym, ◌∙◌, ap}
 use Rattle.back_node.specs.declared.node.BackNode.{BackNode}
 use Rattle.cluster_core.specs.World.{master_of}
 use Rattle.front_node.specs.declared.front.Front.{Front}
@@ -19,11 +19,11 @@ use Rattle.murder_step.specs.declared.node.NodeState.TheVariants as state
 use Rattle.murder_step.specs.NodeStep.{as_back, as_front, as_master}
 use Rattle.murder_core.specs.declared.world.World.{World}
 use Rattle.murder_core.specs.Flow.{run_steps}
-use Rattle.murder_core.specs.World.{home_at, master_at, node_at, start}
+use Rattle.murder_core.specs.World.{home_at, node_at, start}
 use Rattle.murder_core.proofs.Answers.AnswerComes.{NamesBackend}
 use Rattle.murder_core.proofs.Answers.FrontTakes.{MessageNamesBackend}
 use Rattle.murder_core.proofs.Connections.KeepsLaw.{KeepsLaw}
-use Rattle.murder_core.proofs.OneServer.AnyStep.{AnyStepKeeps, HoldsBehindAll, each_keeps}
+use Rattle.murder_core.proofs.OneServer.AnyStep.{AnyStepKeeps, each_keeps}
 use Rattle.murder_core.proofs.OneServer.EachStep.{EachKeeps}
 use Rattle.murder_core.proofs.Start.StartLaw.{start_keeps}
 use Rattle.murder_core.proofs.Alone.NeverMoved.{none_moved}

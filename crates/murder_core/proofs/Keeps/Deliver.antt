@@ -1,5 +1,5 @@
 -- A MESSAGE IS DELIVERED, whoever takes it: the law is kept, where the world holds what stands beside the law.
-use Rattle.std.proofs.Common.{◌≡◌, ℕ, List, [], ◌∷◌, Option, None, Some, refl, sym, ◌∙◌, ap, subst}
+use Rattle.std.proofs.Common.{◌≡◌, ℕ, List, ◌∷◌, Option, None, Some, refl, sym, ◌∙◌, ap, subst}
 use Rattle.back_node.specs.declared.node.BackNode.{BackNode}
 use Rattle.cluster_core.specs.World.{master_of}
 use Rattle.front_node.specs.declared.front.Front.{Front}

@@ -1,5 +1,5 @@
 -- EVERY EVENT KEEPS THE LAW, where the world holds what stands beside the law.
-use Rattle.std.proofs.Common.{◌≡◌, ℕ, true, false, List, [], ◌∷◌, refl, sym, ◌∙◌, ap, subst}
+use Rattle.std.proofs.Common.{◌≡◌, ℕ, true, false, List, [], ◌∷◌, refl, sym, subst}
 use Rattle.cluster_core.specs.Heard.{hears}
 use Rattle.imap_talk.specs.Heard.{Heard, nobody, elsewhere, client}
 use Rattle.link_msg.specs.declared.message.LinkMsg.{LinkMsg}

@@ -1,17 +1,15 @@
 -- Where each client sent less than 2^32 bytes, the numbers of its commands have 64 bits, and there are numbers left for what waits.
-use Rattle.std.proofs.Common.{◌≡◌, ℕ, ◌+◌, ◌≤◌, ◌<◌, ◌^◌, Bool, true, false, List, [], ◌∷◌, ◌++◌, length, Option, None, Some, refl, sym, ◌∙◌, ap, subst}
+use Rattle.std.proofs.Common.{◌≡◌, ℕ, ◌+◌, ◌≤◌, ◌<◌, ◌^◌, Bool, true, false, List, [], ◌∷◌, length, Option, None, Some, refl, sym, ◌∙◌, ap, subst}
 use Rattle.std.proofs.Common.{arith, length-append}
 use Rattle.cluster_core.specs.World.{setting_of}
 use Rattle.cluster_core.specs.declared.world.Client.{Client}
 use Rattle.front_core.proofs.OneConnection.Readings.{inputs_in}
 use Rattle.front_node.specs.declared.connection.Connection.{Connection}
 use Rattle.front_node.specs.declared.front.Front.{Front}
-use Rattle.front_node.specs.Front.{connection_at}
 use Rattle.imap_talk.specs.Heard.{Heard, client, frames_heard}
 use Rattle.imap_talk.specs.Inputs.{requests_in}
 use Rattle.imap_talk.specs.declared.inputs.Input.{Input}
 use Rattle.imap_talk.specs.declared.inputs.Input.TheVariants.{Asks}
-use Rattle.imap_talk.proofs.InputLaws.{requests-append}
 use Rattle.imap_talk.proofs.RequestsOf.{answered_lengths, requests_of}
 use Rattle.imap_types.specs.declared.command.Tag.{Tag}
 use Rattle.imap_types.specs.declared.request.Answer.{Answer}
@@ -19,7 +17,6 @@ use Rattle.imap_types.specs.declared.request.Request.{Request}
 use Rattle.mark_history.proofs.Tellings.{has_tellings}
 use Rattle.mur_config.specs.declared.config.Config.{Config}
 use Rattle.mur_model.specs.declared.session.Sess.{Sess}
-use Rattle.mur_model.specs.declared.setting.Setting.{Setting}
 use Rattle.point_links.specs.Commands.{ClientCommand}
 use Rattle.route_links.specs.Answered.{IsNumbered}
 use Rattle.imap_wire.specs.Frames.{begun}
@@ -28,7 +25,7 @@ use Rattle.murder_core.specs.World.{client_at, front_at}
 use Rattle.murder_core.proofs.Commands.Knows.{Knows}
 use Rattle.murder_core.proofs.Commands.Knows.Knows.{is_decided, undecided}
 use Rattle.murder_core.proofs.Commands.Place.{Place}
-use Rattle.murder_core.proofs.Commands.Standing.{Fixed, IsLeft, Stands, Waiting, next_id}
+use Rattle.murder_core.proofs.Commands.Standing.{Fixed, IsLeft, Stands, next_id}
 use Rattle.murder_core.proofs.Commands.Standing.IsLeft.{left_waiting, nothing}
 use Rattle.murder_core.proofs.Commands.Standing.Stands.{faulted, finished, reads, waits}
 use Rattle.murder_core.proofs.Connections.BytesCome.{bytes_many, inputs_many, requests_few}

@@ -1,9 +1,9 @@
 -- WHAT COMES TO A FRONTEND KEEPS THE LAW, where a server that an answer names is a backend.
-use Rattle.std.proofs.Common.{◌≡◌, ◌≢◌, ℕ, ◌<◌, ◌^◌, Bool, true, false, is_some, List, [], ◌∷◌, length, Option, None, Some, refl, sym, ◌∙◌, ap, subst}
+use Rattle.std.proofs.Common.{◌≡◌, ◌≢◌, ℕ, ◌<◌, ◌^◌, Bool, true, false, is_some, List, ◌∷◌, length, Option, Some, refl, sym, ◌∙◌, ap, subst}
 use Rattle.std.proofs.Math.Logic.{⊎_elim}
 use Rattle.ask_routes.specs.Barrier.{barrier_answered}
 use Rattle.back_node.specs.declared.node.BackNode.{BackNode}
-use Rattle.cluster_core.specs.World.{master_of, setting_of}
+use Rattle.cluster_core.specs.World.{master_of}
 use Rattle.feed_links.specs.Lines.{messages_to}
 use Rattle.feed_links.specs.OneFeed.{AreLines, AreNoops, IsLine}
 use Rattle.front_node.specs.declared.connection.Connection.{Connection}
@@ -36,7 +36,7 @@ use Rattle.murder_core.proofs.Places.FrontFirst.{about_ok, answer_tells, none_co
 use Rattle.murder_core.proofs.Places.Stays.{same_name_or}
 use Rattle.murder_core.proofs.Answers.AnswerComes.{NamesBackend}
 use Rattle.murder_core.proofs.Answers.FrontTakes.{MessageNamesBackend, front_takes_keep}
-use Rattle.murder_core.proofs.Answers.Keeps.{IsTakenBy, frontend_of}
+use Rattle.murder_core.proofs.Answers.Keeps.{frontend_of}
 use Rattle.murder_core.proofs.Answers.OtherMessages.{idles}
 use Rattle.murder_core.proofs.Keeps.Numbers.{open_has_room}
 use Rattle.murder_core.specs.Numbers.{HeardFits, NumbersFit}

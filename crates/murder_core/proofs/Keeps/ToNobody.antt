@@ -1,5 +1,5 @@
 -- WHAT COMES TO A NODE THAT ISN'T THERE KEEPS THE LAW: it is lost.
-use Rattle.std.proofs.Common.{◌≡◌, ◌≢◌, ℕ, List, ◌∷◌, Option, None, Some, refl, sym, ◌∙◌, ap, subst, arith}
+use Rattle.std.proofs.Common.{◌≡◌, ◌≢◌, ℕ, List, ◌∷◌, None, Some, refl, sym, ◌∙◌, ap, subst, arith}
 use Rattle.cluster_core.specs.World.{master_of}
 use Rattle.front_node.specs.declared.front.Front.{Front}
 use Rattle.imap_talk.specs.Heard.{Heard}
@@ -7,14 +7,12 @@ use Rattle.link_msg.specs.declared.message.LinkMsg.{LinkMsg}
 use Rattle.link_queue.specs.Links.{on_link}
 use Rattle.many_links.specs.Murder.{Murder}
 use Rattle.mark_history.specs.Marked.{talk_told}
-use Rattle.mur_base.specs.declared.point.AskId.{AskId}
 use Rattle.mur_config.specs.declared.config.Config.{Config}
 use Rattle.murder_step.specs.NodeStep.{as_back, as_front, as_master}
 use Rattle.murder_step.specs.declared.input.NodeInput.TheVariants.{From}
 use Rattle.murder_core.specs.declared.world.World.{World}
 use Rattle.murder_core.specs.World.{comes, front_at, home_at, node_at, taken_from_link}
 use Rattle.murder_core.proofs.Commands.InPlace.{IsInNone, IsInPlace}
-use Rattle.murder_core.proofs.Commands.Place.{Place}
 use Rattle.murder_core.proofs.Commands.Standing.{Fixed}
 use Rattle.murder_core.proofs.Connections.ConnectionLaw.{IsInNoneOf, IsInPlaceOf}
 use Rattle.murder_core.proofs.Connections.KeepsLaw.{KeepsLaw, KeepsOn, fixed_of, murder_of}

@@ -1,6 +1,5 @@
 -- What a client from outside does at the master makes it a watcher, or makes it none; all others who watch are those who did.
-use Rattle.std.proofs.Common.{◌≡◌, ℕ, ◌&&◌, not, Bool, true, false, cond, List, [], ◌∷◌, ◌++◌, Option, None, Some, refl, sym, ap, subst}
-use Rattle.std.specs.Prelude.{All}
+use Rattle.std.proofs.Common.{ℕ, ◌&&◌, not, Bool, true, false, cond, List, [], ◌∷◌, ◌++◌, Option, None, Some}
 use Rattle.std.specs.declared.cmp.Ordering.{Ordering}
 use Rattle.std.specs.declared.cmp.Ordering.TheVariants.{Less, Equal, Greater}
 use Rattle.std.specs.List.{fold}
@@ -10,7 +9,6 @@ use Rattle.master_core.specs.declared.master.Master.{Master}
 use Rattle.master_core.specs.declared.outside.Outside.{Outside}
 use Rattle.master_core.specs.declared.outside.Outside.TheVariants as outside
 use Rattle.master_core.specs.declared.reply.Reply.{Reply}
-use Rattle.master_core.specs.declared.sender.Sender.{Sender}
 use Rattle.master_core.specs.declared.sender.Sender.TheVariants as sender
 use Rattle.master_core.specs.declared.streams.StreamStep.{StreamStep}
 use Rattle.master_core.specs.declared.streams.StreamStep.TheVariants as stream

@@ -1,9 +1,8 @@
 -- What the outputs of a node change where no link is broken: the links by those to nodes, the clients by what is given to them, and the marks.
-use Rattle.std.proofs.Common.{◌≡◌, ◌≢◌, ℕ, Bool, false, if◌then◌else◌, List, [], ◌∷◌, ◌++◌, Option, None, Some, refl, sym, ap, ◌∙◌, append-nil, append_assoc}
+use Rattle.std.proofs.Common.{◌≡◌, ℕ, false, if◌then◌else◌, List, [], ◌∷◌, ◌++◌, Option, None, Some, refl, sym, ap, ◌∙◌, append-nil, append_assoc}
 use Rattle.std.specs.Ordering.{nat_cmp}
 use Rattle.std.specs.List.{flat_map}
 use Rattle.std.specs.Cmp.Lexicographic.{slice_cmp}
-use Rattle.std.proofs.Math.Logic.{⊎_elim}
 use Rattle.cluster_core.specs.declared.world.Client.{Client}
 use Rattle.link_msg.specs.declared.message.LinkMsg.{LinkMsg}
 use Rattle.link_msg.specs.declared.out.Out.{Out}
@@ -17,7 +16,7 @@ use Rattle.mur_base.specs.Map.{value_at, with_value}
 use Rattle.murder_step.specs.declared.node.NodeState.{NodeState}
 use Rattle.murder_step.specs.NodeStep.{Acted}
 use Rattle.murder_core.specs.declared.world.World.{World}
-use Rattle.murder_core.specs.World.{acts, carry, carry_all, client_at, given_more, is_lost, node_at, not_lost, with_state}
+use Rattle.murder_core.specs.World.{acts, carry, carry_all, client_at, given_more, is_lost, not_lost, with_state}
 
 -- ---- nothing is lost
 

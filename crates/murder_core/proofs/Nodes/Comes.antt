@@ -8,10 +8,8 @@ use Rattle.back_node.specs.Acted.{BackActed}
 use Rattle.back_node.specs.Takes.{node_takes as home_step}
 use Rattle.front_node.specs.declared.front.Front.{Front}
 use Rattle.front_node.specs.Front.{Stepped, connect, bytes_in, hang, deliver, still as front_still}
-use Rattle.link_msg.specs.declared.message.LinkMsg.{LinkMsg}
 use Rattle.link_msg.specs.declared.out.Out.{Out}
-use Rattle.link_queue.specs.Links.{Links}
-use Rattle.many_links.specs.Murder.{put_all, with_node}
+use Rattle.many_links.specs.Murder.{with_node}
 use Rattle.many_links.proofs.NodesLaw.{node_own, node_else}
 use Rattle.master_core.specs.declared.master.Master.{Master}
 use Rattle.master_core.specs.declared.sender.Sender.TheVariants.{Outside}
@@ -25,10 +23,10 @@ use Rattle.murder_step.specs.declared.input.NodeInput.TheVariants.{Opened, Piece
 use Rattle.murder_step.specs.declared.node.NodeState.{NodeState}
 use Rattle.murder_step.specs.declared.node.NodeState.TheVariants as state
 use Rattle.murder_step.specs.NodeStep.{as_front, as_back, as_master, front_takes, back_takes, master_takes, takes as node_takes}
-use Rattle.murder_step.proofs.NodeKinds.{front_is, back_is, master_is, front_no_back, back_no_front, a_front, a_back, no_back, no_front}
+use Rattle.murder_step.proofs.NodeKinds.{front_is, back_is, master_is, a_front, a_back, no_back, no_front}
 use Rattle.murder_core.specs.declared.world.World.{World}
-use Rattle.murder_core.specs.World.{carry_all, comes, comes_to, front_at, home_at, master_at, node_at, with_state}
-use Rattle.murder_core.proofs.Nodes.Carried.{IsMade, acts_whole, is_made, made}
+use Rattle.murder_core.specs.World.{comes, comes_to, front_at, home_at, master_at, node_at}
+use Rattle.murder_core.proofs.Nodes.Carried.{acts_whole, is_made, made}
 
 -- a client does it
 abbrev pub IsOfClient : NodeInput → Type 0

@@ -11,8 +11,8 @@ use Rattle.front_node.specs.declared.connection.Connection.{Connection}
 use Rattle.front_node.specs.declared.connection.Stage.{Stage}
 use Rattle.front_node.specs.declared.connection.Stage.TheVariants.{Reading, Waits, Ended}
 use Rattle.front_node.specs.declared.front.Front.{Front}
-use Rattle.front_node.specs.Front.{Stepped, answer_at, answer_from, bytes_by, bytes_in, connect, connect_at, connection_at, deliver, front_bytes_at, front_hang_at, hang}
-use Rattle.front_node.specs.Front.{hearing, line_by, line_from, ok_at, still, up_from, waits_for}
+use Rattle.front_node.specs.Front.{answer_at, answer_from, bytes_by, bytes_in, connect, connect_at, connection_at, deliver, front_bytes_at, front_hang_at, hang}
+use Rattle.front_node.specs.Front.{line_by, line_from, ok_at, up_from, waits_for}
 use Rattle.link_msg.specs.declared.answer.BackAnswer.{BackAnswer}
 use Rattle.link_msg.specs.declared.message.LinkMsg.{LinkMsg}
 use Rattle.link_msg.specs.declared.message.LinkMsg.TheVariants.{Up, End, Line, Ask, Answer}

@@ -1,5 +1,5 @@
 -- The nodes stay what they are in each step of a frontend, of a backend and of the master.
-use Rattle.std.proofs.Common.{◌≡◌, ◌≢◌, ℕ, nat_eq, Bool, true, false, is_some, List, Option, None, Some, refl, sym, ap, subst, ◌∙◌}
+use Rattle.std.proofs.Common.{◌≡◌, ◌≢◌, ℕ, nat_eq, Bool, true, false, is_some, List, None, Some, refl, sym, ap, subst, ◌∙◌}
 use Rattle.std.specs.List.{list_any}
 use Rattle.std.specs.Ordering.{nat_cmp}
 use Rattle.std.specs.Cmp.Lexicographic.{pointwise, slice_cmp}
@@ -10,7 +10,6 @@ use Rattle.back_node.specs.Acted.{BackActed}
 use Rattle.cluster_core.specs.World.{home_of, master_of}
 use Rattle.feed_links.proofs.BackendsStay.{says_backends}
 use Rattle.front_node.specs.declared.front.Front.{Front}
-use Rattle.front_node.specs.Front.{Stepped}
 use Rattle.feed_links.proofs.Steps.{StepIs, is_bad, is_taken, step_is}
 use Rattle.link_msg.specs.declared.message.LinkMsg.{LinkMsg}
 use Rattle.link_msg.specs.declared.message.LinkMsg.TheVariants.{Up, End, Line, Ask, Answer}
@@ -20,7 +19,6 @@ use Rattle.master_core.specs.declared.sender.Sender.TheVariants.{Backend, Fronte
 use Rattle.master_core.specs.declared.streams.StreamStep.{StreamStep}
 use Rattle.master_core.specs.declared.streams.StreamStep.TheVariants as stream
 use Rattle.master_core.specs.Linked.{node_says, sender_by, sender_of}
-use Rattle.master_core.specs.Outside.{Stepped as Served}
 use Rattle.master_core.specs.Replies.{reply_to}
 use Rattle.master_core.specs.Step.{Planned, bad_step, replied, settled}
 use Rattle.master_core.specs.Streams.{stream_step, streaming, without}
@@ -33,7 +31,7 @@ use Rattle.murder_step.specs.declared.input.NodeInput.{NodeInput}
 use Rattle.murder_step.specs.declared.input.NodeInput.TheVariants.{Opened, Piece, Hung, From}
 use Rattle.murder_step.specs.NodeStep.{as_back, as_front, as_master}
 use Rattle.murder_core.specs.declared.world.World.{World}
-use Rattle.murder_core.specs.World.{front_at, home_at, master_at, node_at}
+use Rattle.murder_core.specs.World.{front_at, home_at, node_at}
 use Rattle.murder_core.proofs.Connections.KeepsLaw.{AreNodesOf, IsFrontOf}
 use Rattle.murder_core.proofs.Nodes.Comes.{FrontMoved, HomeMoved, MasterMoved, front_does, front_moved, home_moved, master_does, master_moved, with_front, with_home, with_master}
 use Rattle.murder_core.proofs.Nodes.Known.{KeepsSelf, front_self}

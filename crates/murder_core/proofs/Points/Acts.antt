@@ -1,5 +1,5 @@
 -- What a step does for a command that has no reply: it carries it out, sees it, or leaves it; and what its new place tells then.
-use Rattle.std.proofs.Common.{◌≡◌, ◌≢◌, ℕ, ◌+◌, List, [], ◌∷◌, ◌++◌, length, Some, refl, sym, ◌∙◌, ap, subst}
+use Rattle.std.proofs.Common.{◌≡◌, ℕ, ◌+◌, List, [], ◌∷◌, ◌++◌, length, Some, refl, sym, ◌∙◌, ap, subst}
 use Rattle.imap_talk.proofs.AnswersEnd.{worked_ends}
 use Rattle.imap_types.specs.declared.command.Command.{Command}
 use Rattle.imap_types.specs.declared.command.Tag.{Tag}
@@ -7,7 +7,7 @@ use Rattle.imap_types.specs.declared.request.Answer.{Answer}
 use Rattle.imap_types.specs.declared.request.Request.TheVariants.{Command as a_command}
 use Rattle.link_msg.specs.declared.counts.Counts.{Counts}
 use Rattle.link_msg.specs.declared.counts.Counts.TheVariants.{IfAnswered}
-use Rattle.mark_history.specs.Marked.{AreMarked, CanAct, Tale, acting, done, open_ask, talk_told, with_list}
+use Rattle.mark_history.specs.Marked.{AreMarked, Tale, acting, done, open_ask, with_list}
 use Rattle.mark_history.specs.Marked.AreMarked.{carries_out, sees}
 use Rattle.mark_history.specs.declared.mark.Mark.{Mark}
 use Rattle.mark_history.specs.declared.mark.MarkKind.TheVariants.{Home}
@@ -20,7 +20,7 @@ use Rattle.mur_model.specs.declared.setting.Setting.{Setting}
 use Rattle.mur_model.specs.declared.store.Store.{Store}
 use Rattle.mur_model.specs.Act.{MayAct, MayWork, act_by, act_of, need_of, session_after, worked_at}
 use Rattle.mur_model.specs.Answer.{Answered, MayTake, answer_of}
-use Rattle.mur_model.specs.History.{Course, GoesOn, carried_out, numbered, with_session}
+use Rattle.mur_model.specs.History.{Course, GoesOn, carried_out, numbered}
 use Rattle.mur_model.specs.Left.{kept, store_after}
 use Rattle.mur_model.specs.Needed.{Mailbox, Work}
 use Rattle.mur_model.proofs.HistoryGrows.{item_more, same_lists}

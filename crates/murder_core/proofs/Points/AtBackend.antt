@@ -1,6 +1,6 @@
 -- A backend takes the ask of a CREATE, the master's response to the line of its flow, or anything else of the master: what its place tells then. No such step
 -- makes a mark, and the store does nothing.
-use Rattle.std.proofs.Common.{◌≡◌, ◌≢◌, ℕ, ◌&&◌, Bool, true, false, List, [], ◌∷◌, ◌++◌, Option, None, Some, refl, sym, ◌∙◌, ap, subst}
+use Rattle.std.proofs.Common.{◌≡◌, ◌≢◌, ℕ, ◌&&◌, Bool, false, List, [], ◌∷◌, Option, None, Some, sym, ◌∙◌, ap, subst}
 use Rattle.back_links.specs.BackEvents.{IsFitting, fits_by}
 use Rattle.back_links.specs.Written.{response_message}
 use Rattle.back_links.proofs.Queues.{first_of}

@@ -1,6 +1,6 @@
 -- The master takes the NOOP of a command that waits for its OK: where the mailbox is missing this is the command's point, and else the step only sees it. The
 -- OK will tell it by the table of this step, for whatever reason the NOOP was sent.
-use Rattle.std.proofs.Common.{◌≡◌, ◌≢◌, ◌⊎◌, inl, inr, ℕ, Bool, true, false, ◌&&◌, nat_eq, List, [], ◌∷◌, ◌++◌, Option, None, Some, refl, sym, ◌∙◌, ap, subst, arith}
+use Rattle.std.proofs.Common.{◌≡◌, ◌≢◌, ◌⊎◌, inl, inr, ℕ, true, ◌&&◌, nat_eq, List, [], ◌∷◌, ◌++◌, Option, None, Some, refl, sym, ◌∙◌, arith}
 use Rattle.std.proofs.lemmas.Bool.Decides.{nat_tests}
 use Rattle.ask_routes.specs.declared.next.Why.{Why}
 use Rattle.ask_routes.specs.declared.next.Why.TheVariants as why
@@ -11,8 +11,7 @@ use Rattle.link_msg.specs.declared.counts.Counts.TheVariants.{IfAnswered}
 use Rattle.link_msg.specs.declared.out.Out.TheVariants.{Link, Mark as mark}
 use Rattle.many_links.specs.Murder.{Murder, master_takes}
 use Rattle.many_links.specs.ManyHold.{ManyHold}
-use Rattle.mark_history.specs.History.{is_of}
-use Rattle.mark_history.specs.Marked.{Tale, last_from, last_of, said_by}
+use Rattle.mark_history.specs.Marked.{Tale, last_from, said_by}
 use Rattle.mark_history.specs.declared.mark.Mark.{Mark}
 use Rattle.mark_history.specs.declared.mark.MarkKind.{MarkKind}
 use Rattle.mark_history.specs.declared.mark.MarkKind.TheVariants.{Home}
@@ -24,13 +23,12 @@ use Rattle.name_links.specs.Serials.{Given}
 use Rattle.node_record.specs.declared.table.Record.{Record}
 use Rattle.node_record.specs.Table.{MailboxTable, record_at}
 use Rattle.point_links.specs.Barriers.{BarrierIs, IsMissing, NoopComes, NoopTaken, decided, is_asked, is_missing, is_refused}
-use Rattle.point_links.specs.Carried.{turn_at}
 use Rattle.point_links.specs.Commands.{ClientCommand}
 use Rattle.point_links.proofs.BarrierLaw.{each_barrier, missing_is_a_point}
 use Rattle.point_links.proofs.Works.{is_make}
 use Rattle.route_links.specs.Answered.{noop_of, ok_of}
 use Rattle.route_links.specs.Barriers.{Place as barrier}
-use Rattle.murder_core.proofs.Commands.Knows.{GoesOnAtOk, TellsAtOk, waiting_at}
+use Rattle.murder_core.proofs.Commands.Knows.{GoesOnAtOk, waiting_at}
 use Rattle.murder_core.proofs.Commands.Knows.GoesOnAtOk.{asks_on, is_refused as is_refused_at}
 use Rattle.murder_core.proofs.Commands.Place.{Place}
 use Rattle.murder_core.proofs.Commands.Place.{Place as place}

@@ -1,5 +1,5 @@
 -- A backend takes the ask of a command at a mailbox: where it has the name open this is the command's point, and else the step only sees it.
-use Rattle.std.proofs.Common.{◌≡◌, ℕ, true, false, List, [], ◌∷◌, refl, sym, ◌∙◌, ap, subst}
+use Rattle.std.proofs.Common.{◌≡◌, ℕ, true, false, List, [], ◌∷◌, refl, ap, subst}
 use Rattle.asking_core.specs.Answered.{answered}
 use Rattle.asking_core.specs.declared.waiting.At.{At}
 use Rattle.back_node.specs.declared.node.BackNode.{BackNode}
@@ -14,7 +14,6 @@ use Rattle.link_msg.specs.declared.counts.Counts.TheVariants.{IfAnswered}
 use Rattle.link_msg.specs.declared.message.LinkMsg.TheVariants.{Ask, Answer}
 use Rattle.link_msg.specs.declared.out.Out.{Out}
 use Rattle.link_msg.specs.declared.out.Out.TheVariants.{Link, Mark as mark}
-use Rattle.many_links.specs.Marks.{marks_in}
 use Rattle.many_links.specs.Murder.{Murder, home_takes}
 use Rattle.many_links.specs.ManyHold.{ManyHold}
 use Rattle.mark_history.specs.Marked.{Tale}
@@ -22,7 +21,7 @@ use Rattle.mark_history.specs.declared.mark.Mark.{Mark}
 use Rattle.mur_base.specs.declared.point.AskId.{AskId}
 use Rattle.mur_model.specs.declared.store.Store.{Store}
 use Rattle.name_links.specs.Serials.{Given}
-use Rattle.point_links.specs.AtHome.{AskComes, IsElsewhere, IsSentOn, IsServed, its_ask}
+use Rattle.point_links.specs.AtHome.{AskComes, IsServed, its_ask}
 use Rattle.point_links.specs.Carried.{turn_at}
 use Rattle.point_links.specs.Commands.{ClientCommand, told_turn}
 use Rattle.point_links.proofs.HomeLaw.{closed_sends_on, open_serves}

@@ -1,6 +1,6 @@
 -- The master takes the line of a CREATE's flow. ACTIVATE, or a RESERVE that is refused for good, is the CREATE's point; a RESERVE whose OK lets its backend go
 -- on, or that puts it off, isn't, and the step makes no mark for it.
-use Rattle.std.proofs.Common.{◌≡◌, ◌≢◌, ◌⊎◌, inl, inr, ℕ, ◌<◌, ◌-◌, ◌^◌, Bool, true, false, List, [], ◌∷◌, ◌++◌, filter, Option, None, Some, refl, sym, ◌∙◌, ap, subst}
+use Rattle.std.proofs.Common.{◌≡◌, ℕ, Bool, true, false, List, [], ◌∷◌, ◌++◌, filter, Option, None, Some, refl, sym, ◌∙◌, ap, subst}
 use Rattle.asking_core.specs.Answered.{answered}
 use Rattle.asking_core.specs.declared.waiting.At.{At}
 use Rattle.back_links.specs.MasterEvents.{given_in}
@@ -21,16 +21,15 @@ use Rattle.mark_history.specs.Marked.{Tale}
 use Rattle.mark_history.specs.declared.mark.Mark.{Mark}
 use Rattle.master_core.specs.declared.reply.Reply.{Reply}
 use Rattle.master_core.specs.Linked.{node_says}
-use Rattle.master_core.specs.Refusals.{is_active, is_full, is_reserved}
+use Rattle.master_core.specs.Refusals.{is_full}
 use Rattle.mupdate_codec.specs.declared.command.MResponse.{MResponse}
-use Rattle.mur_base.specs.declared.point.AskId.{AskId}
 use Rattle.mur_model.specs.declared.session.Turn.{Turn}
 use Rattle.mur_model.specs.declared.store.Store.{Store}
 use Rattle.mur_model.specs.Act.{work_on}
 use Rattle.mur_model.specs.Create.{create_on, make}
 use Rattle.mur_model.specs.Needed.{Make, Work}
 use Rattle.mur_model.specs.Store.{box_at, is_full as store_is_full}
-use Rattle.name_commands.specs.Moves.{ends, heard_move, is_sent}
+use Rattle.name_commands.specs.Moves.{ends, heard_move}
 use Rattle.name_commands.specs.MasterSteps.{flow_reply}
 use Rattle.name_commands.specs.Places.{answer_message}
 use Rattle.name_commands.specs.Places.{NamePlace as name_at}
@@ -41,10 +40,10 @@ use Rattle.name_flows.specs.declared.flow.Stage.{Stage}
 use Rattle.name_flows.specs.declared.flow.Stage.TheVariants.{Reserving, Making, Deactivating, Deleting}
 use Rattle.name_flows.specs.Running.{done}
 use Rattle.name_links.specs.Serials.{Given}
-use Rattle.node_record.specs.Table.{MailboxTable, record_at}
+use Rattle.node_record.specs.Table.{record_at}
 use Rattle.point_links.specs.Carried.{CarriesOut, turn_at}
 use Rattle.point_links.specs.Commands.{ClientCommand, told_turn}
-use Rattle.point_links.specs.Creates.{IsCreated, IsThere, LineComes, LineIsPoint}
+use Rattle.point_links.specs.Creates.{LineComes}
 use Rattle.point_links.proofs.CreateLaw.{activate_creates, activate_of_full, reserve_of_one_reserved, reserve_of_one_there}
 use Rattle.point_links.proofs.CreateLaw as law
 use Rattle.murder_core.proofs.Commands.Knows.{GoesOnAtResponse, IsFlowOf, TellsAtAnswer, is_of_create, waiting_at}
@@ -52,7 +51,7 @@ use Rattle.murder_core.proofs.Commands.Knows.GoesOnAtResponse.{puts_off, sends_o
 use Rattle.murder_core.proofs.Commands.Place.{Place}
 use Rattle.murder_core.proofs.Commands.Place.{Place as place}
 use Rattle.murder_core.proofs.Commands.Standing.{Fixed}
-use Rattle.murder_core.proofs.Nodes.Carried.{mark_made, marks_made}
+use Rattle.murder_core.proofs.Nodes.Carried.{marks_made}
 use Rattle.murder_core.proofs.Points.Acts.{IsCarriedOut, IsOpen, IsSeen, KnowsOf, carried_so, home_mark, known_so, seen_so}
 use Rattle.murder_core.proofs.Points.Marks.{line_marks_its}
 

@@ -1,5 +1,5 @@
 -- In which place the command of a message is: the message tells.
-use Rattle.std.proofs.Common.{◌≡◌, ℕ, List, Option, None, Some, refl, sym, ◌∙◌, ap}
+use Rattle.std.proofs.Common.{◌≡◌, ℕ, List, Some, ap}
 use Rattle.link_msg.specs.declared.answer.BackAnswer.{BackAnswer}
 use Rattle.link_msg.specs.declared.ask.FrontAsk.{FrontAsk}
 use Rattle.link_msg.specs.declared.message.LinkMsg.{LinkMsg}
@@ -8,12 +8,11 @@ use Rattle.link_queue.proofs.Placed.{Carried}
 use Rattle.mupdate_codec.specs.declared.command.MResponse.{MResponse}
 use Rattle.mur_base.specs.declared.home.Location.{Location}
 use Rattle.mur_base.specs.declared.point.AskId.{AskId}
-use Rattle.name_commands.specs.Places.{NamePlace, answer_message, flow_message}
+use Rattle.name_commands.specs.Places.{answer_message, flow_message}
 use Rattle.name_commands.specs.Places.{NamePlace as name_at}
 use Rattle.name_flows.specs.declared.flow.Flow.{Flow}
 use Rattle.node_record.specs.Table.{MailboxTable}
 use Rattle.route_links.specs.Answered.{noop_of, ok_of}
-use Rattle.route_links.specs.Barriers.{Place as Barrier}
 use Rattle.route_links.specs.Barriers.{Place as barrier}
 use Rattle.murder_core.proofs.Commands.Place.{Place, its_message}
 use Rattle.murder_core.proofs.Commands.Place.{Place as place}

@@ -1,5 +1,5 @@
 -- A backend takes the first message of a link: what that keeps of the tale, the marks, the one store and each connection.
-use Rattle.std.proofs.Common.{◌≡◌, ◌≢◌, ◌⊎◌, inl, inr, ℕ, ◌&&◌, true, false, List, [], ◌∷◌, ◌++◌, Option, None, Some, refl, sym, ◌∙◌, ap, subst, append-nil}
+use Rattle.std.proofs.Common.{◌≡◌, ◌≢◌, ◌⊎◌, inl, inr, ℕ, false, List, ◌∷◌, ◌++◌, Some, refl, sym, ◌∙◌, ap, subst, append-nil}
 use Rattle.std.proofs.Math.Logic.{⊎_elim}
 use Rattle.std.proofs.lemmas.Bool.{cases_eq}
 use Rattle.std.specs.Ordering.{nat_cmp}
@@ -7,8 +7,8 @@ use Rattle.std.specs.Cmp.Lexicographic.{slice_cmp}
 use Rattle.back_links.specs.BackEvents.{IsFitting}
 use Rattle.back_node.specs.declared.node.BackNode.{BackNode}
 use Rattle.back_node.specs.Takes.{node_takes}
-use Rattle.cluster_core.specs.World.{master_of, setting_of}
-use Rattle.front_core.proofs.OneConnection.Places.{About, about, about_command, of_connection, of_nobody}
+use Rattle.cluster_core.specs.World.{setting_of}
+use Rattle.front_core.proofs.OneConnection.Places.{About, about, of_connection, of_nobody}
 use Rattle.imap_talk.specs.Heard.{Heard}
 use Rattle.link_msg.specs.declared.message.LinkMsg.{LinkMsg}
 use Rattle.link_msg.specs.declared.message.LinkMsg.TheVariants.{Up, End, Line, Ask, Answer}
@@ -30,12 +30,12 @@ use Rattle.murder_core.specs.World.{client_at, front_at, home_at, taken_from_lin
 use Rattle.murder_core.proofs.Connections.ConnectionLaw.{MarksStay}
 use Rattle.murder_core.proofs.Connections.KeepsLaw.{ConnectionIs, KeepsLaw, fixed_of, murder_of}
 use Rattle.murder_core.proofs.Feeds.Many.{home_murder}
-use Rattle.murder_core.proofs.Nodes.Carried.{IsMade, is_made, marks_made}
+use Rattle.murder_core.proofs.Nodes.Carried.{IsMade, is_made}
 use Rattle.murder_core.proofs.Nodes.Comes.{home_moved, with_home}
 use Rattle.murder_core.proofs.Points.Marks.{asks_messages, backend_marks_none}
 use Rattle.murder_core.proofs.Points.OthersAtHome.{LeavesElse, home_step_is_others}
 use Rattle.murder_core.proofs.Points.Own.{OwnStep}
-use Rattle.murder_core.proofs.Points.OwnAtHome.{IsOwnAtHome, gives_none, home_step_is_own}
+use Rattle.murder_core.proofs.Points.OwnAtHome.{gives_none, home_step_is_own}
 use Rattle.murder_core.proofs.Points.Waits.{AskedFit}
 
 -- what a step of a node keeps of the law, but for the nodes and the feeds

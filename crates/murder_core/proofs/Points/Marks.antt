@@ -1,12 +1,11 @@
 -- Which marks a step makes. One of a backend makes none, but where it takes an ask for messages; one of the master makes that of the command whose line it takes.
-use Rattle.std.proofs.Common.{◌≡◌, ◌≢◌, ℕ, Bool, true, false, not, cond, List, [], ◌∷◌, ◌++◌, map, filter, Option, None, Some, refl, sym, ◌∙◌, ap, subst}
+use Rattle.std.proofs.Common.{◌≡◌, ℕ, Bool, true, false, not, cond, List, [], ◌∷◌, ◌++◌, map, filter, Option, None, Some, refl, sym, ◌∙◌, ap}
 use Rattle.std.proofs.lemmas.List.Concat.{flat_map-append}
 use Rattle.back_node.specs.declared.node.BackNode.{BackNode}
 use Rattle.back_node.specs.Node.{is_my_master}
 use Rattle.back_node.specs.Takes.{UpToEntry, answer_out, ask_by, line_by, line_out, name_ask, name_kind, node_takes, passed_over, taken_up, talks}
 use Rattle.back_node.proofs.AtHome.{done_by}
 use Rattle.link_msg.specs.declared.ask.FrontAsk.{FrontAsk}
-use Rattle.link_msg.specs.declared.counts.Counts.{Counts}
 use Rattle.link_msg.specs.declared.message.LinkMsg.{LinkMsg}
 use Rattle.link_msg.specs.declared.message.LinkMsg.TheVariants.{Up, End, Line, Ask, Answer}
 use Rattle.link_msg.specs.declared.out.Out.{Out}
@@ -19,9 +18,9 @@ use Rattle.mupdate_codec.specs.declared.command.MResponse.{MResponse}
 use Rattle.mupdate_codec.specs.declared.tag.Tag.{Tag}
 use Rattle.mupdate_codec.specs.Whole.{response_in}
 use Rattle.mur_base.specs.declared.point.AskId.{AskId}
-use Rattle.name_commands.specs.Whose.{Whose, is_command, is_own, is_own_message, is_own_out, its_command}
+use Rattle.name_commands.specs.Whose.{Whose, is_own, is_own_message, is_own_out, its_command}
 use Rattle.name_commands.proofs.Marks.{says_others}
-use Rattle.name_commands.proofs.Own.{kept, none_kept, passed}
+use Rattle.name_commands.proofs.Own.{kept, none_kept}
 use Rattle.name_flows.specs.declared.ask.AskKind.{AskKind}
 use Rattle.name_flows.specs.declared.ask.Told.{Told}
 use Rattle.name_flows.specs.Asked.{asked_step}

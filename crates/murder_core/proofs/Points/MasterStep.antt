@@ -1,5 +1,5 @@
 -- The master takes the first message of a link: what that keeps of the tale, the marks, the one store and each connection.
-use Rattle.std.proofs.Common.{◌≡◌, ◌≢◌, ◌⊎◌, inl, inr, ℕ, ◌+◌, Bool, true, false, is_some, nat_eq, List, [], ◌∷◌, ◌++◌, length, Option, None, Some, refl, sym, ◌∙◌, ap, subst, append-nil}
+use Rattle.std.proofs.Common.{◌≡◌, ◌≢◌, ℕ, Bool, true, false, is_some, nat_eq, List, ◌∷◌, ◌++◌, Option, None, Some, refl, sym, ◌∙◌, ap, subst, append-nil}
 use Rattle.std.proofs.Math.Logic.{⊎_elim}
 use Rattle.std.proofs.lemmas.Bool.{cases_eq}
 use Rattle.std.specs.List.{list_any}
@@ -12,13 +12,13 @@ use Rattle.front_core.proofs.OneConnection.Places.{About, about, about_command, 
 use Rattle.front_core.proofs.OneConnection.Readings.{inputs_in}
 use Rattle.front_node.specs.declared.connection.Connection.{Connection}
 use Rattle.front_node.specs.declared.front.Front.{Front}
-use Rattle.imap_talk.specs.Heard.{Heard, client}
+use Rattle.imap_talk.specs.Heard.{Heard}
 use Rattle.imap_wire.specs.Frames.{begun}
 use Rattle.link_msg.specs.declared.message.LinkMsg.{LinkMsg}
 use Rattle.link_msg.specs.declared.message.LinkMsg.TheVariants.{Up, End, Line, Ask, Answer}
 use Rattle.link_queue.specs.Links.{on_link, without_first}
 use Rattle.many_links.specs.ManyHold.{ManyHold}
-use Rattle.many_links.specs.MasterEvents.{IsDoneFor, IsOneCommand, StoreTakes, created, nothing, removed}
+use Rattle.many_links.specs.MasterEvents.{IsDoneFor, StoreTakes, created, nothing, removed}
 use Rattle.many_links.specs.Murder.{Murder, after_master, master_takes as murder_takes}
 use Rattle.many_links.proofs.MasterLaw.{frontends_keep_many}
 use Rattle.many_links.proofs.TakesLaw.{takes_keeps_many}
@@ -47,17 +47,16 @@ use Rattle.murder_core.proofs.Connections.ConnectionLaw.{IsInNoneOf, IsInPlaceOf
 use Rattle.murder_core.proofs.Connections.KeepsLaw.{ConnectionIs, IsAt, KeepsLaw, fixed_of, murder_of}
 use Rattle.murder_core.proofs.Connections.KeepsLaw.ConnectionIs.{is_nobody, is_elsewhere, is_open, is_closed}
 use Rattle.murder_core.proofs.Feeds.Many.{master_murder}
-use Rattle.murder_core.proofs.Nodes.Carried.{IsMade, is_made, marks_made}
+use Rattle.murder_core.proofs.Nodes.Carried.{IsMade, is_made}
 use Rattle.murder_core.proofs.Nodes.Comes.{master_moved, with_master}
 use Rattle.murder_core.proofs.Steps.MasterOthers.{lines_leave, lines_leave_none}
 use Rattle.murder_core.proofs.Steps.MasterSteps.{IsInBehind, IsNowhereBehind, MasterTakes}
-use Rattle.murder_core.proofs.Steps.Murders.{IsFront}
-use Rattle.murder_core.proofs.Steps.Worlds.{in_murder, in_world_behind, is_fed_front, is_front, master_takes, none_in_murder, none_in_world_behind}
+use Rattle.murder_core.proofs.Steps.Worlds.{in_murder, in_world_behind, is_fed_front, master_takes, none_in_murder, none_in_world_behind}
 use Rattle.murder_core.proofs.Points.Marks.{nobodys_mark_none}
 use Rattle.murder_core.proofs.Points.OthersAtHome.{LeavesElse, gone_stays, standing_stays, untold_stays}
 use Rattle.murder_core.proofs.Points.Own.{OwnStep}
 use Rattle.murder_core.proofs.Points.OwnAtMaster.{master_step_is_own}
-use Rattle.murder_core.proofs.Points.Waits.{AskedFit, TellsPlace, WhoWaits, closed_waits, first_tells, open_waits}
+use Rattle.murder_core.proofs.Points.Waits.{AskedFit, WhoWaits, closed_waits, first_tells, open_waits}
 
 -- what the step gives a client: nothing, or it is connected to the master
 pub data ClientThen (config : Config) (world next : World) (conn : ℕ) : Type 0 where

@@ -1,8 +1,7 @@
 -- What the place of a CREATE tells after its backend took the ask, the end of a resync, or the response to the line of its flow: it isn't its point.
-use Rattle.std.proofs.Common.{◌≡◌, ◌≢◌, ◌⊎◌, inl, inr, ℕ, Bool, true, false, not, List, [], ◌∷◌, ◌++◌, Option, None, Some, refl, sym, ◌∙◌, ap, subst}
+use Rattle.std.proofs.Common.{◌≡◌, ℕ, Bool, true, false, not, List, [], ◌∷◌, Option, None, Some, refl, sym, ◌∙◌, ap, subst}
 use Rattle.imap_types.specs.declared.command.Tag.{Tag}
 use Rattle.imap_types.specs.declared.request.Answer.{Answer}
-use Rattle.link_msg.specs.declared.answer.AnswerBody.{AnswerBody}
 use Rattle.link_msg.specs.declared.answer.AnswerBody.TheVariants.{NotNow, Unreached}
 use Rattle.mupdate_codec.specs.declared.command.MResponse.{MResponse}
 use Rattle.mupdate_codec.specs.declared.command.MResponse.TheVariants as response
@@ -10,7 +9,7 @@ use Rattle.mur_base.specs.declared.home.Location.{Location}
 use Rattle.mur_model.specs.declared.session.Sess.{Sess}
 use Rattle.mur_model.specs.declared.session.Turn.{Turn}
 use Rattle.mur_model.specs.Needed.{Make}
-use Rattle.name_commands.specs.Moves.{Move, asked_move, asked_move_by, ends, heard_move, heard_move_by, is_answered, is_kept, is_sent, reserved_move, tested_move}
+use Rattle.name_commands.specs.Moves.{Move, asked_move, asked_move_by, heard_move, heard_move_by, is_answered, is_kept, is_sent, reserved_move, tested_move}
 use Rattle.name_commands.specs.Places.{NamePlace as name_at}
 use Rattle.name_flows.specs.declared.ask.AskKind.TheVariants.{Create}
 use Rattle.name_flows.specs.declared.ask.NameAsk.{NameAsk}

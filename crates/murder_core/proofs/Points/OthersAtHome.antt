@@ -1,22 +1,19 @@
 -- A backend takes a message that isn't about a connection: the connection's command stays where it is, or the message ends the resync for which it waits, and
 -- it is tested.
-use Rattle.std.proofs.Common.{◌≡◌, ◌≢◌, ◌⊎◌, inl, inr, ℕ, ◌+◌, true, false, List, [], ◌∷◌, length, Option, None, Some, refl, sym, ◌∙◌, ap, subst}
+use Rattle.std.proofs.Common.{◌≡◌, ◌≢◌, ◌⊎◌, inl, inr, ℕ, ◌+◌, true, false, List, ◌∷◌, length, Option, Some, sym, ◌∙◌, ap, subst}
 use Rattle.std.specs.Ordering.{nat_cmp}
 use Rattle.std.specs.Cmp.Lexicographic.{slice_cmp}
 use Rattle.asking_core.specs.declared.waiting.At.{At}
 use Rattle.back_links.specs.BackEvents.{IsFitting}
 use Rattle.back_node.specs.declared.node.BackNode.{BackNode}
 use Rattle.back_node.specs.Takes.{node_takes}
-use Rattle.cluster_core.specs.World.{master_of}
 use Rattle.feed_core.specs.declared.replica.Replica.{Replica}
 use Rattle.front_core.specs.Ending.{EndsOnlyLast}
 use Rattle.front_core.proofs.OneConnection.Places.{about, of_connection}
 use Rattle.front_core.proofs.OneConnection.Readings.{inputs_in}
 use Rattle.front_node.specs.declared.connection.Connection.{Connection}
 use Rattle.front_node.specs.declared.front.Front.{Front}
-use Rattle.front_node.specs.Front.{connection_at}
 use Rattle.imap_talk.specs.Heard.{Heard, client}
-use Rattle.imap_talk.specs.Inputs.{requests_in}
 use Rattle.imap_talk.specs.declared.inputs.Input.{Input}
 use Rattle.imap_types.specs.declared.command.Tag.{Tag}
 use Rattle.imap_wire.specs.Frames.{begun}
@@ -40,12 +37,12 @@ use Rattle.murder_core.specs.World.{client_at, front_at, home_at, taken_from_lin
 use Rattle.murder_core.proofs.Commands.Knows.Knows.{is_decided, undecided}
 use Rattle.murder_core.proofs.Commands.Place.{Place}
 use Rattle.murder_core.proofs.Commands.Place.{Place as place}
-use Rattle.murder_core.proofs.Commands.Standing.{Fixed, IsLeft, Stands, WaitsAt, next_id}
+use Rattle.murder_core.proofs.Commands.Standing.{Fixed, WaitsAt, next_id}
 use Rattle.murder_core.proofs.Connections.ConnectionLaw.{IsInNoneOf, IsInPlaceOf, IsMarkedAt, IsStanding, MarksStay, client_with}
 use Rattle.murder_core.proofs.Connections.KeepsLaw.{ConnectionIs, IsAt, IsGone, IsUntold, KeepsLaw, fixed_of, murder_of}
 use Rattle.murder_core.proofs.Connections.KeepsLaw.ConnectionIs.{is_nobody, is_elsewhere, is_open, is_closed}
 use Rattle.murder_core.proofs.Connections.Stays.{marked_stays}
-use Rattle.murder_core.proofs.Nodes.Comes.{home_moved, with_home}
+use Rattle.murder_core.proofs.Nodes.Comes.{with_home}
 use Rattle.murder_core.proofs.Steps.HomeHears.{other_lines_stay_none, other_lines_stay_or_test}
 use Rattle.murder_core.proofs.Steps.HomeLinks.{IsInThen, IsNowhereThen}
 use Rattle.murder_core.proofs.Steps.HomeOthers.{others_stay, others_stay_none}
@@ -55,7 +52,7 @@ use Rattle.murder_core.proofs.Steps.Worlds.{in_murder, in_world_then, is_front, 
 use Rattle.murder_core.proofs.Points.Acts.{KnowsOf}
 use Rattle.murder_core.proofs.Points.AtBackend.{resync_tests}
 use Rattle.murder_core.proofs.Points.OwnAtHome.{moved_marked}
-use Rattle.murder_core.proofs.Points.Waits.{CommandWaits, WhoWaits, each_command_waits, waits_closed, waits_open, whom_moved}
+use Rattle.murder_core.proofs.Points.Waits.{WhoWaits, each_command_waits, waits_closed, waits_open, whom_moved}
 
 -- what the step leaves of a connection, but for its place
 pub record LeavesElse (conn : ℕ) (world next : World) (story later : Tale) : Type 0 where

@@ -1,5 +1,5 @@
 -- Whom the master gives something where it takes a message of a node: clients that are connected to it, which it tells of changes.
-use Rattle.std.proofs.Common.{◌≡◌, ◌≢◌, ◌⊎◌, ℕ, ◌&&◌, not, Bool, true, false, cond, List, [], ◌∷◌, ◌++◌, map, Option, None, Some, refl, sym, ◌∙◌, ap, subst}
+use Rattle.std.proofs.Common.{◌≡◌, ◌≢◌, ℕ, ◌&&◌, not, Bool, true, false, cond, List, [], ◌∷◌, ◌++◌, map, Option, None, Some, refl, sym, ◌∙◌, ap, subst}
 use Rattle.std.specs.Prelude.{All, ⊤}
 use Rattle.std.specs.Ordering.{nat_cmp}
 use Rattle.std.proofs.Math.Logic.{⊎_elim}
@@ -36,7 +36,7 @@ use Rattle.mur_config.specs.declared.config.Config.{Config}
 use Rattle.murder_step.specs.declared.node.NodeState.TheVariants as state
 use Rattle.node_record.specs.declared.master.MasterRecord.{MasterRecord}
 use Rattle.murder_core.specs.declared.world.World.{World}
-use Rattle.murder_core.specs.World.{client_at, taken_from_link}
+use Rattle.murder_core.specs.World.{taken_from_link}
 use Rattle.murder_core.proofs.Nodes.Carried.{given_all, given_by, given_out, is_made}
 use Rattle.murder_core.proofs.Nodes.Comes.{with_master}
 use Rattle.murder_core.proofs.Points.MasterStep.{ClientThen, as_before, is_given}

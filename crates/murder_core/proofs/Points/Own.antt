@@ -1,5 +1,5 @@
 -- What a step that is about the command of a connection makes of its tale, its marks, and the connection itself.
-use Rattle.std.proofs.Common.{◌≡◌, ◌≢◌, ℕ, ◌+◌, List, [], ◌∷◌, ◌++◌, length, Option, None, Some, refl, sym, ◌∙◌, ap, subst, append-nil}
+use Rattle.std.proofs.Common.{◌≡◌, ◌≢◌, ℕ, List, [], ◌∷◌, ◌++◌, Option, None, Some, refl, sym, ◌∙◌, ap, subst, append-nil}
 use Rattle.asking_core.specs.declared.waiting.At.{At}
 use Rattle.cluster_core.specs.World.{setting_of}
 use Rattle.front_node.specs.declared.front.Front.{Front}
@@ -24,7 +24,7 @@ use Rattle.murder_core.proofs.Connections.ConnectionLaw.{GoesOnAt, IsInPlaceOf, 
 use Rattle.murder_core.proofs.Connections.KeepsLaw.{ConnectionIs, fixed_of, murder_of}
 use Rattle.murder_core.proofs.Connections.Tales.{others_marked}
 use Rattle.murder_core.proofs.Points.Acts.{IsCarriedOut, IsSeen, KnowsOf, acted_on, home_mark}
-use Rattle.murder_core.proofs.Points.Waits.{CommandWaits, IsThen}
+use Rattle.murder_core.proofs.Points.Waits.{CommandWaits}
 
 pub record OwnStep (config : Config) (conn : ℕ) (heard : Heard) (world : World) (story : Tale) (next : World) (master : Master) (given : Given) : Type 0 where
   pub later : Tale

@@ -14,7 +14,7 @@ use Rattle.backend_core.specs.declared.plan.Owed.{Owed}
 use Rattle.backend_core.specs.HomeLaws.{is_open_here}
 use Rattle.backend_core.specs.Plan.{answer_outs as plan_outs, back_plan, owed_outs}
 use Rattle.backend_core.specs.HomeStep.{held_at}
-use Rattle.cluster_core.specs.World.{master_of, setting_of}
+use Rattle.cluster_core.specs.World.{master_of}
 use Rattle.cluster_core.specs.declared.world.Client.{Client}
 use Rattle.front_core.proofs.OneConnection.Places.{about, of_connection}
 use Rattle.front_node.specs.declared.front.Front.{Front}
@@ -27,7 +27,6 @@ use Rattle.link_msg.specs.declared.counts.Counts.{Counts}
 use Rattle.link_msg.specs.declared.counts.Counts.TheVariants.{IfAnswered}
 use Rattle.link_msg.specs.declared.message.LinkMsg.{LinkMsg}
 use Rattle.link_msg.specs.declared.message.LinkMsg.TheVariants.{Up, End, Line, Ask, Answer}
-use Rattle.link_msg.specs.declared.out.Out.{Out}
 use Rattle.link_queue.specs.Links.{on_link}
 use Rattle.many_links.specs.Murder.{Murder, home_takes}
 use Rattle.many_links.specs.ManyHold.{ManyHold}
@@ -44,8 +43,8 @@ use Rattle.mur_model.specs.declared.store.Store.{Store}
 use Rattle.mur_model.specs.History.{numbered}
 use Rattle.mur_model.specs.Needed.{Make}
 use Rattle.murder_step.specs.declared.node.NodeState.TheVariants as state
-use Rattle.name_commands.specs.Moves.{Move, asked_move, heard_move, is_answered, is_kept, is_sent}
-use Rattle.name_commands.specs.Places.{IsNumbered, NamePlace}
+use Rattle.name_commands.specs.Moves.{Move, asked_move, is_answered, is_kept, is_sent}
+use Rattle.name_commands.specs.Places.{IsNumbered}
 use Rattle.name_commands.specs.Places.{NamePlace as name_at}
 use Rattle.name_flows.specs.declared.ask.AskKind.{AskKind}
 use Rattle.name_flows.specs.declared.ask.AskKind.TheVariants.{Create}
@@ -56,12 +55,11 @@ use Rattle.name_flows.specs.Heard.{heard_step}
 use Rattle.name_flows.specs.Link.{end_step}
 use Rattle.name_flows.specs.Listing.{up_step}
 use Rattle.name_flows.specs.Steps.{FlowStep, handed}
-use Rattle.name_links.specs.Serials.{Given}
 use Rattle.point_links.specs.AtHome.{AskComes, its_ask}
 use Rattle.point_links.specs.Commands.{ClientCommand}
 use Rattle.point_links.proofs.Works.{is_make}
 use Rattle.murder_core.specs.declared.world.World.{World}
-use Rattle.murder_core.specs.World.{client_at, front_at, home_at, taken_from_link}
+use Rattle.murder_core.specs.World.{front_at, home_at, taken_from_link}
 use Rattle.murder_core.proofs.Commands.Knows.{Undecided}
 use Rattle.murder_core.proofs.Commands.Knows.Knows.{is_decided, undecided}
 use Rattle.murder_core.proofs.Commands.Place.{Place}
@@ -77,7 +75,7 @@ use Rattle.murder_core.proofs.Steps.HomeSteps.{HomeTakes, moved_to}
 use Rattle.murder_core.proofs.Steps.Murders.{IsFront, IsIn}
 use Rattle.murder_core.proofs.Steps.Worlds.{in_murder, in_world_then, is_front}
 use Rattle.murder_core.proofs.Points.Acts.{KnowsOf}
-use Rattle.murder_core.proofs.Points.AtBackend.{CreateComes, MovesOn, create_fits, create_is_asked, create_kind, message_kind, response_moves}
+use Rattle.murder_core.proofs.Points.AtBackend.{create_fits, create_is_asked, create_kind, message_kind, response_moves}
 use Rattle.murder_core.proofs.Points.AtHome.{answer_outs, answered_at, closed_is_seen, open_is_its_point}
 use Rattle.murder_core.proofs.Points.Found.{IsFoundIn, found_in, in_answer, in_ask, in_line, in_noop, in_ok, in_response}
 use Rattle.murder_core.proofs.Points.Own.{Leaves, Outcome, OwnStep, made_by, of_carried, of_known, of_seen, own_step}

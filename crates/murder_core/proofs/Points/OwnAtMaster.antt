@@ -1,11 +1,10 @@
 -- The master takes a message that is about a command: its NOOP, or the line of its flow.
-use Rattle.std.proofs.Common.{◌≡◌, ◌≢◌, ℕ, ◌+◌, ◌<◌, ◌-◌, ◌^◌, Bool, true, false, List, [], ◌∷◌, ◌++◌, length, Option, None, Some, refl, sym, ◌∙◌, ap, subst}
-use Rattle.std.specs.Ordering.{nat_cmp}
+use Rattle.std.proofs.Common.{◌≡◌, ℕ, ◌+◌, true, List, [], ◌∷◌, ◌++◌, length, Option, None, Some, refl, sym, ◌∙◌, ap, subst}
 use Rattle.asking_core.specs.declared.waiting.At.{At}
 use Rattle.asking_core.specs.declared.waiting.At.TheVariants.{Home}
 use Rattle.back_links.specs.MasterEvents.{given_in}
 use Rattle.back_node.specs.declared.node.BackNode.{BackNode}
-use Rattle.cluster_core.specs.World.{master_of, setting_of}
+use Rattle.cluster_core.specs.World.{master_of}
 use Rattle.front_core.proofs.OneConnection.Places.{about, of_connection}
 use Rattle.front_node.specs.declared.front.Front.{Front}
 use Rattle.imap_talk.specs.Heard.{Heard}
@@ -13,7 +12,7 @@ use Rattle.imap_types.specs.declared.request.Request.TheVariants.{Command as a_c
 use Rattle.link_msg.specs.declared.counts.Counts.{Counts}
 use Rattle.link_msg.specs.declared.counts.Counts.TheVariants.{IfAnswered}
 use Rattle.link_msg.specs.declared.message.LinkMsg.{LinkMsg}
-use Rattle.link_queue.specs.Links.{Links, on_link, without_first}
+use Rattle.link_queue.specs.Links.{on_link, without_first}
 use Rattle.many_links.specs.Murder.{Murder, after_master, master_takes as murder_takes}
 use Rattle.many_links.specs.ManyHold.{ManyHold}
 use Rattle.mark_history.specs.Marked.{Tale}
@@ -24,7 +23,6 @@ use Rattle.mupdate_codec.specs.declared.command.MResponse.{MResponse}
 use Rattle.mupdate_codec.specs.Asks.{ask_id_of, tag_of}
 use Rattle.mupdate_codec.proofs.AsksLaw.{ask_again}
 use Rattle.mupdate_codec.proofs.LineAsks.{own_command}
-use Rattle.mur_base.specs.Map.{value_at}
 use Rattle.mur_base.specs.declared.home.Location.{Location}
 use Rattle.mur_base.specs.declared.point.AskId.{AskId}
 use Rattle.mur_config.specs.declared.config.Config.{Config}
@@ -58,12 +56,12 @@ use Rattle.murder_core.proofs.Nodes.Carried.{is_made, marks_made}
 use Rattle.murder_core.proofs.Nodes.Comes.{master_moved, with_master}
 use Rattle.murder_core.proofs.Steps.MasterOwn.{line_is_taken, noop_is_taken}
 use Rattle.murder_core.proofs.Steps.MasterSteps.{HasAnswered, IsFedFront, IsInBehind, MasterTakes}
-use Rattle.murder_core.proofs.Steps.Murders.{IsFront, IsIn, at_own}
+use Rattle.murder_core.proofs.Steps.Murders.{IsFront, at_own}
 use Rattle.murder_core.proofs.Steps.Narrow.{narrows}
 use Rattle.murder_core.proofs.Steps.Worlds.{in_murder, in_world_behind, is_fed_front, is_front, master_takes}
-use Rattle.murder_core.proofs.Points.Acts.{KnowsOf, home_mark}
+use Rattle.murder_core.proofs.Points.Acts.{home_mark}
 use Rattle.murder_core.proofs.Points.AtBarrier.{ClearsIt, IsDecidedSo, cleared_at, is_point as is_its_point, is_seen as is_only_seen, noop_clears}
-use Rattle.murder_core.proofs.Points.AtMaster.{LineGoes, Responds, each_line_goes, heard_at, is_point, is_seen, waits_on}
+use Rattle.murder_core.proofs.Points.AtMaster.{LineGoes, each_line_goes, heard_at, is_point, is_seen, waits_on}
 use Rattle.murder_core.proofs.Points.Found.{IsFoundIn, found_in, in_answer, in_ask, in_line, in_noop, in_ok, in_response}
 use Rattle.murder_core.proofs.Points.Own.{Leaves, Outcome, OwnStep, made_by, of_carried, of_known, of_seen, own_step}
 use Rattle.murder_core.proofs.Points.Waits.{AskedFit, BringsNothing, CommandWaits, IsOpenAt, each_command_waits, first_tells, is_open_there, waits_fit, whom_barred}

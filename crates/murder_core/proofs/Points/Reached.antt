@@ -1,11 +1,10 @@
 -- While its link is whole, a backend has reached the master.
-use Rattle.std.proofs.Common.{◌≡◌, ℕ, Bool, true, false, cond, List, [], ◌∷◌, ◌++◌, Some, refl, sym, ◌∙◌, ap, subst}
-use Rattle.std.specs.List.{flat_map}
+use Rattle.std.proofs.Common.{◌≡◌, ℕ, Bool, true, false, cond, List, [], ◌∷◌, ◌++◌, Some, refl, sym, ◌∙◌, ap}
 use Rattle.back_links.specs.OneTalk.{HasTalk, link_of}
 use Rattle.back_node.specs.declared.node.BackNode.{BackNode}
-use Rattle.home_law.specs.Items.{Item, backend_up, backend_end, listed_active, listed_reserved, list_ok, reserve_ok, reserve_no, make_ok, make_no, again_ok, deactivate_ok, delete_ok, wipe_ok, found, found_ok, not_found}
+use Rattle.home_law.specs.Items.{Item, listed_active, listed_reserved, reserve_ok, reserve_no, make_ok, make_no, again_ok, deactivate_ok, delete_ok, wipe_ok, found, found_ok, not_found}
 use Rattle.home_law.specs.LinkOk.{hears_then}
-use Rattle.home_law.specs.ManyNames.{BackMessage, Mailbox, NameResponse, SentLine, downs_of, end_told, if_named, is_same_mailbox, line_items, mailbox_told, no_items, no_told, ok_items, ok_told, reserve_told, response, sent_again, sent_deactivate, sent_delete, sent_find, sent_list, sent_make, sent_reserve, sent_wipe, up_told, with_line}
+use Rattle.home_law.specs.ManyNames.{BackMessage, Mailbox, NameResponse, SentLine, downs_of, is_same_mailbox, line_items, mailbox_told, no_items, no_told, ok_items, ok_told, reserve_told, response, sent_again, sent_deactivate, sent_delete, sent_find, sent_list, sent_make, sent_reserve, sent_wipe, with_line}
 use Rattle.home_law.proofs.Lists.{hears_append}
 use Rattle.link_msg.specs.declared.message.LinkMsg.{LinkMsg}
 use Rattle.link_queue.specs.Links.{on_link}

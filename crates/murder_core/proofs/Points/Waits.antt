@@ -1,10 +1,10 @@
 -- The first message of a link tells whose command it is of, what the connection of that is at, and where the command is. Wherever it is behind the step, its
 -- connection goes on so.
-use Rattle.std.proofs.Common.{◌≡◌, ℕ, ◌+◌, true, false, List, [], ◌∷◌, ◌++◌, length, None, Some, refl, sym, ◌∙◌, ap, subst}
+use Rattle.std.proofs.Common.{◌≡◌, ℕ, ◌+◌, true, false, List, ◌∷◌, ◌++◌, length, None, Some, refl, sym, ◌∙◌, ap, subst}
 use Rattle.asking_core.specs.declared.waiting.At.{At}
 use Rattle.asking_core.specs.declared.waiting.At.TheVariants.{Home, Barrier as at_master}
 use Rattle.front_core.specs.Ending.{EndsOnlyLast}
-use Rattle.front_core.proofs.OneConnection.Places.{IsPlaced, about, first_of, of_connection}
+use Rattle.front_core.proofs.OneConnection.Places.{about, first_of, of_connection}
 use Rattle.front_core.proofs.OneConnection.Readings.{inputs_in, reading_of}
 use Rattle.front_node.specs.declared.connection.Connection.{Connection}
 use Rattle.front_node.specs.declared.connection.Stage.TheVariants.{Ended}
@@ -25,7 +25,7 @@ use Rattle.link_msg.specs.declared.answer.BackAnswer.{BackAnswer}
 use Rattle.link_msg.specs.declared.ask.FrontAsk.{FrontAsk}
 use Rattle.link_msg.specs.declared.message.LinkMsg.{LinkMsg}
 use Rattle.link_queue.proofs.Placed.{Carried}
-use Rattle.link_queue.specs.Links.{on_link, without_first}
+use Rattle.link_queue.specs.Links.{on_link}
 use Rattle.mark_history.specs.Marked.{AreMarked, Tale}
 use Rattle.mark_history.specs.declared.mark.Mark.{Mark}
 use Rattle.mur_base.specs.declared.home.Location.{Location}
@@ -41,15 +41,15 @@ use Rattle.route_links.specs.Barriers.{Place as barrier}
 use Rattle.murder_core.specs.declared.world.World.{World}
 use Rattle.cluster_core.specs.declared.world.Client.{Client}
 use Rattle.murder_core.specs.World.{client_at, front_at}
-use Rattle.murder_core.proofs.Commands.Knows.{Brings, Knows, Undecided}
+use Rattle.murder_core.proofs.Commands.Knows.{Brings, Undecided}
 use Rattle.murder_core.proofs.Commands.Knows.Knows.{is_decided, undecided}
 use Rattle.murder_core.proofs.Commands.Place.{Place, its_message}
 use Rattle.murder_core.proofs.Commands.Place.{Place as place}
-use Rattle.murder_core.proofs.Commands.Standing.{Fixed, HasBegunSo, IsCommandOf, IsLeft, LeftWaiting, Stands, Waiting, WaitsAt, next_id}
+use Rattle.murder_core.proofs.Commands.Standing.{Fixed, HasBegunSo, IsLeft, LeftWaiting, Stands, Waiting, WaitsAt, next_id}
 use Rattle.murder_core.proofs.Commands.Standing.IsLeft.{nothing, left_waiting}
 use Rattle.murder_core.proofs.Commands.Standing.Stands.{reads, waits, faulted, finished}
-use Rattle.murder_core.proofs.Connections.ConnectionLaw.{IsInNoneOf, IsInPlaceOf, IsMarkedAt, IsStanding, client_with}
-use Rattle.murder_core.proofs.Connections.KeepsLaw.{ConnectionIs, IsAt, IsGone}
+use Rattle.murder_core.proofs.Connections.ConnectionLaw.{IsInPlaceOf, IsMarkedAt, client_with}
+use Rattle.murder_core.proofs.Connections.KeepsLaw.{ConnectionIs, IsAt}
 use Rattle.murder_core.proofs.Connections.KeepsLaw.ConnectionIs.{is_nobody, is_elsewhere, is_open, is_closed}
 use Rattle.murder_core.proofs.Points.Acts.{IsOpen, KnowsOf}
 use Rattle.murder_core.proofs.Steps.HomeSteps.{moved_to}

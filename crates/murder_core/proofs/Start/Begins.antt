@@ -1,8 +1,7 @@
 -- The nodes before the first step: each frontend and each backend was told once that its link with the master is up.
 use Rattle.std.proofs.Common.{◌≡◌, ◌≢◌, ℕ, zero, suc, ◌<◌, ◌≤◌, ◌&&◌, nat_eq, Bool, true, false, cond, if◌then◌else◌, is_some, List, [], ◌∷◌, ◌++◌, length, Option, None, Some, refl, sym, ◌∙◌, ap, subst, arith}
 use Rattle.std.proofs.Common.{slice_index_or, Contains}
-use Rattle.std.specs.Prelude.{AllPairs}
-use Rattle.std.specs.List.{list_any, AllByRecursion}
+use Rattle.std.specs.List.{AllByRecursion}
 use Rattle.std.specs.Ordering.{nat_cmp, is_eq}
 use Rattle.std.specs.Cmp.Lexicographic.{pointwise, slice_cmp}
 use Rattle.back_node.specs.declared.node.BackNode.{BackNode}
@@ -10,16 +9,15 @@ use Rattle.back_node.specs.Node.{is_my_master, new_node}
 use Rattle.back_node.specs.Acted.{acted}
 use Rattle.back_node.specs.Takes.{passed_over, taken_up, talks}
 use Rattle.cluster_core.specs.Headline.Outside.{is_master_node}
-use Rattle.cluster_core.specs.Heard.{is_frontend, is_frontend_node}
+use Rattle.cluster_core.specs.Heard.{is_frontend_node}
 use Rattle.cluster_core.specs.World.{backends_of, home_of, master_of, setting_of}
 use Rattle.feed_core.specs.Stream.{update_line}
 use Rattle.feed_links.specs.Lines.{messages_to}
 use Rattle.feed_links.proofs.Names.{other_name, same_name}
 use Rattle.front_core.proofs.OneConnection.Places.{IsPlaced, of_connection}
 use Rattle.front_node.specs.declared.front.Front.{Front}
-use Rattle.front_node.specs.Front.{Stepped, asks_for_table, deliver, new_front, up_from}
-use Rattle.link_msg.specs.declared.message.LinkMsg.{LinkMsg}
-use Rattle.link_msg.specs.declared.message.LinkMsg.TheVariants.{Up, Line}
+use Rattle.front_node.specs.Front.{Stepped, deliver, new_front, up_from}
+use Rattle.link_msg.specs.declared.message.LinkMsg.TheVariants.{Line}
 use Rattle.link_msg.specs.declared.out.Out.{Out}
 use Rattle.link_msg.specs.declared.out.Out.TheVariants.{Link as to_node}
 use Rattle.link_queue.specs.Links.{on_link}
@@ -42,11 +40,11 @@ use Rattle.mur_model.specs.declared.setting.Setting.{Setting}
 use Rattle.name_flows.specs.Listing.{up_step}
 use Rattle.node_record.specs.Table.{empty_table}
 use Rattle.murder_core.specs.declared.world.World.{World}
-use Rattle.murder_core.specs.World.{first_state, front_at, home_at, master_at, node_at, place_of, start, with_ups}
+use Rattle.murder_core.specs.World.{first_state, front_at, home_at, node_at, place_of, start}
 use Rattle.murder_core.proofs.Start.Fresh.{first_by, fresh_at, fresh_empty, fresh_nodes}
-use Rattle.murder_core.proofs.Start.Kinds.{HasNode, backend_named, is_backend_node, master_named, master_node, named_among, named_so, pair_of}
+use Rattle.murder_core.proofs.Start.Kinds.{is_backend_node, master_named, master_node, named_among, named_so, pair_of}
 use Rattle.murder_core.proofs.Start.Quiet.{IsQuiet, no_place, ups_quiet}
-use Rattle.murder_core.proofs.Start.Ups.{Heeds, Ignores, IsUpOnce, takes_up, up_acted, ups_leave, ups_once}
+use Rattle.murder_core.proofs.Start.Ups.{Heeds, Ignores, takes_up, up_acted, ups_leave, ups_once}
 
 -- a frontend that has done nothing
 abbrev pub first_front : Config → List ℕ → Front

@@ -1,5 +1,5 @@
 -- What links that come up make nodes send is about no connection, and gives no client anything; no step counts for a command.
-use Rattle.std.proofs.Common.{◌≡◌, ◌≢◌, ℕ, nat_eq, Bool, true, false, if◌then◌else◌, List, [], ◌∷◌, ◌++◌, Option, None, Some, refl, sym, ◌∙◌, ap, subst, append-nil}
+use Rattle.std.proofs.Common.{◌≡◌, ℕ, nat_eq, Bool, true, false, if◌then◌else◌, List, [], ◌∷◌, ◌++◌, Option, None, Some, refl, sym, ◌∙◌, ap, subst, append-nil}
 use Rattle.std.specs.List.{AllByRecursion}
 use Rattle.std.specs.Cmp.Lexicographic.{pointwise}
 use Rattle.back_node.specs.declared.node.BackNode.{BackNode}
@@ -9,14 +9,13 @@ use Rattle.back_node.specs.Acted.{acted}
 use Rattle.cluster_core.specs.declared.world.Client.{Client}
 use Rattle.front_core.proofs.OneConnection.Places.{About, IsPlaced, about, about_command, nobody_whom, of_connection, of_nobody, others_sent, update_nobodys}
 use Rattle.front_node.specs.declared.front.Front.{Front}
-use Rattle.front_node.specs.Front.{Stepped, deliver, up_from}
+use Rattle.front_node.specs.Front.{deliver, up_from}
 use Rattle.link_msg.specs.declared.message.LinkMsg.{LinkMsg}
-use Rattle.link_msg.specs.declared.message.LinkMsg.TheVariants.{Up, Line}
+use Rattle.link_msg.specs.declared.message.LinkMsg.TheVariants.{Up}
 use Rattle.link_msg.specs.declared.out.Out.{Out}
 use Rattle.link_msg.specs.declared.out.Out.TheVariants.{Client as to_client, Close, Link as to_node, Mark as mark, Told as tell}
 use Rattle.link_queue.specs.Links.{Links, on_link}
 use Rattle.many_links.specs.Murder.{put_all, put_out}
-use Rattle.mark_history.specs.declared.mark.Mark.{Mark}
 use Rattle.master_core.specs.Linked.{node_says}
 use Rattle.mupdate_codec.specs.Asks.{ask_id_of, first_word, line_ask, split_dash}
 use Rattle.mupdate_codec.specs.Tags.{mupdate_tag_text}
@@ -25,8 +24,8 @@ use Rattle.mur_config.specs.declared.node.Link.{Link}
 use Rattle.murder_step.specs.declared.input.NodeInput.TheVariants.{From}
 use Rattle.murder_step.specs.declared.node.NodeState.{NodeState}
 use Rattle.murder_step.specs.declared.node.NodeState.TheVariants as state
-use Rattle.murder_step.specs.NodeStep.{Acted, back_takes, front_takes, master_takes, takes as node_takes}
-use Rattle.name_flows.specs.Lines.{command_of, line_text}
+use Rattle.murder_step.specs.NodeStep.{back_takes, front_takes, master_takes, takes as node_takes}
+use Rattle.name_flows.specs.Lines.{command_of}
 use Rattle.name_flows.specs.Listing.{resync_line, up_step}
 use Rattle.murder_core.specs.declared.world.World.{World}
 use Rattle.murder_core.specs.World.{node_at, told_up, with_ups}

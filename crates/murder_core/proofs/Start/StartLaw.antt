@@ -1,13 +1,13 @@
 -- THE LAW HOLDS BEFORE THE FIRST STEP.
 use Rattle.murder_core.specs.Numbers.{AreNamed}
-use Rattle.std.proofs.Common.{◌≡◌, ◌≢◌, ℕ, ◌≤◌, ◌||◌, nat_eq, Bool, true, false, if◌then◌else◌, is_some, List, [], ◌∷◌, Option, None, Some, refl, sym, ◌∙◌, ap, subst, arith, append-nil, All, Contains}
+use Rattle.std.proofs.Common.{◌≡◌, ℕ, ◌||◌, nat_eq, Bool, true, false, if◌then◌else◌, is_some, List, [], ◌∷◌, Option, None, Some, refl, sym, ◌∙◌, ap, subst, arith, append-nil}
 use Rattle.std.specs.List.{list_any, AllByRecursion}
 use Rattle.std.specs.List.Sorted.{IsStrictlySortedBy}
 use Rattle.std.specs.Ordering.{nat_cmp}
 use Rattle.std.specs.Cmp.Lexicographic.{pointwise, slice_cmp}
 use Rattle.back_node.specs.declared.node.BackNode.{BackNode}
 use Rattle.cluster_core.specs.Headline.Outside.{is_master_node}
-use Rattle.cluster_core.specs.Heard.{is_frontend, is_frontend_node}
+use Rattle.cluster_core.specs.Heard.{is_frontend_node}
 use Rattle.cluster_core.specs.World.{backends_of, first_name, home_of, master_of, setting_of}
 use Rattle.feed_core.specs.Feed.{empty_replica}
 use Rattle.feed_core.specs.Stream.{update_line}
@@ -22,15 +22,13 @@ use Rattle.front_node.specs.Front.{connection_at, new_front}
 use Rattle.imap_talk.specs.Heard.{nobody, frames_heard}
 use Rattle.imap_talk.specs.Inputs.{inputs_of, requests_in}
 use Rattle.imap_talk.proofs.RequestsOf.{requests_of}
-use Rattle.link_msg.specs.declared.message.LinkMsg.{LinkMsg}
 use Rattle.link_msg.specs.declared.message.LinkMsg.TheVariants.{Line}
 use Rattle.link_queue.specs.Links.{on_link}
 use Rattle.many_links.specs.ManyHold.{ManyHold}
-use Rattle.many_links.specs.Start.{HasBegun, IsStart, told_up}
+use Rattle.many_links.specs.Start.{HasBegun, told_up}
 use Rattle.many_links.proofs.BegunLaw.{many_begin}
 use Rattle.mark_history.specs.Marked.{AreMarked, first_tale}
 use Rattle.mark_history.specs.Marked.AreMarked.{nothing}
-use Rattle.mark_history.specs.declared.mark.Mark.{Mark}
 use Rattle.master_core.specs.declared.master.Master.{Master}
 use Rattle.master_core.specs.Boot.{booted}
 use Rattle.mur_base.specs.Map.{IsInOrder, value_at}
@@ -39,7 +37,7 @@ use Rattle.mur_config.specs.declared.config.Config.{Config}
 use Rattle.mur_config.specs.declared.node.Kind.{Kind}
 use Rattle.mur_config.specs.declared.node.Kind.TheVariants.{Backend}
 use Rattle.mur_config.specs.declared.node.Node.{Node}
-use Rattle.mur_config.specs.Nodes.{AreNodes, FitsKind, is_node_of_kind, node_named}
+use Rattle.mur_config.specs.Nodes.{AreNodes, FitsKind, node_named}
 use Rattle.mur_model.specs.declared.setting.Setting.{Setting}
 use Rattle.mur_model.specs.Store.{empty_store}
 use Rattle.mupdate_codec.specs.declared.tag.Tag.{Tag}
@@ -49,21 +47,21 @@ use Rattle.name_commands.specs.Places.{NamePlace as name_at}
 use Rattle.name_commands.specs.Whose.{is_of_connection}
 use Rattle.name_commands.proofs.AllLaw.{none_begins}
 use Rattle.node_record.specs.declared.table.Record.{Record}
-use Rattle.node_record.specs.Table.{MailboxTable, empty_table}
+use Rattle.node_record.specs.Table.{empty_table}
 use Rattle.text_parts.proofs.PlaceLaw.{node_is_short}
 use Rattle.murder_step.specs.declared.node.NodeState.{NodeState}
 use Rattle.murder_step.specs.declared.node.NodeState.TheVariants as state
 use Rattle.murder_step.specs.NodeStep.{as_back, as_front, as_master}
-use Rattle.murder_step.proofs.NodeKinds.{back_is, back_no_front, front_is, front_no_back, master_is}
+use Rattle.murder_step.proofs.NodeKinds.{back_is, back_no_front, front_is, front_no_back}
 use Rattle.murder_core.specs.declared.world.World.{World}
 use Rattle.murder_core.specs.World.{front_at, home_at, master_at, node_at, place_of, start}
-use Rattle.murder_core.proofs.Commands.InPlace.{ShowEach, ShowsAt}
+use Rattle.murder_core.proofs.Commands.InPlace.{ShowEach}
 use Rattle.murder_core.proofs.Commands.Place.{Place as place}
 use Rattle.murder_core.proofs.Connections.ConnectionLaw.{IsInNoneOf}
 use Rattle.murder_core.proofs.Connections.KeepsLaw.{AreAtBackends, AreKeptAtBackends, AreNodesOf, ConnectionIs, FeedsHold, IsFedAt, IsFrontOf, KeepsLaw, NamesBackends, TableNamesBackends, TellsBackends}
 use Rattle.murder_core.proofs.Connections.KeepsLaw.{fixed_of, murder_of}
 use Rattle.murder_core.proofs.Connections.KeepsLaw.ConnectionIs.{is_nobody}
-use Rattle.murder_core.proofs.Start.Begins.{FrontStarts, HomeStarts, SilentStarts, Starts, asks_once, first_front, first_master, master_starts, start_quiet, starts}
+use Rattle.murder_core.proofs.Start.Begins.{HomeStarts, Starts, asks_once, first_front, first_master, master_starts, start_quiet, starts}
 use Rattle.murder_core.proofs.Start.Begins.Starts.{is_front, is_home, is_silent}
 use Rattle.murder_core.proofs.Start.Kinds.{backend_named, first_backend, is_backend_node, only_master}
 

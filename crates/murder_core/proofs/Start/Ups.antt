@@ -26,7 +26,7 @@ use Rattle.murder_step.specs.declared.node.NodeState.{NodeState}
 use Rattle.murder_step.specs.declared.node.NodeState.TheVariants as state
 use Rattle.murder_step.specs.NodeStep.{Acted, back_takes, front_takes, idle, master_takes, takes as node_takes}
 use Rattle.murder_core.specs.declared.world.World.{World}
-use Rattle.murder_core.specs.World.{comes, comes_to, node_at, told_up, with_ups}
+use Rattle.murder_core.specs.World.{node_at, told_up, with_ups}
 use Rattle.murder_core.proofs.Nodes.Carried.{is_made, made}
 use Rattle.murder_core.proofs.Nodes.Comes.{comes_by, made_here, made_other, none_comes}
 

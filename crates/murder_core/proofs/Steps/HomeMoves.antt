@@ -15,7 +15,6 @@ use Rattle.many_links.proofs.NodesLaw.{node_own}
 use Rattle.mur_base.specs.declared.home.Location.{Location}
 use Rattle.mur_base.specs.declared.point.AskId.{AskId}
 use Rattle.mur_model.specs.declared.store.Store.{Store}
-use Rattle.name_commands.specs.BackSteps.{LeavesOrTests as leaves}
 use Rattle.name_commands.specs.Moves.{LeavesCommand, Move, MovesCommand, outs_of, place_after}
 use Rattle.name_commands.specs.Moves.{Move as move}
 use Rattle.name_commands.specs.Places.{NamePlace, TalkShows, flow_message}

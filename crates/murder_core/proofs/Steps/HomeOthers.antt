@@ -6,7 +6,7 @@ use Rattle.back_node.specs.Takes.{node_takes}
 use Rattle.front_core.proofs.OneConnection.Places.{about, of_connection}
 use Rattle.link_msg.specs.declared.message.LinkMsg.{LinkMsg}
 use Rattle.link_msg.specs.declared.message.LinkMsg.TheVariants.{Up, End, Line, Ask, Answer}
-use Rattle.link_queue.specs.Links.{Links, on_link, sent}
+use Rattle.link_queue.specs.Links.{Links, on_link}
 use Rattle.many_links.specs.Murder.{Murder, taken}
 use Rattle.mur_model.specs.declared.store.Store.{Store}
 use Rattle.name_commands.specs.Moves.{LeavesCommand}

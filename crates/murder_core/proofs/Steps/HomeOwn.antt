@@ -26,7 +26,6 @@ use Rattle.mur_base.specs.declared.point.AskId.{AskId}
 use Rattle.mur_model.specs.declared.store.Store.{Store}
 use Rattle.name_commands.specs.BackSteps.{IsHeard}
 use Rattle.name_commands.specs.Moves.{Move, MovesCommand, asked_move, asked_move_by, heard_move, heard_move_by, reserved_move, tested_move}
-use Rattle.name_commands.specs.Moves.{Move as move}
 use Rattle.name_commands.specs.Places.{TalkShows}
 use Rattle.name_commands.specs.Places.{NamePlace as name_at}
 use Rattle.name_commands.specs.Whose.{Whose, is_of_connection, is_own_out}

@@ -1,12 +1,10 @@
 -- What holds of a run each step of which keeps the law.
-use Rattle.std.proofs.Common.{◌≡◌, ℕ, List, ◌++◌, Option, Some, subst, sym, ap}
+use Rattle.std.proofs.Common.{◌≡◌, ℕ, List, ◌++◌, subst, sym, ap}
 use Rattle.feed_core.specs.declared.replica.Replica.{Replica}
 use Rattle.feed_links.specs.OneFeed.{IsFed, asks, is_told}
 use Rattle.feed_links.specs.Replicas.{hears_all, replica_of}
-use Rattle.front_node.specs.declared.front.Front.{Front}
 use Rattle.imap_command.specs.Ruled.{IsDate}
 use Rattle.imap_talk.specs.Heard.{Heard}
-use Rattle.link_msg.specs.declared.message.LinkMsg.{LinkMsg}
 use Rattle.link_queue.specs.Links.{on_link}
 use Rattle.master_core.specs.declared.master.Master.{Master}
 use Rattle.mur_config.specs.declared.config.Config.{Config}
@@ -22,7 +20,7 @@ use Rattle.murder_core.specs.Headline.{EachRunIsOneServer, IsOneMailServer}
 use Rattle.murder_core.specs.Headline.Outside.{table_at}
 use Rattle.murder_core.specs.Headline.Replicas.{Follows, ReplicasFollow}
 use Rattle.murder_core.specs.Headline.Replicas.{Follows as follows}
-use Rattle.murder_core.specs.World.{front_at, start}
+use Rattle.murder_core.specs.World.{start}
 use Rattle.murder_core.proofs.Alone.FlowRests.{are_steps_of_all}
 use Rattle.murder_core.proofs.Alone.OneNodeLaw.{one_node_each}
 use Rattle.murder_core.proofs.Alone.OnPairs.{goes_over_links, know_by_law}

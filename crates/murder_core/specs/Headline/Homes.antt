@@ -1,5 +1,5 @@
 -- The printed homes are the store's mailboxes, each as its backend has it.
-use Rattle.std.specs.Prelude.{◌≡◌, true, ℕ, List, Option, None, Some, All, Contains}
+use Rattle.std.specs.Prelude.{◌≡◌, true, ℕ, List, Option, Some, All, Contains}
 use Rattle.std.specs.Option.{option_map}
 use Rattle.std.specs.Ordering.{nat_cmp}
 use Rattle.std.specs.Cmp.Lexicographic.{slice_cmp}

@@ -1,8 +1,6 @@
 -- The one-store law: what each client was given is what one mailbox store replies to the printed history, at every step.
-use Rattle.std.specs.Prelude.{◌≡◌, ◌⊎◌, ℕ, ◌≤◌, true, false, List, [], ◌∷◌, ◌++◌, length, Option, None, Some, IfSome, All, AllPairs}
+use Rattle.std.specs.Prelude.{◌≡◌, ◌⊎◌, ℕ, ◌≤◌, true, false, List, [], ◌++◌, length, Option, None, Some, IfSome, All, AllPairs}
 use Rattle.std.specs.List.{list_any}
-use Rattle.std.specs.Ordering.{nat_cmp}
-use Rattle.std.specs.Cmp.Lexicographic.{slice_cmp}
 use Rattle.mail_store.specs.Kept.{AreUidsBelowNext}
 use Rattle.imap_talk.specs.Transcript.{transcript_of, ends}
 use Rattle.imap_talk.specs.TranscriptRead.{IsAllReadAsMeant}
@@ -47,7 +45,7 @@ use Rattle.store_law.specs.NewsTold.{NewsAreTold}
 use Rattle.cluster_core.specs.Headline.Points.{AreMadeBy, LosesTheNext}
 use Rattle.imap_talk.specs.Requests.{AreRequests}
 use Rattle.murder_core.specs.Shown.{given_to, held_at_node}
-use Rattle.cluster_core.specs.World.{layout_of, master_of}
+use Rattle.cluster_core.specs.World.{master_of}
 use Rattle.murder_core.specs.World.{start}
 
 -- what the server of a record has of the name, if the record has an access list: a name that was never active is no mailbox
