@@ -99,9 +99,11 @@ module _ (own : ℕ → Type 0) (may : List ℕ → LinkMsg → Type 0) where
 
   all_said : (master : List ℕ) (outs : List Out) → MayBeTold may master → All (IsSaid master (MayBeAnswered may)) outs → AreLetOut own may ⊤ outs
   all_said master [] there all = tt
-  all_said master (out ∷ outs) there all =
-      (one_said master out there (All-head (IsSaid master (MayBeAnswered may)) out outs all), all_said master outs there (All-tail (IsSaid master
-      (MayBeAnswered may)) out outs all))
+  all_said master (out ∷ outs) there all = (
+    one_said master out there (All-head (IsSaid master (MayBeAnswered may)) out outs all),
+    all_said master outs there (All-tail (IsSaid master
+        (MayBeAnswered may)) out outs all),
+  )
 
   asks_as : (name : List ℕ) (message : LinkMsg) → SpeaksFrom may name message → AsksAs (MayBeAnswered may) name message
   asks_as name (Ask ask) there = there
