@@ -1,9 +1,7 @@
-"""A backend: the mailboxes at it, and how they are made and deleted. Before the name master works it makes one in the step of its CREATE, with a
-UIDVALIDITY of its own. Then CREATE and DELETE are flows of lines to the master (RFC 3656, 4): RESERVE, ACTIVATE; DEACTIVATE, DELETE.
-"""
+"""A backend: the mailboxes at it, and how they are made and deleted, by flows of lines to the master (RFC 3656, 4): RESERVE, ACTIVATE; DEACTIVATE, DELETE."""
 from collections import deque, namedtuple
 
-from mailboxes import CREATED, EXISTS, LIMIT, MAILBOX_LIMIT, NOT_NOW, Box, served
+from mailboxes import CREATED, EXISTS, LIMIT, NOT_NOW, Box, served
 
 DELETED = b'OK DELETE completed'
 # Who asked that a name be made or deleted, and the line whose answer the flow waits for.
@@ -17,16 +15,15 @@ def first_acl(name):
 
 
 class Backend:
-    def __init__(self, world, name, partition, date, has_master):
-        self.world, self.name, self.place, self.date, self.has_master = world, name, ('%s!%s' % (name, partition)).encode(), date, has_master
-        self.master, self.boxes, self.serial = world.first('master'), {}, 0
-        self.flows, self.lines, self.resync = {}, deque(), None  # `lines`: tag, word and name of those whose last answer hasn't come
+    def __init__(self, world, name, partition, date):
+        self.world, self.name, self.place, self.date = world, name, ('%s!%s' % (name, partition)).encode(), date
+        self.master, self.boxes = world.first('master'), {}
+        self.flows, self.lines = {}, deque()  # `lines`: tag, word and name of those whose last answer hasn't come
+        self.resync = []  # what came before the end of the first LIST; behind it none
 
     def begin(self):
         """Before the first step it asks for the records that name it; CREATE and DELETE wait for the end of that."""
-        if self.has_master:
-            self.resync = []
-            self.say(b'l', b'LIST', None, self.name.encode() + b'!')
+        self.say(b'l', b'LIST', None, self.name.encode() + b'!')
 
     def say(self, tag, word, name, *more):
         self.lines.append((tag, word, name))
@@ -46,8 +43,6 @@ class Backend:
         conn, number, ask = message
         if ask.word not in (b'CREATE', b'DELETE'):
             self.serve(sender, conn, number, ask)
-        elif not self.has_master:
-            self.make(sender, conn, number, ask.name)
         elif self.resync is not None:
             self.resync.append(Waiting(sender, conn, number, ask.name, ask.word))
         else:
@@ -56,17 +51,8 @@ class Backend:
     def serve(self, front, conn, number, ask):
         box = self.boxes.get(ask.name)
         outcome = served(box, ask, self.date) if box and box.phase == 'open' else NOT_NOW
-        if outcome != NOT_NOW or not self.has_master:
-            self.world.mark(conn, number, 'if answered' if outcome == NOT_NOW else 'always')
-        self.answer(front, conn, number, outcome)
-
-    def make(self, front, conn, number, name):
-        """CREATE where no master is asked."""
-        outcome = EXISTS if name in self.boxes else LIMIT if len(self.boxes) >= MAILBOX_LIMIT else CREATED
-        if outcome == CREATED:
-            self.serial += 1
-            self.boxes[name] = Box(self.serial, 'open')
-        self.world.mark(conn, number, 'always' if outcome == CREATED else 'if answered')
+        if outcome != NOT_NOW:
+            self.world.mark(conn, number, 'always')
         self.answer(front, conn, number, outcome)
 
     # Flows.
@@ -131,7 +117,7 @@ class Backend:
 
     def refused(self, word, name, told):
         if word == b'RESERVE':
-            self.ends(name, {b'1': EXISTS, b'7': LIMIT}.get(told[:1], NOT_NOW))
+            self.ends(name, EXISTS if told[:1] == b'1' else NOT_NOW)
         elif word == b'ACTIVATE':
             del self.boxes[name]
             self.ends(name, LIMIT)

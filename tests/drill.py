@@ -4,7 +4,6 @@
     tests/drill.py                              compares the lines of drills in tests/calls.txt with its own
     tests/drill.py NUMBER SIZE                  prints the line of a drill
     tests/drill.py NUMBER SIZE CONFIG SCHEDULE  and writes its cluster, and those of its events that have a word, to these files
-    tests/drill.py --master NUMBER SIZE         prints the line of a drill with the name master at work
 
 A crash, a start and a heal have no word yet and change nothing, so each of them is a step and no line of the schedule.
 """
@@ -98,8 +97,8 @@ def counts(output):
         steps, points, *[tagged.count(verdict) for verdict in ('OK', 'NO', 'BAD')], byes, boxes)
 
 
-def line_of(number, size, has_master=False):
-    cluster = Cluster(CONFIG, has_master)
+def line_of(number, size):
+    cluster = Cluster(CONFIG)
     for event in events(number, size):
         take(cluster, *event)
     return 'drill %d %d %s\n' % (number, size, counts(cluster.output()))
@@ -125,13 +124,12 @@ def compared():
 def main(words):
     if not words:
         return compared()
-    has_master = words[0] == '--master'
-    number, size = map(int, words[has_master:][:2])
-    if words[2:] and not has_master:
+    number, size = map(int, words[:2])
+    if words[2:]:
         with open(words[2], 'w') as config, open(words[3], 'w') as schedule:
             json.dump(CONFIG, config)
             schedule.writelines(schedule_of(number, size))
-    sys.stdout.write(line_of(number, size, has_master))
+    sys.stdout.write(line_of(number, size))
     return 0
 
 

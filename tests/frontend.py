@@ -1,8 +1,8 @@
 """A frontend: its clients' bytes become commands, one at a time (RFC 9051, 5.5), and each command that needs a mailbox is asked of a backend.
 
-Connection(session) cuts bytes into requests. Frontend(world, ..) decides whom it asks: before the name master works the first backend, for everything;
-then the server of the name's record in its replica of the master's table (RFC 3656, 4.11), and before it tells that a name is missing, or lists names, it
-sends the master a NOOP, whose OK comes behind all that the master told before.
+Connection(session) cuts bytes into requests. Frontend(world, ..) decides whom it asks: the server of the name's record in its replica of the master's table
+(RFC 3656, 4.11). Before it tells that a name is missing or reserved, or lists names, it sends the master a NOOP, whose OK comes behind all that the
+master told before.
 """
 import re
 from collections import deque, namedtuple
@@ -123,8 +123,8 @@ def server_of(place):
 
 
 class Frontend:
-    def __init__(self, world, name, setting, has_master):
-        self.world, self.name, self.setting, self.has_master = world, name, setting, has_master
+    def __init__(self, world, name, setting):
+        self.world, self.name, self.setting = world, name, setting
         self.master, self.first = world.first('master'), world.first('backend')
         self.connections, self.replica = {}, {}
 
@@ -168,8 +168,6 @@ class Frontend:
     # Whom it asks: ways are ('home', server), ('barrier', why), ('done', outcome) and ('reserved', None).
 
     def first_way(self, ask):
-        if not self.has_master:
-            return 'home', self.first
         if ask.word == b'LIST':
             return 'barrier', 'list'
         if ask.word == b'CREATE':
@@ -191,11 +189,6 @@ class Frontend:
         if why == 'not now' and not record.is_active:
             return 'reserved', None
         return 'home', server_of(record.place)
-
-    def way_behind_answer(self, outcome):
-        if outcome != NOT_NOW:
-            return 'done', outcome
-        return ('barrier', 'not now') if self.has_master else ('done', MISSING)
 
     def goes_on(self, conn, connection, tag, ask, way, what):
         session = connection.session
@@ -229,7 +222,8 @@ class Frontend:
     def answered(self, sender, conn, number, outcome):
         connection, waits = self.waiting(conn, number)
         if waits and waits.home == sender:
-            self.goes_on(conn, connection, waits.tag, waits.ask, *self.way_behind_answer(outcome))
+            way = ('barrier', 'not now') if outcome == NOT_NOW else ('done', outcome)
+            self.goes_on(conn, connection, waits.tag, waits.ask, *way)
 
     def barrier_over(self, conn, number):
         connection, waits = self.waiting(conn, number)

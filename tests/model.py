@@ -1,15 +1,14 @@
 #!/usr/bin/env python3
 """What docs/formats.md and docs/imap.md say that a schedule prints, worked out beside the program:
 
-    tests/model.py [--master] CONFIG SCHEDULE
+    tests/model.py CONFIG SCHEDULE
     tests/model.py
 
-With --master it is the cluster that is built next, whose backends and frontends ask the name master; without, the program's of today, in which the first
-backend has every mailbox. Without arguments it compares each stored output of examples/ and tests/replays/ with its own. It is written from these two
-pages, examples/ and RFC 9051 alone, and knows no proof and no code of the program. It keeps every byte of a connection and cuts it anew, so it is slow and
-plain. What a frame spells is in commands.py, what a client is replied in sessions.py, what mailboxes hold in mailboxes.py, the nodes in frontend.py,
-backend.py and mupdate.py, the rules of schedules in rules.py. `.ci/large` and `tests/random_schedules` compare the program with it, and the outputs of
-tests/replays were worked out by it and read.
+Without arguments it compares each stored output of examples/ and tests/replays/ with its own. It is written from these two pages, examples/, RFC 9051 and
+RFC 3656 alone, and knows no proof and no code of the program. It keeps every byte of a connection and cuts it anew, so it is slow and plain. What a frame
+spells is in commands.py, what a client is replied in sessions.py, what mailboxes hold in mailboxes.py, the nodes in frontend.py, backend.py and
+mupdate.py, the rules of schedules in rules.py. `.ci/large` and `tests/random_schedules` compare the program with it, and the outputs of tests/replays were
+worked out by it and read. The program refuses the commands of NOT_YET; with another `refused` the model doesn't.
 """
 import glob, json, os, re, sys
 from collections import deque, namedtuple
@@ -19,7 +18,7 @@ from backend import Backend
 from frontend import Frontend
 from mupdate import Master
 from rules import Rules, is_event, lines_of
-from sessions import Setting
+from sessions import NOT_YET, Setting
 
 
 def spelled(data):
@@ -61,15 +60,15 @@ def history(marks):
 class Cluster:
     """The nodes, and the messages on the links between them. Steps are counted, what they say of commands is noted, and where each line of a schedule ends."""
 
-    def __init__(self, config, has_master=False):
+    def __init__(self, config, refused=NOT_YET):
         self.kinds = {n['name']: n['kind'] for n in config['nodes']}
         names = list(self.kinds)
         self.pairs = [(a, b) for a in names for b in names if a != b and self.linked(a, b)]
         self.links, self.conns, self.marks, self.steps, self.line_ends = {}, {}, [], 0, []
-        self.has_master, self.setting = has_master, Setting(config, has_master)
+        self.setting = Setting(config, refused)
         backends = [name for name in names if self.kinds[name] == 'backend']
-        make = {'frontend': lambda n: Frontend(self, n['name'], self.setting, has_master), 'master': lambda n: Master(self, n['name'], backends),
-                'backend': lambda n: Backend(self, n['name'], n['partition'], self.setting.date, has_master)}
+        make = {'frontend': lambda n: Frontend(self, n['name'], self.setting), 'master': lambda n: Master(self, n['name'], backends),
+                'backend': lambda n: Backend(self, n['name'], n['partition'], self.setting.date)}
         self.nodes = {n['name']: make[n['kind']](n) for n in config['nodes']}
         for node in self.nodes.values():
             node.begin()
@@ -172,24 +171,24 @@ def refusal(config, schedule):
             return number, rule
 
 
-def cluster_after(config, schedule, has_master=False):
-    cluster = Cluster(json.loads(config), has_master)
+def cluster_after(config, schedule, refused=NOT_YET):
+    cluster = Cluster(json.loads(config), refused)
     for _, line in lines_of(schedule):
         if is_event(line):
             cluster.take(line)
     return cluster
 
 
-def run(config, schedule, has_master=False):
-    return cluster_after(config, schedule, has_master).output()
+def run(config, schedule, refused=NOT_YET):
+    return cluster_after(config, schedule, refused).output()
 
 
-def printed_by(config, schedule, has_master=False):
+def printed_by(config, schedule, refused=NOT_YET):
     """The output, the line on the error output and the status."""
-    refused = refusal(config, schedule)
-    if refused:
-        return '', 'murder: schedule refused: line %d rule %d\n' % refused, 3
-    return run(config, schedule, has_master), '', 0
+    broken = refusal(config, schedule)
+    if broken:
+        return '', 'murder: schedule refused: line %d rule %d\n' % broken, 3
+    return run(config, schedule, refused), '', 0
 
 
 def stored(name, otherwise=''):
@@ -219,11 +218,10 @@ def compared():
 
 
 if __name__ == '__main__':
-    has_master = sys.argv[1:2] == ['--master']
-    names = sys.argv[1 + has_master:]
+    names = sys.argv[1:]
     if not names:
         sys.exit(compared())
-    output, error, status = printed_by(*(open(name, 'rb').read() for name in names), has_master)
+    output, error, status = printed_by(*(open(name, 'rb').read() for name in names))
     sys.stdout.write(output)
     sys.stderr.write(error)
     sys.exit(status)

@@ -86,9 +86,7 @@ class Table:
 
 
 def mailboxes(cluster):
-    """What the homes have of the mailboxes: of those of the table, or without one all."""
-    if not cluster.has_master:
-        return {name: box for backend in cluster.of_kind('backend') for name, box in backend.boxes.items()}
+    """What the homes have of the mailboxes of the table."""
     table = cluster.of_kind('master')[0].table
     return {name: cluster.nodes[server_of(record.place)].boxes[name] for name, record in table.items() if record.acl is not None}
 
@@ -132,8 +130,7 @@ class Course:
             client.reply(tag, client.session.relocated(need))
 
     def act(self, ask, step):
-        serial = self.table.serial(ask.name, step) if self.cluster.has_master else len(self.store.given) + 1
-        return self.store.act(ask, serial)
+        return self.store.act(ask, self.table.serial(ask.name, step))
 
     def differing(self):
         """Behind the last point: which clients were given other bytes, and which mailboxes are others."""

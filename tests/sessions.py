@@ -11,7 +11,7 @@ SYNTAX, STATE, MESSAGE = b'BAD syntax error', b'BAD not in this state', b'BAD no
 CANNOT, NO_RIGHT = b'NO [CANNOT] cannot be done', b'NO [NOPERM] not permitted'
 MOVED = b'NO [UNAVAILABLE] mailbox is being moved'
 CLOSED = b'* OK [CLOSED] closed\r\n'
-WITHOUT_MASTER = (b'DELETE', b'LIST')  # what isn't done before the name master works
+NOT_YET = (b'DELETE', b'LIST')  # what nodes carry out, and the program's sessions refuse yet
 NOT_DONE = LEFT_OUT + (b'COPY', b'UID COPY', b'XFER')
 NAMED_MAILBOX = (b'CREATE', b'DELETE', b'APPEND', b'STATUS', b'SELECT', b'EXAMINE')
 ANY_STATE, LOGGED_OUT = (b'CAPABILITY', b'NOOP', b'LOGOUT'), (b'LOGIN', b'AUTHENTICATE')
@@ -24,12 +24,12 @@ GONE_REPLY = Reply(None, b'* BYE mailbox is gone\r\n', True)
 
 
 class Setting:
-    """The users, the date of messages without one, and what isn't done."""
+    """The users, the date of messages without one, and what isn't done: some of these commands too."""
 
-    def __init__(self, config, has_master):
+    def __init__(self, config, refused):
         self.users = {u['name'].encode(): (u['password'].encode(), u.get('admin', False)) for u in config['users']}
         self.date = config['date'].encode()
-        self.not_done = NOT_DONE if has_master else NOT_DONE + WITHOUT_MASTER
+        self.not_done = NOT_DONE + refused
 
     def is_admin(self, user):
         return self.users[user][1]

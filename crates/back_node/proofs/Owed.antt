@@ -40,6 +40,7 @@ use Rattle.name_flows.specs.Listing.{active_listed, listed_step, noted, noted_in
 use Rattle.name_flows.specs.Phases.{is_closing, is_creating}
 use Rattle.name_flows.specs.Running.{answer_to, answers_for, ended, flow_at, goes_on, has_flow, is_at, new_flows, staged}
 use Rattle.name_flows.specs.Steps.{FlowStep, given, silent}
+use Rattle.name_flows.proofs.AnswerOrder.{ordered_all}
 use Rattle.back_node.specs.NodeLaws.{IsForOne, IsOfOne, OwesOnly}
 
 abbrev pub IsToOne : (List ℕ → Type 0) → Told → Type 0
@@ -253,7 +254,7 @@ module _ (may : List ℕ → Type 0) where
       (round_owes_by master it ask (refusal it.flows held ask.name ask.kind) (All-head (IsOfOne may) ask waiting all) so)
 
   round_answers : (flows : Flows) (entry : Option BackendRecord) (it : Round) → OwesRound flows.master it → AnswersOnly may flows (after_round entry it)
-  round_answers flows entry it so = record { owes = so.owes; answers = so.answers; master = so.same }
+  round_answers flows entry it so = record { owes = so.owes; answers = ordered_all (IsToOne may) it.answers so.answers; master = so.same }
 
   list_answers_by : (flows : Flows) (held : Names) (resync : Option Resync) → flows.resync ≡ resync → OwesOnly may flows
       → AnswersOnly may flows (list_ok_by (record flows { resync = None }) held resync)

@@ -1,9 +1,12 @@
--- The frontends' replicas of the master's table.
-pub mod FeedLaw
-pub mod Carried
-pub mod FeedSteps
-pub mod FeedMaster
-pub mod FeedFront
-pub mod ForNodes
-pub mod FeedRuns
-pub mod FeedStart
+-- The names and the feeds are kept by each step.
+pub mod Many
+pub mod Backends
+pub mod Beside
+pub mod AtMaster
+pub mod FrontAsks
+pub mod Others
+pub mod Noops
+pub mod Apart
+pub mod AnsweredNoops
+pub mod Kept
+pub mod DeliveredNoops

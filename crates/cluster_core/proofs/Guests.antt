@@ -1,7 +1,9 @@
--- Clients from outside, which the master serves.
-pub mod MastersStay
-pub mod MastersAtStart
+-- The clients at the master are given their dialogs.
+pub mod Given
 pub mod GuestLaw
+pub mod AtMaster
+pub mod AtOthers
 pub mod GuestSteps
-pub mod GuestsAtStart
 pub mod TablesStay
+pub mod StartGuests
+pub mod GuestsServed

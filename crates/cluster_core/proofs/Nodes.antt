@@ -1,7 +1,5 @@
--- In each step one node works, for its own clients, and it sends on its own links.
-pub mod NotLost
-pub mod OneNodeLaw
-pub mod OwnClientsLaw
-pub mod LinkedNodes
-pub mod KindsOfNodes
-pub mod OnPairs
+-- What comes to a node is one step of it, and the nodes stay what they are.
+pub mod Carried
+pub mod Comes
+pub mod Known
+pub mod Stay

@@ -1,7 +1,21 @@
--- What the headline says of a run, drawn from the laws of its connections, names, nodes and flows.
-pub mod OneStoreLaw
-pub mod GuestsServed
+-- What the law says of one server: its history, its store, its names, and what its clients were told.
+pub mod MarksGoOn
+pub mod HistoryLaw
+pub mod NamesHeld
+pub mod OpenLaw
+pub mod OneHome
+pub mod Boxes
+pub mod BackendsLaw
+pub mod ShownHomes
+pub mod NoResync
+pub mod SaysOf
+pub mod UidsBelow
+pub mod MovingLaw
+pub mod EachStep
+pub mod SerialsRise
 pub mod ToldSoFar
+pub mod RefusalsLaw
 pub mod ClosedLaw
 pub mod AtRestLaw
-pub mod HeadlineLaw
+pub mod AnyStep
+pub mod OneStoreLaw

@@ -1,10 +1,20 @@
--- How a run begins, and that it is that of its single steps, each of which has room.
+-- What holds of a run whatever its nodes say to one another.
+pub mod InTime
+pub mod OneNodeLaw
 pub mod Unrolled
-pub mod StepsMade
-pub mod CarryOn
+pub mod FlowMade
 pub mod WholeLaw
-pub mod UpsLaw
-pub mod FrontsOfStart
-pub mod StartLaw
+pub mod CarryOn
+pub mod NotLost
+pub mod OwnNodes
+pub mod OwnClientsLaw
 pub mod RoomLaw
 pub mod RunRoom
+pub mod StepsMade
+pub mod LinkedNodes
+pub mod OnPairs
+pub mod FlowRests
+pub mod QuietFlows
+pub mod QuietNodes
+pub mod NeverMoved
+pub mod NumbersLaw

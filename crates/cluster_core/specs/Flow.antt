@@ -9,7 +9,7 @@ use Rattle.cluster_core.specs.declared.layout.Layout.{Layout}
 use Rattle.cluster_core.specs.declared.world.World.{World}
 use Rattle.link_queue.specs.Links.{on_link}
 use Rattle.mur_config.specs.declared.config.Config.{Config}
-use Rattle.cluster_core.specs.World.{ClusterState, start, layout_of, steps_by}
+use Rattle.cluster_core.specs.World.{layout_of, ClusterState, start, steps_by}
 
 -- a world in the middle of a flow, the deliveries that it made, and how many may follow
 pub record Flowing : Type 0 where

@@ -1,36 +1,37 @@
--- The headline, of a run of the cluster.
-pub mod OneStore
-pub mod Points
-pub mod Routing
-pub mod Homes
-pub mod HomeLaw
-pub mod OpenAt
-pub mod Backends
-pub mod OneNode
+-- What holds of a run of the cluster.
 pub mod Outside
-pub mod Replicas
-pub mod FlowLaw
+pub mod Serials
+pub mod Refusals
+pub mod OpenAt
+pub mod HomeLaw
+pub mod Homes
+pub mod OneStore
 pub mod Closed
+pub mod OneNode
+pub mod FlowLaw
 pub mod AtRest
+pub mod Replicas
+pub mod Points
+pub mod Backends
 use Rattle.std.specs.Prelude.{◌≡◌, List}
 use Rattle.mur_config.specs.declared.config.Config.{Config}
 use Rattle.mur_config.specs.Nodes.{links_of}
 use Rattle.schedule_text.specs.declared.event.Event.{Event}
-use Rattle.cluster_core.specs.Headline.Closed.{GivesNoMore}
 use Rattle.cluster_core.specs.Flow.{run_of, run_steps, steps_of_run}
+use Rattle.cluster_core.specs.Headline.Closed.{GivesNoMore}
 use Rattle.cluster_core.specs.Headline.FlowLaw.{AreStepsOfAll}
-use Rattle.cluster_core.specs.Headline.HomeLaw.{KeepsOneHomeEach, RefusesForCauseEach}
+use Rattle.cluster_core.specs.Headline.HomeLaw.{KeepsOneHomeEach}
 use Rattle.cluster_core.specs.Headline.OneNode.{GoesOverLinks, OneNodeWorksEach, ServesItsOwnEach}
 use Rattle.cluster_core.specs.Headline.OneStore.{IsToldByOneStore}
 use Rattle.cluster_core.specs.Headline.Outside.{ServesGuests}
+use Rattle.cluster_core.specs.Headline.Refusals.{RefusesForCauseEach}
 use Rattle.cluster_core.specs.Headline.Replicas.{FollowTheTable}
 use Rattle.cluster_core.specs.World.{start}
 
--- what the mail clients were given is what one mailbox store replies to the printed history, one command at a time, in each session's order;
--- in each single step one node works, for its own clients alone, and sends only over the links that it has; a client that has closed its
--- connection is given nothing more; a client at the master is given the replies to its lines of MUPDATE, and changes no table; the replicas of
--- the frontends follow the master's table; a mailbox has at most one writable home; a refusal of relocation comes only at a reserved name or
--- an unreached node
+-- What the mail clients were given is what one mailbox store replies to the printed history, one command at a time, in each session's order; in each single
+-- step one node works, for its own clients alone, and sends only over the links that it has; a client that has closed its connection is given nothing
+-- more; a client at the master is given the replies to its lines of MUPDATE and, once it asked for that, each change of the table; the replicas of the
+-- frontends follow the master's table; a mailbox has at most one writable home; a command is refused for a move only where its name is reserved.
 pub record IsOneServer (config : Config) (events : List Event) : Type 0 where
   -- the run is that of its single steps, and those are its events, but of a flow as many deliveries as it may make, or until none is left
   pub by_steps : run_of config events ≡ run_steps (start config) (steps_of_run config events)

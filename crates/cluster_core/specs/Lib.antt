@@ -1,8 +1,9 @@
 pub mod World
-pub mod Flow
-pub mod Room
 pub mod Heard
+pub mod LawSetting
+pub mod Numbers
+pub mod Flow
 pub mod History
 pub mod Shown
-pub mod LawSetting
+pub mod Room
 pub mod Headline

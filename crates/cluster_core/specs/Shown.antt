@@ -5,7 +5,7 @@ use Rattle.std.specs.Map.{keys_of}
 use Rattle.std.specs.Ordering.{nat_cmp}
 use Rattle.std.specs.Cmp.Lexicographic.{slice_cmp}
 use Rattle.std.specs.BTreeSet.{insert_key}
-use Rattle.backend_core.specs.declared.backend.Backend.{Backend}
+use Rattle.back_node.specs.declared.node.BackNode.{BackNode}
 use Rattle.node_record.specs.declared.held.Held.{Held}
 use Rattle.mur_base.specs.Map.{value_at}
 use Rattle.cluster_core.specs.declared.cluster.HomeRow.{HomeRow}
@@ -22,9 +22,9 @@ given_by (Some client) = client.given
 unfoldable pub given_to : World → ℕ → List ℕ
 given_to world conn = given_by (client_at world conn)
 
-abbrev pub held_by : Option Backend → List (List ℕ × Held)
+abbrev pub held_by : Option BackNode → List (List ℕ × Held)
 held_by None = []
-held_by (Some home) = home.held
+held_by (Some node) = node.home.held
 
 -- what a backend has
 abbrev pub held_at_node : World → List ℕ → List (List ℕ × Held)

@@ -3,8 +3,8 @@
 use Rattle.std.specs.Prelude.{ℕ, ◌+◌, Bool, false, if◌then◌else◌, List, [], ◌∷◌, ◌++◌, map, Option, None, Some}
 use Rattle.std.specs.Ordering.{nat_cmp}
 use Rattle.std.specs.Cmp.Lexicographic.{slice_cmp}
-use Rattle.backend_core.specs.declared.backend.Backend.{Backend}
-use Rattle.backend_core.specs.Plan.{booted}
+use Rattle.back_node.specs.declared.node.BackNode.{BackNode}
+use Rattle.back_node.specs.Node.{new_node}
 use Rattle.front_core.specs.declared.front.Front.{Front}
 use Rattle.front_core.specs.Front.{new_front}
 use Rattle.node_step.specs.declared.input.NodeInput.{NodeInput}
@@ -14,11 +14,13 @@ use Rattle.link_msg.specs.declared.message.LinkMsg.TheVariants.{Up}
 use Rattle.link_msg.specs.declared.out.Out.{Out}
 use Rattle.link_msg.specs.declared.out.Out.TheVariants.{Client as to_client, Close, Link as to_node, Mark as mark, Told as tell}
 use Rattle.master_core.specs.Boot.{booted as master_booted}
+use Rattle.mur_base.specs.declared.home.Location.{Location}
 use Rattle.mur_base.specs.Map.{value_at, with_entry, with_value}
 use Rattle.mur_base.specs.declared.point.AskId.{AskId}
 use Rattle.mur_config.specs.declared.config.Config.{Config}
 use Rattle.mur_config.specs.declared.node.Kind.{Kind}
-use Rattle.mur_config.specs.declared.node.Kind.TheVariants.{Master, Frontend, Backend as backend_kind}
+use Rattle.mur_config.specs.declared.node.Kind.TheVariants.{Master as master_kind, Frontend, Backend as backend_kind}
+use Rattle.master_core.specs.declared.master.Master.{Master}
 use Rattle.mur_config.specs.declared.node.Link.{Link}
 use Rattle.mur_config.specs.declared.node.Node.{Node}
 use Rattle.mur_config.specs.Nodes.{links_of}
@@ -26,7 +28,7 @@ use Rattle.mur_model.specs.declared.setting.Setting.{Setting}
 use Rattle.node_record.specs.Table.{empty_table}
 use Rattle.node_step.specs.declared.node.NodeState.{NodeState}
 use Rattle.node_step.specs.declared.node.NodeState.TheVariants as state
-use Rattle.node_step.specs.NodeStep.{Acted, as_front, as_back, takes as node_takes}
+use Rattle.node_step.specs.NodeStep.{Acted, as_front, as_back, as_master, takes as node_takes}
 use Rattle.schedule_text.specs.declared.event.Event.{Event}
 use Rattle.schedule_text.specs.declared.event.Event.TheVariants.{Open, Data, Hang, Deliver}
 use Rattle.cluster_core.specs.declared.world.Client.{Client}
@@ -51,7 +53,7 @@ first_name [] = []
 first_name (name ∷ names) = name
 
 unfoldable pub or_backend : Kind → List ℕ → List (List ℕ) → List (List ℕ)
-or_backend Master name names = names
+or_backend master_kind name names = names
 or_backend Frontend name names = names
 or_backend backend_kind name names = name ∷ names
 
@@ -60,12 +62,12 @@ unfoldable pub backends_of : List Node → List (List ℕ)
 backends_of [] = []
 backends_of (node ∷ nodes) = or_backend node.kind node.name (backends_of nodes)
 
--- the first backend holds every mailbox
+-- the first backend makes a mailbox that has no name above it
 abbrev pub home_of : Config → List ℕ
 home_of config = first_name (backends_of config.nodes)
 
 unfoldable pub or_master : Kind → List ℕ → List ℕ → List ℕ
-or_master Master name other = name
+or_master master_kind name other = name
 or_master Frontend name other = other
 or_master backend_kind name other = other
 
@@ -80,11 +82,15 @@ master_of config = master_among config.nodes
 abbrev pub setting_of : Config → Setting
 setting_of config = record { users = config.users; date = config.date }
 
+-- the place of what a backend keeps
+abbrev pub place_of : Node → Location
+place_of node = record { server = node.name; partition = node.partition }
+
 -- a node as it begins, by its kind: without connections, mailboxes or records
 unfoldable pub first_state : Config → Node → Kind → NodeState
-first_state config node Master = state.Master (master_booted node.name (backends_of config.nodes) empty_table)
+first_state config node master_kind = state.Master (master_booted node.name (backends_of config.nodes) empty_table)
 first_state config node Frontend = state.Front (new_front node.name (home_of config) (master_of config) (setting_of config))
-first_state config node backend_kind = state.Back (booted (record { server = node.name; partition = node.partition }))
+first_state config node backend_kind = state.Back (new_node (place_of node) (master_of config))
 
 -- a node more
 abbrev pub with_node : Config → World → Node → World
@@ -105,8 +111,12 @@ node_at world node = value_at (slice_cmp nat_cmp) world.nodes node
 abbrev pub front_at : World → List ℕ → Option Front
 front_at world node = as_front (node_at world node)
 
-abbrev pub home_at : World → List ℕ → Option Backend
+abbrev pub home_at : World → List ℕ → Option BackNode
 home_at world node = as_back (node_at world node)
+
+-- the master of a name
+abbrev pub master_at : World → List ℕ → Option Master
+master_at world node = as_master (node_at world node)
 
 -- a client is given bytes
 unfoldable pub given_more : World → ℕ → List ℕ → Option Client → World

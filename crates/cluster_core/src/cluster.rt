@@ -1,22 +1,22 @@
 // The cluster as one value.
-ghost use Rattle.std.specs.Prelude.{◌≡◌, ◌<◌, ◌^◌, List, IfOk, OnOk};
+ghost use Rattle.std.specs.Prelude.{◌≡◌, List, IfOk, OnOk};
 ghost use Rattle.std.specs.Option.{option_copied, option_map};
 ghost use Rattle.master_core.specs.declared.master.Master.{Master};
 ghost use Rattle.mur_config.specs.declared.config.Config.{Config};
 ghost use Rattle.imap_command.specs.Ruled.{IsDate};
 ghost use Rattle.mur_config.specs.Nodes.{AreNodes};
 ghost use Rattle.schedule_text.specs.declared.event.Event.{Event};
-ghost use Rattle.schedule_text.specs.Brings.{steps_of_all, bytes_of_all};
+ghost use Rattle.schedule_text.specs.ScheduleFits.{HasCountRoom};
 ghost use Rattle.cluster_core.specs.Headline.AtRest.{NothingWaitsBehind};
-ghost use Rattle.cluster_core.specs.Flow.{happens, ran, run_steps, steps_of_event};
+ghost use Rattle.cluster_core.specs.Flow.{happens, ran, run_steps, steps_of_event, steps_of_run};
 ghost use Rattle.cluster_core.specs.Headline.FlowLaw.{AreItsSteps};
 ghost use Rattle.cluster_core.specs.Headline.{IsOneServer};
 ghost use Rattle.cluster_core.specs.History.{history_of};
 ghost use Rattle.cluster_core.specs.Headline.OneNode.{OneNodeWorksEach, ServesItsOwnBehind};
-ghost use Rattle.cluster_core.specs.Headline.Outside.{master_at};
+ghost use Rattle.cluster_core.specs.Numbers.{NumbersFitAll};
 ghost use Rattle.cluster_core.specs.Room.{HasRoom};
 ghost use Rattle.cluster_core.specs.Shown.{given_to, home_rows};
-ghost use Rattle.cluster_core.specs.World.{begun};
+ghost use Rattle.cluster_core.specs.World.{begun, master_at};
 
 use crate::happens::happens;
 use crate::history::history;
@@ -149,8 +149,7 @@ impl Cluster {
 
 /// Runs the events one after another from the start. Each event is let go once it was taken. The headline holds of the run.
 pub fn run(alloc: Global, config: &Config, events: Events) -> Result<Cluster, Memory>
-    requires steps { steps_of_all events < 2 ^ 64 }
-    requires bytes { bytes_of_all events < 2 ^ 32 }
+    requires { HasCountRoom events }
     ensures ran { IfOk result (λ cluster. cluster ≡ ran config.now events) }
     ensures one_server { IsOneServer config.now events }
 {
@@ -161,7 +160,9 @@ pub fn run(alloc: Global, config: &Config, events: Events) -> Result<Cluster, Me
     Ok(cluster)
 }
 
-/// The headline as a law of its own: it holds of every configuration and of all events. The call does nothing.
+/// The headline as a law of its own: it holds of every configuration and of all events in which connections have numbers of 64 bits and no client sends
+/// 2^32 bytes. The call does nothing.
 pub fn headline()
-    ensures { (config : Config) (events : List Event) → AreNodes config.nodes → IsDate config.date → IsOneServer config events }
+    ensures { (config : Config) (events : List Event) → AreNodes config.nodes → IsDate config.date
+        → NumbersFitAll config (steps_of_run config events) → IsOneServer config events }
 {}

@@ -12,8 +12,8 @@ ghost use Rattle.cluster_core.specs.Shown.{held_at_node, home_row, row_if, home_
 use crate::cluster::{HomeRow, HomeRows};
 use crate::layout::Layout;
 use crate::world::World;
-use backend_core::{Backend, Held};
 use mur_base::{Copied, MailName, Memory, NodeName};
+use node_record::{Held, HeldNames};
 use std::alloc::Global;
 use std::collections::BTreeSet;
 
@@ -39,18 +39,18 @@ fn names(alloc: Global, layout: &Layout, world: &World) -> Result<MailNames, Mem
 {
     let mut names = MailNames::new(alloc);
     for node in layout.backends.as_slice() {
-        if let Some(home) = world.home(node) {
-            put_names(alloc, home, &mut names)?;
+        if let Some(node) = world.home(node) {
+            put_names(alloc, &node.home.held, &mut names)?;
         }
     }
     Ok(names)
 }
 
-// Puts the names that a home has into a set.
-fn put_names(alloc: Global, home: &Backend, names: &mut MailNames) -> Result<(), Memory>
-    ensures { OnOk result (names.new.keys ≡ fold (insert_key (slice_cmp nat_cmp)) names.old.keys (keys_of home.now.held)) }
+// Puts the names that a backend has into a set.
+fn put_names(alloc: Global, held: &HeldNames, names: &mut MailNames) -> Result<(), Memory>
+    ensures { OnOk result (names.new.keys ≡ fold (insert_key (slice_cmp nat_cmp)) names.old.keys (keys_of held.now)) }
 {
-    for (name, _held) in home.held.iter() {
+    for (name, _it) in held.iter() {
         names.insert(name.copy(alloc)?)?;
     }
     Ok(())
@@ -105,5 +105,5 @@ fn home_row(alloc: Global, name: &MailName, node: &NodeName, held: &Held) -> Res
 fn held_at<'a>(world: &'a World, node: &NodeName, name: &MailName) -> Option<&'a Held>
     ensures { option_copied result ≡ value_at (slice_cmp nat_cmp) (held_at_node world.now node.now) name.now }
 {
-    world.home(node)?.held.get(name)
+    world.home(node)?.home.held.get(name)
 }

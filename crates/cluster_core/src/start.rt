@@ -8,7 +8,7 @@ ghost use Rattle.cluster_core.specs.World.{start, layout_of, first_name, home_of
 use crate::coming::comes;
 use crate::layout::Layout;
 use crate::world::World;
-use backend_core::Backend;
+use back_node::BackNode;
 use front_core::Front;
 use link_msg::LinkMsg;
 use master_core::Master;
@@ -129,7 +129,8 @@ fn first_state(
                 server: name,
                 partition: Items::from_slice(alloc, node.partition.as_slice())?,
             };
-            Ok(NodeState::Back(Backend::boot(alloc, me)))
+            let master = layout.master.copy(alloc)?;
+            Ok(NodeState::Back(BackNode::new(alloc, me, master)?))
         }
     }
 }
@@ -145,10 +146,10 @@ fn first_front(
     requires backends { 0 < length (layout.now).backends }
     ensures { IfOk result (λ it. it ≡ state.Front (new_front name (home_of config.now) (master_of config.now) (setting_of config.now))) }
 {
-    let home = first_name(alloc, &layout.backends)?;
+    let first = first_name(alloc, &layout.backends)?;
     let master = layout.master.copy(alloc)?;
     let setting = setting_of(alloc, config)?;
-    Ok(NodeState::Front(Front::new(name, home, master, setting, alloc)))
+    Ok(NodeState::Front(Front::new(name, first, master, setting, alloc)))
 }
 
 fn setting_of(alloc: Global, config: &Config) -> Result<Setting, Memory>

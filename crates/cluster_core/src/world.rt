@@ -2,11 +2,10 @@
 ghost use Rattle.std.specs.Prelude.{◌≡◌};
 ghost use Rattle.std.specs.Option.{option_copied, option_map};
 ghost use Rattle.master_core.specs.declared.master.Master.{Master};
-ghost use Rattle.cluster_core.specs.Headline.Outside.{master_at};
-ghost use Rattle.cluster_core.specs.World.{home_at};
+ghost use Rattle.cluster_core.specs.World.{home_at, master_at};
 
 use crate::shared_name::SharedName;
-use backend_core::Backend;
+use back_node::BackNode;
 use link_msg::LinkMsg;
 use link_queue::{Broken, Links};
 use mark_history::Mark;
@@ -41,7 +40,7 @@ pub struct World {
 impl World {
     /// The backend of a name, if there is one.
     #[tactic(auto, unfolding(node_step::specs::NodeStep::as_back))]
-    pub fn home(&self, node: &NodeName) -> Option<&Backend>
+    pub fn home(&self, node: &NodeName) -> Option<&BackNode>
         ensures { option_copied result ≡ home_at self.now node.now }
     {
         match self.nodes.get(node) {

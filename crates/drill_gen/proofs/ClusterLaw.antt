@@ -4,14 +4,15 @@ use Rattle.std.specs.Result.{result_unwrap_or}
 use Rattle.mail_message.specs.Date.{date_of, is_date, is_calendar, is_day, is_below, is_month, is_clock, is_zone}
 use Rattle.mur_base.specs.Names.{short_name_fault, has_short_name_bytes, is_short_name_byte}
 use Rattle.mur_base.specs.Users.{users_fault, user_names_differ, is_user_named, has_password, is_password, is_no_nul}
-use Rattle.mur_config.specs.Nodes.{nodes_fault, node_names_differ, is_node_named, has_node_counts, count_of_kind, is_of_kind, is_node_of_kind, is_some_within, has_partition, fits_kind, AreTakenAsNodes}
+use Rattle.mur_config.specs.Nodes.{nodes_fault, has_valid_name, node_names_differ, is_node_named, has_node_counts, count_of_kind, is_of_kind}
+use Rattle.mur_config.specs.Nodes.{is_node_of_kind, is_some_within, has_partition, fits_kind, AreTakenAsNodes}
 use Rattle.mur_config.specs.declared.node.Node.{Node}
 use Rattle.mur_config.specs.declared.nodes.NodesFault.{NodesFault}
 use Rattle.drill_gen.specs.DrillCluster.{node_at, drill_nodes, administrator, user_numbered, users_up_to}
 use Rattle.drill_gen.proofs.NamesLaw.{one_digit}
 
 no_fault : nodes_fault drill_nodes ≡ None
-unfolding nodes_fault node_names_differ is_node_named has_node_counts count_of_kind is_of_kind is_node_of_kind is_some_within has_partition fits_kind drill_nodes node_at short_name_fault has_short_name_bytes is_short_name_byte
+unfolding nodes_fault has_valid_name node_names_differ is_node_named has_node_counts count_of_kind is_of_kind is_node_of_kind is_some_within has_partition fits_kind drill_nodes node_at short_name_fault has_short_name_bytes is_short_name_byte
 no_fault = refl
 
 pub taken : (list : List Node) (result : Result (List Node) NodesFault) → list ≡ drill_nodes → AreTakenAsNodes list result → IsOk result

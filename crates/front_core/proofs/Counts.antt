@@ -9,22 +9,22 @@ use Rattle.imap_wire.proofs.MoreLaws.{frames_of_more-length}
 use Rattle.link_msg.specs.declared.answer.BackAnswer.{BackAnswer}
 use Rattle.link_msg.specs.declared.message.LinkMsg.{LinkMsg}
 use Rattle.link_msg.specs.declared.message.LinkMsg.TheVariants.{Up, End, Line, Ask, Answer}
+use Rattle.ask_routes.specs.Barrier.{barrier_answered}
+use Rattle.mur_base.specs.declared.point.AskId.{AskId}
 use Rattle.mur_base.specs.Map.{with_entry, with_value}
-use Rattle.mur_base.proofs.MapLaws.{numbers_apart, same_or_other, value_at-with_entry, value_at-with_entry-other}
-use Rattle.mur_base.proofs.MapLaws.{value_at-with_value, value_at-with_value-other}
+use Rattle.mur_base.proofs.MapLaws.{numbers_apart, same_or_other, value_at-with_entry, value_at-with_entry-other, value_at-with_value, value_at-with_value-other}
 use Rattle.front_core.specs.declared.connection.Connection.{Connection}
 use Rattle.front_core.specs.declared.connection.Stage.{Stage}
-use Rattle.front_core.specs.declared.connection.Stage.TheVariants.{Reading, Asked, Ended}
+use Rattle.front_core.specs.declared.connection.Stage.TheVariants.{Reading, Waits, Ended}
 use Rattle.front_core.specs.declared.front.Front.{Front}
-use Rattle.front_core.specs.Answered.{answer_comes}
+use Rattle.front_core.specs.Answered.{answer_comes, ok_comes}
 use Rattle.front_core.specs.Ended.{released, released_at}
-use Rattle.front_core.specs.Front.{connection_at, connect, connect_at, bytes_in, front_bytes_at, bytes_by, having_read}
-use Rattle.front_core.specs.Front.{hang, front_hang_at, hung_up, deliver, answer_at, answer_from, line_from, up_from, waits_for}
+use Rattle.front_core.specs.Front.{connection_at, connect, connect_at, bytes_in, front_bytes_at, bytes_by, having_read, hang, front_hang_at, hung_up, deliver, answer_at, answer_from, line_by, line_from, ok_at, up_from, waits_for, ways_of}
 use Rattle.front_core.specs.Room.{commands_of, HasCommands, HasRoomAt, HasRoomFor}
 use Rattle.front_core.specs.Slots.{new_connection}
 use Rattle.front_core.specs.Taken.{inputs_come}
 use Rattle.front_core.proofs.ReadingLaws.{inputs_of_more-length}
-use Rattle.front_core.proofs.CommandLaws.{inputs_count, answer_counts}
+use Rattle.front_core.proofs.CommandLaws.{inputs_count, answer_counts, ok_counts}
 
 same_some : {X : Type 0} (o : Option X) (x y : X) → o ≡ Some x → o ≡ Some y → x ≡ y
 same_some (Some z) x y a b = (let p : Some x ≡ Some y = sym a ∙ b in cc)
@@ -49,7 +49,7 @@ changed_counts front conn old new most more there has fits q c is =
 released_by : (connection : Connection) (stage : Stage) → commands_of (released_at connection stage) ≤ commands_of connection
 unfolding released_at
 released_by connection Reading = omega arith
-released_by connection (Asked tag ask) = omega arith
+released_by connection (Waits tag it) = omega arith
 released_by connection Ended = omega arith
 
 -- what is let go counts no more
@@ -62,16 +62,16 @@ more_counts front most more has q c is = omega (arith, has q c is)
 read_counts : (front : Front) (conn : ℕ) (bytes : List ℕ) (most : ℕ) (connection : Connection) → connection_at front conn ≡ Some connection
     → HasCommands front most
     → HasCommands (changed front conn
-    (released (inputs_come front.setting front.home conn (having_read front.setting connection bytes)
+    (released (inputs_come front.setting (ways_of front) conn (having_read front.setting connection bytes)
     (inputs_of_more front.setting connection.reader bytes)).connection)) (most + length bytes)
 read_counts front conn bytes most connection there has =
     changed_counts front conn connection _ most (length bytes) there has
     (omega (
       arith,
-      released_counts (inputs_come front.setting front.home conn (having_read front.setting connection bytes)
+      released_counts (inputs_come front.setting (ways_of front) conn (having_read front.setting connection bytes)
           (inputs_of_more front.setting connection.reader bytes)).connection,
       has conn connection there,
-      inputs_count front.setting front.home conn (having_read front.setting connection bytes) (inputs_of_more front.setting connection.reader bytes),
+      inputs_count front.setting (ways_of front) conn (having_read front.setting connection bytes) (inputs_of_more front.setting connection.reader bytes),
       frames_of_more-length connection.reader.held bytes,
       inputs_of_more-length front.setting connection.reader bytes,
     ))
@@ -80,7 +80,7 @@ bytes_by_counts : (front : Front) (conn : ℕ) (bytes : List ℕ) (most : ℕ) (
     → HasCommands front most → HasCommands (bytes_by front conn bytes connection stage).front (most + length bytes)
 unfolding bytes_by
 bytes_by_counts front conn bytes most connection Reading there has = read_counts front conn bytes most connection there has
-bytes_by_counts front conn bytes most connection (Asked tag ask) there has = read_counts front conn bytes most connection there has
+bytes_by_counts front conn bytes most connection (Waits tag it) there has = read_counts front conn bytes most connection there has
 bytes_by_counts front conn bytes most connection Ended there has = more_counts front most (length bytes) has
 
 bytes_at_counts : (front : Front) (conn : ℕ) (bytes : List ℕ) (most : ℕ) (found : Option Connection) → connection_at front conn ≡ found
@@ -112,8 +112,8 @@ answer_at_counts front answer most (Some connection) there has =
     unchanged_counts front (answer.id).conn connection _ most there has
     (omega (
       arith,
-      released_counts (answer_comes front.setting front.home (answer.id).conn connection answer).connection,
-      answer_counts front.setting front.home (answer.id).conn connection answer,
+      released_counts (answer_comes front.setting (ways_of front) (answer.id).conn connection answer).connection,
+      answer_counts front.setting (ways_of front) (answer.id).conn connection answer,
     ))
 
 answer_from_counts : (front : Front) (answer : BackAnswer) (most : ℕ) (is_asked : Bool) → HasCommands front most
@@ -127,10 +127,26 @@ unfolding up_from
 up_counts front most true has = has
 up_counts front most false has = has
 
+ok_at_counts : (front : Front) (id : AskId) (most : ℕ) (found : Option Connection) → connection_at front id.conn ≡ found
+    → HasCommands front most → HasCommands (ok_at front id found).front most
+unfolding ok_at
+ok_at_counts front id most None there has = has
+ok_at_counts front id most (Some connection) there has =
+    unchanged_counts front id.conn connection _ most there has
+    (omega (
+      arith,
+      released_counts (ok_comes front.setting (ways_of front) id.conn connection id).connection,
+      ok_counts front.setting (ways_of front) id.conn connection id,
+    ))
+
+line_by_counts : (front : Front) (bytes : List ℕ) (most : ℕ) (found : Option AskId) → HasCommands front most → HasCommands (line_by front bytes found).front most
+line_by_counts front bytes most None has = has
+line_by_counts front bytes most (Some id) has = ok_at_counts front id most (connection_at front id.conn) refl has
+
 line_counts : (front : Front) (bytes : List ℕ) (most : ℕ) (is_master : Bool) → HasCommands front most
     → HasCommands (line_from is_master front bytes).front most
 unfolding line_from
-line_counts front bytes most true has = has
+line_counts front bytes most true has = line_by_counts front bytes most (barrier_answered bytes) has
 line_counts front bytes most false has = has
 
 pub deliver_counts : (front : Front) (from : List ℕ) (message : LinkMsg) (most : ℕ) → HasCommands front most
@@ -185,10 +201,14 @@ room_by (Some connection) most more has fits = omega (arith, has connection refl
 pub has_room_at : (front : Front) (conn most more : ℕ) → HasCommands front most → most + more < 2 ^ 64 → HasRoomAt front conn more
 has_room_at front conn most more has fits = room_by (connection_at front conn) most more (has conn) fits
 
+room_for_ok : (front : Front) (found : Option AskId) (most : ℕ) → HasCommands front most → most < 2 ^ 64 → IfSome found (λ (id : AskId). HasRoomAt front id.conn 0)
+room_for_ok front None most has fits = tt
+room_for_ok front (Some id) most has fits = has_room_at front id.conn most 0 has (omega (arith, fits))
+
 pub has_room_for : (front : Front) (message : LinkMsg) (most : ℕ) → HasCommands front most → most < 2 ^ 64 → HasRoomFor front message
 unfolding HasRoomFor
 has_room_for front (Answer answer) most has fits = has_room_at front (answer.id).conn most 0 has (omega (arith, fits))
 has_room_for front Up most has fits = tt
 has_room_for front End most has fits = tt
-has_room_for front (Line line) most has fits = tt
+has_room_for front (Line line) most has fits = room_for_ok front (barrier_answered line) most has fits
 has_room_for front (Ask ask) most has fits = tt

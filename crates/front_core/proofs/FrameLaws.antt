@@ -11,9 +11,9 @@ use Rattle.mur_model.specs.declared.need.Need.TheVariants.{Reply, Leave, Home}
 use Rattle.session_core.specs.Begin.{begin}
 use Rattle.front_core.specs.declared.connection.Connection.{Connection}
 use Rattle.front_core.specs.declared.connection.Stage.{Stage}
-use Rattle.front_core.specs.declared.connection.Stage.TheVariants.{Reading, Asked, Ended}
+use Rattle.front_core.specs.declared.connection.Stage.TheVariants.{Reading, Waits, Ended}
 use Rattle.front_core.specs.Reading.{Reading as Read}
-use Rattle.front_core.specs.Taken.{Turned, answers_now, answers_last, turned_by_need, request_in, input_in, comes_at, input_comes}
+use Rattle.front_core.specs.Taken.{Turned, Ways, answers_now, answers_last, turned_by_need, request_in, input_in, comes_at, input_comes}
 
 -- with another reader, and other inputs that wait
 abbrev pub holding : Read → List Input → Turned → Turned
@@ -22,18 +22,18 @@ holding reader waiting turned = record turned { connection = record turned.conne
 abbrev pub reading : Read → Turned → Turned
 reading reader turned = record turned { connection = record turned.connection { reader = reader } }
 
-module _ (setting : Setting) (home : List ℕ) (conn : ℕ) (reader : Read) where
+module _ (setting : Setting) (ways : Ways) (conn : ℕ) (reader : Read) where
   module _ (waiting : List Input) where
     need_apart : (c : Connection) (tag : Tag) (need : Need)
-        → turned_by_need home conn (record c { reader = reader; waiting = waiting }) tag need ≡ holding reader waiting (turned_by_need home conn c tag need)
+        → turned_by_need ways conn (record c { reader = reader; waiting = waiting }) tag need ≡ holding reader waiting (turned_by_need ways conn c tag need)
     unfolding turned_by_need answers_now answers_last
     need_apart c tag (Reply reply) = refl
     need_apart c tag (Leave reply) = refl
     need_apart c tag (Home name asking) = refl
 
     request_apart : (c : Connection) (request : Request)
-        → request_in setting home conn (record c { reader = reader; waiting = waiting }) request
-        ≡ holding reader waiting (request_in setting home conn c request)
+        → request_in setting ways conn (record c { reader = reader; waiting = waiting }) request
+        ≡ holding reader waiting (request_in setting ways conn c request)
     unfolding request_in answers_now
     request_apart c (a_command tag it) =
         let behind = begin setting c.session it in
@@ -42,43 +42,43 @@ module _ (setting : Setting) (home : List ℕ) (conn : ℕ) (reader : Read) wher
     request_apart c (too_big tag) = refl
 
     pub input_apart : (c : Connection) (input : Input)
-        → input_in setting home conn (record c { reader = reader; waiting = waiting }) input ≡ holding reader waiting (input_in setting home conn c input)
+        → input_in setting ways conn (record c { reader = reader; waiting = waiting }) input ≡ holding reader waiting (input_in setting ways conn c input)
     unfolding input_in
     input_apart c (Asks request) = request_apart c request
     input_apart c (GoesOn why) = refl
     input_apart c (Faults fault) = refl
 
-pub input_keeps : (setting : Setting) (home : List ℕ) (conn : ℕ) (c : Connection) (input : Input)
-    → input_in setting home conn c input ≡ holding c.reader c.waiting (input_in setting home conn c input)
-input_keeps setting home conn c input = input_apart setting home conn c.reader c.waiting c input
+pub input_keeps : (setting : Setting) (ways : Ways) (conn : ℕ) (c : Connection) (input : Input)
+    → input_in setting ways conn c input ≡ holding c.reader c.waiting (input_in setting ways conn c input)
+input_keeps setting ways conn c input = input_apart setting ways conn c.reader c.waiting c input
 
-pub waiting_kept : (setting : Setting) (home : List ℕ) (conn : ℕ) (c : Connection) (input : Input)
-    → (input_in setting home conn c input).connection.waiting ≡ c.waiting
-waiting_kept setting home conn c input = ap (λ (t : Turned). t.connection.waiting) (input_keeps setting home conn c input)
+pub waiting_kept : (setting : Setting) (ways : Ways) (conn : ℕ) (c : Connection) (input : Input)
+    → (input_in setting ways conn c input).connection.waiting ≡ c.waiting
+waiting_kept setting ways conn c input = ap (λ (t : Turned). t.connection.waiting) (input_keeps setting ways conn c input)
 
-reader_by : (setting : Setting) (home : List ℕ) (conn : ℕ) (c : Connection) (input : Input) (stage : Stage)
-    → (comes_at setting home conn c input stage).connection.reader ≡ c.reader
+reader_by : (setting : Setting) (ways : Ways) (conn : ℕ) (c : Connection) (input : Input) (stage : Stage)
+    → (comes_at setting ways conn c input stage).connection.reader ≡ c.reader
 unfolding comes_at
-reader_by setting home conn c input Reading = ap (λ (t : Turned). t.connection.reader) (input_keeps setting home conn c input)
-reader_by setting home conn c input (Asked tag ask) = refl
-reader_by setting home conn c input Ended = refl
+reader_by setting ways conn c input Reading = ap (λ (t : Turned). t.connection.reader) (input_keeps setting ways conn c input)
+reader_by setting ways conn c input (Waits tag it) = refl
+reader_by setting ways conn c input Ended = refl
 
 -- an input that comes keeps the reader
-pub reader_kept : (setting : Setting) (home : List ℕ) (conn : ℕ) (c : Connection) (input : Input)
-    → (input_comes setting home conn c input).connection.reader ≡ c.reader
+pub reader_kept : (setting : Setting) (ways : Ways) (conn : ℕ) (c : Connection) (input : Input)
+    → (input_comes setting ways conn c input).connection.reader ≡ c.reader
 unfolding input_comes
-reader_kept setting home conn c input = reader_by setting home conn c input c.stage
+reader_kept setting ways conn c input = reader_by setting ways conn c input c.stage
 
-comes_by : (setting : Setting) (home : List ℕ) (conn : ℕ) (reader : Read) (c : Connection) (input : Input) (stage : Stage)
-    → comes_at setting home conn (record c { reader = reader }) input stage ≡ reading reader (comes_at setting home conn c input stage)
+comes_by : (setting : Setting) (ways : Ways) (conn : ℕ) (reader : Read) (c : Connection) (input : Input) (stage : Stage)
+    → comes_at setting ways conn (record c { reader = reader }) input stage ≡ reading reader (comes_at setting ways conn c input stage)
 unfolding comes_at
-comes_by setting home conn reader c input Reading =
-    input_apart setting home conn reader c.waiting c input
-    ∙ ap (λ w. holding reader w (input_in setting home conn c input)) (sym (waiting_kept setting home conn c input))
-comes_by setting home conn reader c input (Asked tag ask) = refl
-comes_by setting home conn reader c input Ended = refl
+comes_by setting ways conn reader c input Reading =
+    input_apart setting ways conn reader c.waiting c input
+    ∙ ap (λ w. holding reader w (input_in setting ways conn c input)) (sym (waiting_kept setting ways conn c input))
+comes_by setting ways conn reader c input (Waits tag it) = refl
+comes_by setting ways conn reader c input Ended = refl
 
-pub comes_apart : (setting : Setting) (home : List ℕ) (conn : ℕ) (reader : Read) (c : Connection) (input : Input)
-    → input_comes setting home conn (record c { reader = reader }) input ≡ reading reader (input_comes setting home conn c input)
+pub comes_apart : (setting : Setting) (ways : Ways) (conn : ℕ) (reader : Read) (c : Connection) (input : Input)
+    → input_comes setting ways conn (record c { reader = reader }) input ≡ reading reader (input_comes setting ways conn c input)
 unfolding input_comes
-comes_apart setting home conn reader c input = comes_by setting home conn reader c input c.stage
+comes_apart setting ways conn reader c input = comes_by setting ways conn reader c input c.stage

@@ -1,71 +1,71 @@
 -- Inputs that come one after another.
 use Rattle.std.proofs.Common.{◌≡◌, ℕ, List, [], ◌∷◌, ◌++◌, refl, sym, ◌∙◌, ap, append_assoc}
 use Rattle.std.proofs.lemmas.List.{append-nil}
+use Rattle.asking_core.specs.declared.waiting.Waiting.{Waiting}
 use Rattle.imap_talk.specs.declared.inputs.Input.{Input}
 use Rattle.link_msg.specs.declared.out.Out.{Out}
 use Rattle.imap_types.specs.declared.command.Tag.{Tag}
 use Rattle.mur_model.specs.declared.setting.Setting.{Setting}
 use Rattle.front_core.specs.declared.connection.Connection.{Connection}
-use Rattle.front_core.specs.declared.connection.OpenAsk.{OpenAsk}
-use Rattle.front_core.specs.declared.connection.Stage.TheVariants.{Reading, Asked, Ended}
+use Rattle.front_core.specs.declared.connection.Stage.TheVariants.{Reading, Waits, Ended}
 use Rattle.front_core.specs.Reading.{Reading as Read}
-use Rattle.front_core.specs.Taken.{Turned, input_in, comes_at, input_comes, inputs_come, behind_outs}
+use Rattle.front_core.specs.Taken.{Turned, Ways, input_in, comes_at, input_comes, inputs_come, behind_outs}
 use Rattle.front_core.proofs.FrameLaws.{reading, comes_apart}
 
 pub behind_behind : (first second : List Out) (turned : Turned) → behind_outs first (behind_outs second turned) ≡ behind_outs (first ++ second) turned
 behind_behind first second turned = ap (λ outs. record turned { outs = outs }) (sym (append_assoc first second turned.outs))
 
-module _ (setting : Setting) (home : List ℕ) (conn : ℕ) where
+module _ (setting : Setting) (ways : Ways) (conn : ℕ) where
   pub come_apart : (reader : Read) (c : Connection) (inputs : List Input)
-      → inputs_come setting home conn (record c { reader = reader }) inputs ≡ reading reader (inputs_come setting home conn c inputs)
+      → inputs_come setting ways conn (record c { reader = reader }) inputs ≡ reading reader (inputs_come setting ways conn c inputs)
   unfolding inputs_come
   come_apart reader c [] = refl
   come_apart reader c (input ∷ inputs) =
-      ap (λ (t : Turned). behind_outs t.outs (inputs_come setting home conn t.connection inputs)) (comes_apart setting home conn reader c input)
-      ∙ ap (behind_outs (input_comes setting home conn c input).outs) (come_apart reader (input_comes setting home conn c input).connection inputs)
+      ap (λ (t : Turned). behind_outs t.outs (inputs_come setting ways conn t.connection inputs)) (comes_apart setting ways conn reader c input)
+      ∙ ap (behind_outs (input_comes setting ways conn c input).outs) (come_apart reader (input_comes setting ways conn c input).connection inputs)
 
   -- the inputs of the front, and then those behind them
   abbrev pub then_come : Turned → List Input → Turned
-  then_come turned inputs = behind_outs turned.outs (inputs_come setting home conn turned.connection inputs)
+  then_come turned inputs = behind_outs turned.outs (inputs_come setting ways conn turned.connection inputs)
 
   pub come_append : (c : Connection) (first rest : List Input)
-      → inputs_come setting home conn c (first ++ rest) ≡ then_come (inputs_come setting home conn c first) rest
+      → inputs_come setting ways conn c (first ++ rest) ≡ then_come (inputs_come setting ways conn c first) rest
   unfolding inputs_come
   come_append c [] rest = refl
   come_append c (input ∷ first) rest =
-      let turned = input_comes setting home conn c input in
-      let behind = inputs_come setting home conn turned.connection first in
+      let turned = input_comes setting ways conn c input in
+      let behind = inputs_come setting ways conn turned.connection first in
       ap (behind_outs turned.outs) (come_append turned.connection first rest)
-      ∙ behind_behind turned.outs behind.outs (inputs_come setting home conn behind.connection rest)
+      ∙ behind_behind turned.outs behind.outs (inputs_come setting ways conn behind.connection rest)
 
-  waits : (c : Connection) (input : Input) (tag : Tag) (ask : OpenAsk) → c.stage ≡ Asked tag ask
-      → input_comes setting home conn c input ≡ record { connection = record c { waiting = c.waiting ++ input ∷ [] }; outs = [] }
+  waits : (c : Connection) (input : Input) (tag : Tag) (it : Waiting) → c.stage ≡ Waits tag it
+      → input_comes setting ways conn c input ≡ record { connection = record c { waiting = c.waiting ++ input ∷ [] }; outs = [] }
   unfolding input_comes comes_at
-  waits c input tag ask is = ap (comes_at setting home conn c input) is
+  waits c input tag it is = ap (comes_at setting ways conn c input) is
 
   -- behind a command that waits all of them wait
-  pub asked_waits : (c : Connection) (inputs : List Input) (tag : Tag) (ask : OpenAsk) → c.stage ≡ Asked tag ask
-      → inputs_come setting home conn c inputs ≡ record { connection = record c { waiting = c.waiting ++ inputs }; outs = [] }
+  pub asked_waits : (c : Connection) (inputs : List Input) (tag : Tag) (it : Waiting) → c.stage ≡ Waits tag it
+      → inputs_come setting ways conn c inputs ≡ record { connection = record c { waiting = c.waiting ++ inputs }; outs = [] }
   unfolding inputs_come
-  asked_waits c [] tag ask is = ap (λ w. record { connection = record c { waiting = w }; outs = [] }) (sym (append-nil c.waiting))
-  asked_waits c (input ∷ inputs) tag ask is =
-      ap (λ (t : Turned). behind_outs t.outs (inputs_come setting home conn t.connection inputs)) (waits c input tag ask is)
-      ∙ asked_waits (record c { waiting = c.waiting ++ input ∷ [] }) inputs tag ask is
+  asked_waits c [] tag it is = ap (λ w. record { connection = record c { waiting = w }; outs = [] }) (sym (append-nil c.waiting))
+  asked_waits c (input ∷ inputs) tag it is =
+      ap (λ (t : Turned). behind_outs t.outs (inputs_come setting ways conn t.connection inputs)) (waits c input tag it is)
+      ∙ asked_waits (record c { waiting = c.waiting ++ input ∷ [] }) inputs tag it is
       ∙ ap (λ w. record { connection = record c { waiting = w }; outs = [] }) (append_assoc c.waiting (input ∷ []) inputs)
 
-  drops : (c : Connection) (input : Input) → c.stage ≡ Ended → input_comes setting home conn c input ≡ record { connection = c; outs = [] }
+  drops : (c : Connection) (input : Input) → c.stage ≡ Ended → input_comes setting ways conn c input ≡ record { connection = c; outs = [] }
   unfolding input_comes comes_at
-  drops c input is = ap (comes_at setting home conn c input) is
+  drops c input is = ap (comes_at setting ways conn c input) is
 
   -- a connection that has ended drops all of them
-  pub ended_drops : (c : Connection) (inputs : List Input) → c.stage ≡ Ended → inputs_come setting home conn c inputs ≡ record { connection = c; outs = [] }
+  pub ended_drops : (c : Connection) (inputs : List Input) → c.stage ≡ Ended → inputs_come setting ways conn c inputs ≡ record { connection = c; outs = [] }
   unfolding inputs_come
   ended_drops c [] is = refl
   ended_drops c (input ∷ inputs) is =
-      ap (λ (t : Turned). behind_outs t.outs (inputs_come setting home conn t.connection inputs)) (drops c input is) ∙ ended_drops c inputs is
+      ap (λ (t : Turned). behind_outs t.outs (inputs_come setting ways conn t.connection inputs)) (drops c input is) ∙ ended_drops c inputs is
 
   -- the first one is taken where the connection is reading
   pub read_on : (c : Connection) (input : Input) (inputs : List Input) → c.stage ≡ Reading
-      → inputs_come setting home conn c (input ∷ inputs) ≡ then_come (input_in setting home conn c input) inputs
+      → inputs_come setting ways conn c (input ∷ inputs) ≡ then_come (input_in setting ways conn c input) inputs
   unfolding inputs_come input_comes comes_at
-  read_on c input inputs is = ap (λ stage. then_come (comes_at setting home conn c input stage) inputs) is
+  read_on c input inputs is = ap (λ stage. then_come (comes_at setting ways conn c input stage) inputs) is

@@ -1,12 +1,14 @@
 pub mod ReaderLaws
+pub mod ReadingLaws
+pub mod OneConnection
 pub mod FrameLaws
 pub mod FramesLaws
 pub mod CommandLaws
 pub mod PieceLaws
 pub mod WaitingLaws
+pub mod WentLaws
+pub mod BegunLaws
 pub mod SlotLaws
 pub mod Counts
-pub mod ReadingLaws
-pub mod OneConnection
 pub mod StrangerLaw
-pub mod KnownStays
+pub mod OwnOuts

@@ -4,29 +4,35 @@ use Rattle.std.specs.Ordering.{nat_cmp}
 use Rattle.std.specs.Cmp.Lexicographic.{pointwise}
 use Rattle.feed_core.specs.Feed.{empty_replica}
 use Rattle.feed_core.specs.Stream.{update_line, heard}
+use Rattle.ask_routes.specs.Barrier.{barrier_answered}
 use Rattle.imap_reply.specs.Greeting.{greeting}
 use Rattle.link_msg.specs.declared.answer.BackAnswer.{BackAnswer}
 use Rattle.link_msg.specs.declared.message.LinkMsg.{LinkMsg}
 use Rattle.link_msg.specs.declared.message.LinkMsg.TheVariants.{Up, Line, Answer}
 use Rattle.link_msg.specs.declared.out.Out.{Out}
 use Rattle.link_msg.specs.declared.out.Out.TheVariants.{Client, Link}
+use Rattle.mur_base.specs.declared.point.AskId.{AskId}
 use Rattle.mur_base.specs.Map.{value_at, with_entry, with_value}
 use Rattle.mur_model.specs.declared.setting.Setting.{Setting}
 use Rattle.front_core.specs.declared.connection.Connection.{Connection}
 use Rattle.front_core.specs.declared.connection.Stage.{Stage}
-use Rattle.front_core.specs.declared.connection.Stage.TheVariants.{Reading, Asked, Ended}
+use Rattle.front_core.specs.declared.connection.Stage.TheVariants.{Reading, Waits, Ended}
 use Rattle.front_core.specs.declared.front.Front.{Front}
-use Rattle.front_core.specs.Answered.{answer_comes}
+use Rattle.front_core.specs.Answered.{answer_comes, ok_comes}
 use Rattle.front_core.specs.Ended.{ended, released, with_released}
 use Rattle.front_core.specs.Reading.{inputs_of_more, read_more}
 use Rattle.front_core.specs.Slots.{new_connection}
 use Rattle.front_core.specs.Stages.{has_asked}
-use Rattle.front_core.specs.Taken.{Turned, inputs_come}
+use Rattle.front_core.specs.Taken.{Turned, Ways, inputs_come}
 
 -- a frontend without a connection
 unfoldable pub new_front : List ℕ → List ℕ → List ℕ → Setting → Front
-new_front me home master setting =
-    record { me = me; home = home; master = master; replica = empty_replica; setting = setting; connections = [] }
+new_front me first master setting =
+    record { me = me; first = first; master = master; replica = empty_replica; setting = setting; connections = [] }
+
+-- by what it decides whom it asks
+abbrev pub ways_of : Front → Ways
+ways_of front = record { recs = front.replica.records; master = front.master; first = front.first }
 
 -- a frontend, and what it let out
 pub record Stepped : Type 0 where
@@ -62,22 +68,22 @@ abbrev pub having_read : Setting → Connection → List ℕ → Connection
 having_read setting connection bytes = record connection { reader = read_more setting connection.reader bytes }
 
 -- what the inputs that end in more bytes make of a connection: where it has ended, what it held is let go
-abbrev pub bytes_taken : Setting → List ℕ → ℕ → Connection → List ℕ → Turned
-bytes_taken setting home conn connection bytes =
-    with_released (inputs_come setting home conn (having_read setting connection bytes) (inputs_of_more setting connection.reader bytes))
+abbrev pub bytes_taken : Setting → Ways → ℕ → Connection → List ℕ → Turned
+bytes_taken setting ways conn connection bytes =
+    with_released (inputs_come setting ways conn (having_read setting connection bytes) (inputs_of_more setting connection.reader bytes))
 
 -- what bytes make of a connection, by whether it has ended: then they are dropped
-unfoldable pub bytes_at : Setting → List ℕ → ℕ → Connection → List ℕ → Bool → Turned
-bytes_at setting home conn connection bytes true = record { connection = connection; outs = [] }
-bytes_at setting home conn connection bytes false = bytes_taken setting home conn connection bytes
+unfoldable pub bytes_at : Setting → Ways → ℕ → Connection → List ℕ → Bool → Turned
+bytes_at setting ways conn connection bytes true = record { connection = connection; outs = [] }
+bytes_at setting ways conn connection bytes false = bytes_taken setting ways conn connection bytes
 
 -- bytes of a connection that has ended are dropped, and so are those behind an input that ends it
 unfoldable pub bytes_by : Front → ℕ → List ℕ → Connection → Stage → Stepped
 bytes_by front conn bytes connection Ended = still front
 bytes_by front conn bytes connection Reading = with_turned front conn
-    (inputs_come front.setting front.home conn (having_read front.setting connection bytes) (inputs_of_more front.setting connection.reader bytes))
-bytes_by front conn bytes connection (Asked tag ask) = with_turned front conn
-    (inputs_come front.setting front.home conn (having_read front.setting connection bytes) (inputs_of_more front.setting connection.reader bytes))
+    (inputs_come front.setting (ways_of front) conn (having_read front.setting connection bytes) (inputs_of_more front.setting connection.reader bytes))
+bytes_by front conn bytes connection (Waits tag it) = with_turned front conn
+    (inputs_come front.setting (ways_of front) conn (having_read front.setting connection bytes) (inputs_of_more front.setting connection.reader bytes))
 
 unfoldable pub front_bytes_at : Front → ℕ → List ℕ → Option Connection → Stepped
 front_bytes_at front conn bytes None = still front
@@ -100,7 +106,7 @@ hang front conn = front_hang_at front conn (connection_at front conn)
 unfoldable pub answer_at : Front → BackAnswer → Option Connection → Stepped
 answer_at front answer None = still front
 answer_at front answer (Some connection) =
-    with_turned front (answer.id).conn (answer_comes front.setting front.home (answer.id).conn connection answer)
+    with_turned front (answer.id).conn (answer_comes front.setting (ways_of front) (answer.id).conn connection answer)
 
 -- a connection waits for the answer of this node
 unfoldable pub waits_for : Option Connection → List ℕ → Bool
@@ -127,8 +133,18 @@ up_from false front = still front
 abbrev pub hearing : Front → List ℕ → Front
 hearing front bytes = record front { replica = heard front.replica bytes }
 
+-- the OK to the NOOP of a command: all that the master told before was taken
+unfoldable pub ok_at : Front → AskId → Option Connection → Stepped
+ok_at front id None = still front
+ok_at front id (Some connection) = with_turned front id.conn (ok_comes front.setting (ways_of front) id.conn connection id)
+
+-- a line of the master is the OK to a command's NOOP, or tells of the table
+abbrev pub line_by : Front → List ℕ → Option AskId → Stepped
+line_by front bytes None = still (hearing front bytes)
+line_by front bytes (Some id) = ok_at front id (connection_at front id.conn)
+
 unfoldable pub line_from : Bool → Front → List ℕ → Stepped
-line_from true front bytes = still (hearing front bytes)
+line_from true front bytes = line_by front bytes (barrier_answered bytes)
 line_from false front bytes = still front
 
 -- a message on a link
@@ -138,10 +154,10 @@ deliver front from (Line bytes) = line_from (pointwise nat_eq from front.master)
 deliver front from Up = up_from (pointwise nat_eq from front.master) front
 deliver front from message = still front
 
--- how many commands of a connection wait for the answer of a home
+-- how many commands of a connection wait, for the answer of a server or for the master
 abbrev pub is_asked : Stage → ℕ
 is_asked Reading = 0
-is_asked (Asked tag ask) = 1
+is_asked (Waits tag it) = 1
 is_asked Ended = 0
 
 -- no connection waits for the answer of this node

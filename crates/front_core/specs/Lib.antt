@@ -2,6 +2,8 @@ pub mod Reading
 pub mod Given
 pub mod Taken
 pub mod Answered
+pub mod Behind
+pub mod Begun
 pub mod Ended
 pub mod Slots
 pub mod Front

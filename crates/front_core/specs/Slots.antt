@@ -5,6 +5,7 @@ use Rattle.front_core.specs.declared.connection.Connection.{Connection}
 use Rattle.front_core.specs.declared.connection.Stage.TheVariants.{Reading}
 use Rattle.front_core.specs.declared.slot.Held.{Held}
 use Rattle.front_core.specs.declared.slot.Held.TheVariants.{Fresh, Live, Over}
+use Rattle.front_core.specs.Begun.{IsBegun}
 use Rattle.front_core.specs.Ended.{ended}
 use Rattle.front_core.specs.Reading.{first_reading}
 use Rattle.front_core.specs.Stages.{stage_has_ended}
@@ -18,8 +19,8 @@ connection_of Fresh = new_connection
 connection_of (Live connection) = connection.value
 connection_of (Over answered) = ended answered
 
--- no connection on the heap has ended
-abbrev pub HasNotEnded : Held → Type 0
-HasNotEnded Fresh = ⊤
-HasNotEnded (Live connection) = stage_has_ended connection.value.stage ≡ false
-HasNotEnded (Over answered) = ⊤
+-- no connection on the heap has ended, and the session of one whose command waits has begun
+abbrev pub IsLive : Held → Type 0
+IsLive Fresh = ⊤
+IsLive (Live connection) = (stage_has_ended connection.value.stage ≡ false) × IsBegun connection.value
+IsLive (Over answered) = ⊤

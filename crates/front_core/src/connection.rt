@@ -3,29 +3,21 @@ ghost use Rattle.std.specs.Prelude.{◌≡◌};
 ghost use Rattle.front_core.specs.Slots.{new_connection};
 ghost use Rattle.front_core.specs.Stages.{has_asked, is_reading, stage_has_ended};
 
+use crate::parked::Parked;
 use crate::reader::Reader;
 use imap_talk::Input;
-use mur_base::{Boxed, NodeName, Queue};
+use mur_base::{NodeName, Queue};
 use mur_model::Tag;
-use session_core::{Awaited, Session};
+use session_core::Session;
 use std::alloc::Global;
-
-/// An ask whose answer hasn't come.
-#[derive(Drop)]
-pub struct OpenAsk {
-    /// The node that was asked, from which alone an answer counts.
-    pub home: NodeName,
-    /// What the reply is made of besides the answer and the session.
-    pub awaited: Awaited,
-}
 
 /// What a connection is at.
 #[derive(Drop)]
 pub enum Stage {
     /// Its next input is taken as it comes.
     Reading,
-    /// A command under this tag waits for the answer of a home. What it waits for is on the heap, since most connections wait for nothing.
-    Asked(Tag, Boxed<OpenAsk>),
+    /// A command under this tag waits, for the answer of a server or for the master's OK.
+    Waits(Tag, Parked),
     /// Nothing more is taken or given.
     Ended,
 }
@@ -71,7 +63,7 @@ impl Connection {
         ensures { result ≡ has_asked self.now.stage node.now }
     {
         match &self.stage {
-            Stage::Asked(_, ask) => ask.get().home == *node,
+            Stage::Waits(_, it) => it.has_asked(node),
             Stage::Reading | Stage::Ended => false,
         }
     }

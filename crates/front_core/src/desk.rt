@@ -1,5 +1,9 @@
 // What a frontend works with for one of its connections.
-use mur_base::NodeName;
+ghost use Rattle.std.specs.Prelude.{◌≡◌, ◌+◌, ◌<◌, ◌^◌};
+
+use asking_core::Routes;
+use feed_core::Replica;
+use mur_base::{AskId, NodeName};
 use mur_model::Setting;
 use std::alloc::Global;
 
@@ -9,8 +13,34 @@ pub struct Desk<'a> {
     pub alloc: Global,
     /// The users, and the date of a message that comes without one.
     pub setting: &'a Setting,
-    /// The backend that is asked for every mailbox.
-    pub home: &'a NodeName,
+    /// What the frontend was told of the master's table.
+    pub replica: &'a Replica,
+    /// The master.
+    pub master: &'a NodeName,
+    /// The server of a new mailbox without a name above it.
+    pub first: &'a NodeName,
     /// The number of the connection.
     pub conn: u64,
+}
+
+impl<'a> Desk<'a> {
+    /// By what the next command of the connection is carried on, behind so many that were answered.
+    pub fn routes(self, answered: u64) -> Routes<'a>
+        requires room { answered + 1 < 2 ^ 64 }
+        ensures records { result.replica.now.records ≡ self.entry.replica.now.records }
+        ensures master { result.master.now ≡ self.entry.master.now }
+        ensures first { result.first.now ≡ self.entry.first.now }
+        ensures id { result.id ≡ record { conn = self.entry.conn; command = answered + 1 } }
+    {
+        Routes {
+            alloc: self.alloc,
+            replica: self.replica,
+            master: self.master,
+            first: self.first,
+            id: AskId {
+                conn: self.conn,
+                command: answered + 1,
+            },
+        }
+    }
 }

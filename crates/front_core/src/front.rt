@@ -1,17 +1,18 @@
 // A frontend, which speaks to mail clients and asks the homes of their mailboxes.
 ghost use Rattle.std.specs.Prelude.{◌≡◌, ◌≢◌, nat_eq, length, IfOk};
 ghost use Rattle.std.specs.Cmp.Lexicographic.{pointwise};
-ghost use Rattle.imap_reply.specs.Greeting.{greeting};
-ghost use Rattle.front_core.specs.Front.{new_front, connect, connection_at, bytes_in, hang, deliver, still, answer_at, answer_from, line_from, up_from, waits_for, WaitsForNone};
+ghost use Rattle.std.specs.Option.{IfSome};
+ghost use Rattle.ask_routes.specs.Barrier.{barrier_answered};
+ghost use Rattle.front_core.specs.Front.{new_front, connect, connection_at, bytes_in, hang, hearing, deliver, still, answer_at, answer_from, line_by, line_from, ok_at, up_from, waits_for, WaitsForNone};
 ghost use Rattle.front_core.specs.Room.{HasRoomAt, HasRoomFor};
 
-use crate::answered::given;
 use crate::desk::Desk;
+use crate::replies::{given, greeting};
 use crate::slot::Slot;
+use ask_routes::barrier_answered;
 use feed_core::{Replica, update_line};
-use imap_reply::put_greeting;
 use link_msg::{BackAnswer, LinkMsg, Out, Outs};
-use mur_base::{Bytes, Copied, Map, Memory, NodeName};
+use mur_base::{AskId, Bytes, Copied, Map, Memory, NodeName};
 use mur_model::Setting;
 use std::alloc::Global;
 
@@ -20,8 +21,8 @@ use std::alloc::Global;
 pub struct Front {
     /// The name of this node.
     pub me: NodeName,
-    /// The backend that is asked for every mailbox.
-    pub home: NodeName,
+    /// The server of a new mailbox without a name above it.
+    pub first: NodeName,
     /// The master.
     pub master: NodeName,
     /// What the master told of its table since the link to it came up.
@@ -36,16 +37,16 @@ impl Front {
     #[tactic(auto, unfolding(crate::specs::Front::new_front))]
     pub fn new(
         me: NodeName,
-        home: NodeName,
+        first: NodeName,
         master: NodeName,
         setting: Setting,
         alloc: Global,
     ) -> Front
-        ensures { result ≡ new_front me home master setting }
+        ensures { result ≡ new_front me first master setting }
     {
         Front {
             me,
-            home,
+            first,
             master,
             replica: Replica::new(alloc),
             setting,
@@ -77,7 +78,9 @@ impl Front {
         let desk = Desk {
             alloc,
             setting: &self.setting,
-            home: &self.home,
+            replica: &self.replica,
+            master: &self.master,
+            first: &self.first,
             conn,
         };
         let outs = slot.bytes_in(desk, piece)?;
@@ -94,8 +97,8 @@ impl Front {
         }
     }
 
-    /// A message of a node comes on a link: an answer counts only from the node that was asked, and a line only from the master, whose table
-    /// the frontend asks for as soon as its link comes up (RFC 3656, 4.11). For want of memory the frontend is spent.
+    /// A message of a node comes on a link: an answer counts only from the node that was asked, and a line only from the master: it is the OK
+    /// to the NOOP of a command, or tells of the table, for which the frontend asks as soon as its link comes up (RFC 3656, 4.11). For want of memory the frontend is spent.
     #[tactic(auto, unfolding(crate::specs::Front::deliver, crate::specs::Room::HasRoomFor), using(crate::proofs::StrangerLaw::strangers))]
     pub fn deliver(
         &mut self,
@@ -132,13 +135,56 @@ impl Front {
 
     #[tactic(auto, unfolding(crate::specs::Front::line_from))]
     fn line_from(&mut self, alloc: Global, from: &NodeName, line: Bytes) -> Result<Outs, Memory>
+        requires room { IfSome (barrier_answered line) (λ id. HasRoomAt self.old id.conn 0) }
         ensures { IfOk result (λ outs. record { front = self.new; outs = outs }
             ≡ line_from (pointwise nat_eq from.now self.old.master) self.old line) }
     {
         if *from == self.master {
-            self.replica.hear(alloc, line.as_slice())?;
+            self.line(alloc, line)
+        } else {
+            Ok(Outs::new(alloc))
         }
+    }
+
+    // A line of the master.
+    fn line(&mut self, alloc: Global, line: Bytes) -> Result<Outs, Memory>
+        requires room { IfSome (barrier_answered line) (λ id. HasRoomAt self.old id.conn 0) }
+        ensures { IfOk result (λ outs. record { front = self.new; outs = outs } ≡ line_by self.old line (barrier_answered line)) }
+    {
+        match barrier_answered(alloc, line.as_slice())? {
+            Some(id) => self.ok(alloc, id),
+            None => self.hears(alloc, line),
+        }
+    }
+
+    fn hears(&mut self, alloc: Global, line: Bytes) -> Result<Outs, Memory>
+        ensures { IfOk result (λ outs. record { front = self.new; outs = outs } ≡ still (hearing self.old line)) }
+    {
+        self.replica.hear(alloc, line.as_slice())?;
         Ok(Outs::new(alloc))
+    }
+
+    // The master's OK to the NOOP of a command.
+    #[tactic(auto, unfolding(crate::specs::Front::ok_at))]
+    fn ok(&mut self, alloc: Global, id: AskId) -> Result<Outs, Memory>
+        requires room { HasRoomAt self.old id.conn 0 }
+        ensures { IfOk result (λ outs. record { front = self.new; outs = outs } ≡ ok_at self.old id (connection_at self.old id.conn)) }
+    {
+        match self.connections.get_mut(&id.conn) {
+            Some(slot) => {
+                let desk = Desk {
+                    alloc,
+                    setting: &self.setting,
+                    replica: &self.replica,
+                    master: &self.master,
+                    first: &self.first,
+                    conn: id.conn,
+                };
+                let outs = slot.ok_comes(desk, id)?;
+                Ok(outs)
+            }
+            None => Ok(Outs::new(alloc)),
+        }
     }
 
     /// Whether a command of a connection waits for the answer of this node.
@@ -182,7 +228,9 @@ impl Front {
                 let desk = Desk {
                     alloc,
                     setting: &self.setting,
-                    home: &self.home,
+                    replica: &self.replica,
+                    master: &self.master,
+                    first: &self.first,
                     conn,
                 };
                 let outs = slot.answer_comes(desk, answer)?;
@@ -191,13 +239,4 @@ impl Front {
             None => Ok(Outs::new(alloc)),
         }
     }
-}
-
-/// What a client that connects is given.
-pub fn greeting(alloc: Global) -> Result<Bytes, Memory>
-    ensures { IfOk result (λ line. line ≡ greeting) }
-{
-    let mut line = Bytes::new(alloc);
-    put_greeting(&mut line)?;
-    Ok(line)
 }

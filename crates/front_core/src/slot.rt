@@ -1,16 +1,18 @@
 // What a frontend keeps of a connection.
 ghost use Rattle.std.specs.Prelude.{◌≡◌, ◌+◌, ◌<◌, ◌^◌, length, IfOk};
-ghost use Rattle.front_core.specs.Answered.{answer_comes};
+ghost use Rattle.front_core.specs.Answered.{answer_comes, ok_comes};
+ghost use Rattle.front_core.specs.Begun.{IsBegun};
 ghost use Rattle.front_core.specs.Ended.{ended, released, with_released};
 ghost use Rattle.front_core.specs.Front.{bytes_at, bytes_taken};
 ghost use Rattle.front_core.specs.Room.{commands_of};
 ghost use Rattle.front_core.specs.Slots.{new_connection};
 ghost use Rattle.front_core.specs.Stages.{has_asked, stage_has_ended};
+ghost use Rattle.front_core.specs.Taken.{ways_by};
 
 use crate::connection::{Connection, Stage};
 use crate::desk::Desk;
 use link_msg::{BackAnswer, Outs};
-use mur_base::{Memory, NodeName};
+use mur_base::{AskId, Memory, NodeName};
 use std::marker::Model;
 use std::mem;
 
@@ -41,11 +43,11 @@ impl Model for Slot {
 
     ghost coded = { Prim.hlevel (codes, key.the_row.coded) };
 
-    ghost use Rattle.front_core.specs.Slots.{connection_of, HasNotEnded};
+    ghost use Rattle.front_core.specs.Slots.{connection_of, IsLive};
 
     ghost view = { λ slot. connection_of slot.held };
 
-    ghost invariant = { λ slot. HasNotEnded slot.held };
+    ghost invariant = { λ slot. IsLive slot.held };
 }
 
 impl Slot {
@@ -59,10 +61,11 @@ impl Slot {
     /// That of a connection behind what came to it: of one that has ended all else is let go.
     #[tactic(auto, unfolding(crate::specs::Ended::released_at, crate::specs::Stages::stage_has_ended))]
     fn of(connection: Box<Connection>) -> Slot
+        requires begun { IsBegun connection.value }
         ensures { result ≡ released connection.value }
     {
         match connection.stage {
-            Stage::Reading | Stage::Asked(_, _) => Slot {
+            Stage::Reading | Stage::Waits(_, _) => Slot {
                 held: Held::Live(connection),
             },
             Stage::Ended => Slot {
@@ -77,7 +80,7 @@ impl Slot {
     pub fn bytes_in(&mut self, desk: Desk, piece: &[u8]) -> Result<Outs, Memory>
         requires room { commands_of self.old + length piece.now < 2 ^ 64 }
         ensures { IfOk result (λ outs. record { connection = self.new; outs = outs }
-            ≡ bytes_at desk.entry.setting.now desk.entry.home.now desk.entry.conn self.old piece.now (stage_has_ended self.old.stage)) }
+            ≡ bytes_at desk.entry.setting.now (ways_by desk.entry.replica.now.records desk.entry.master.now desk.entry.first.now) desk.entry.conn self.old piece.now (stage_has_ended self.old.stage)) }
     {
         match mem::replace(&mut self.held, Held::Over(0)) {
             Held::Fresh => {
@@ -100,8 +103,9 @@ impl Slot {
         piece: &[u8],
     ) -> Result<Outs, Memory>
         requires room { commands_of connection.value + length piece.now < 2 ^ 64 }
+        requires begun { IsBegun connection.value }
         ensures { IfOk result (λ outs. record { connection = self.new; outs = outs }
-            ≡ bytes_taken desk.entry.setting.now desk.entry.home.now desk.entry.conn connection.value piece.now) }
+            ≡ bytes_taken desk.entry.setting.now (ways_by desk.entry.replica.now.records desk.entry.master.now desk.entry.first.now) desk.entry.conn connection.value piece.now) }
     {
         let mut connection = connection;
         let mut outs = Outs::new(desk.alloc);
@@ -126,12 +130,37 @@ impl Slot {
     pub fn answer_comes(&mut self, desk: Desk, answer: BackAnswer) -> Result<Outs, Memory>
         requires room { commands_of self.old < 2 ^ 64 }
         ensures { IfOk result (λ outs. record { connection = self.new; outs = outs }
-            ≡ with_released (answer_comes desk.entry.setting.now desk.entry.home.now desk.entry.conn self.old answer)) }
+            ≡ with_released (answer_comes desk.entry.setting.now (ways_by desk.entry.replica.now.records desk.entry.master.now desk.entry.first.now) desk.entry.conn self.old answer)) }
     {
         match mem::replace(&mut self.held, Held::Over(0)) {
             Held::Live(connection) => {
                 let mut connection = connection;
                 let outs = connection.answer_comes(desk, answer)?;
+                *self = Slot::of(connection);
+                Ok(outs)
+            }
+            Held::Fresh => {
+                self.held = Held::Fresh;
+                Ok(Outs::new(desk.alloc))
+            }
+            Held::Over(answered) => {
+                self.held = Held::Over(answered);
+                Ok(Outs::new(desk.alloc))
+            }
+        }
+    }
+
+    /// Takes the master's OK to a NOOP, where it is that of the command that waits. For want of memory the connection is spent.
+    #[tactic(auto, using(crate::proofs::SlotLaws::fresh_ok, crate::proofs::SlotLaws::over_ok))]
+    pub fn ok_comes(&mut self, desk: Desk, id: AskId) -> Result<Outs, Memory>
+        requires room { commands_of self.old < 2 ^ 64 }
+        ensures { IfOk result (λ outs. record { connection = self.new; outs = outs }
+            ≡ with_released (ok_comes desk.entry.setting.now (ways_by desk.entry.replica.now.records desk.entry.master.now desk.entry.first.now) desk.entry.conn self.old id)) }
+    {
+        match mem::replace(&mut self.held, Held::Over(0)) {
+            Held::Live(connection) => {
+                let mut connection = connection;
+                let outs = connection.ok_comes(desk, id)?;
                 *self = Slot::of(connection);
                 Ok(outs)
             }

@@ -98,6 +98,7 @@ tale_said setting tale later_told conn request serial = record {
   told = later_told;
   course = next_course setting tale.course conn request serial;
   before = with_session tale.before conn (tale.course.sessions conn);
+  moving = tale.moving;
 }
 
 not_next : (talk : Talk) (now conn : ℕ) (kind : MarkKind) (mark : Mark) → is_of mark.ask (next_mark now talk conn kind) ≡ false → conn_of mark ≡ conn

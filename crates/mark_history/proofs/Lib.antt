@@ -16,6 +16,8 @@ pub mod Refused
 pub mod RefusedByLast
 pub mod MarkLaw
 pub mod RefusalMarks
+pub mod LastMarks
+pub mod MovedLaw
 pub mod EachMark
 pub mod Tellings
 pub mod MomentLaw

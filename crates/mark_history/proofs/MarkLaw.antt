@@ -55,6 +55,7 @@ said_so setting tale answers serials told conn request serial = record {
   told = told;
   course = next_course setting tale.course conn request serial;
   before = with_session tale.before conn (tale.course.sessions conn);
+  moving = tale.moving;
 }
 
 as_acting : (setting : Setting) (now : ℕ) (marks : List Mark) (tale : Tale) (told : ℕ → List Answer) (conn : ℕ) (request : Request) (serial : ℕ)
@@ -141,8 +142,8 @@ fits_none : Fit (λ conn. 0) []
 unfolding Fit
 fits_none = tt
 
-first_by_last : (setting : Setting) → IsToldByLast setting 0 [] first_tale
-first_by_last setting = record {
+first_by_last : (setting : Setting) (moving : ℕ → List ℕ → Bool) → IsToldByLast setting 0 [] (first_tale moving)
+first_by_last setting moving = record {
   acting = [];
   leaves = none_left;
   is_told = record {
@@ -222,6 +223,7 @@ refused_so tale answers serials told conn tag it = record {
   told = told;
   course = course_after tale.course conn (refusal tale conn tag it);
   before = with_session tale.before conn (tale.course.sessions conn);
+  moving = tale.moving;
 }
 
 -- the open command is refused
@@ -250,7 +252,7 @@ pub record Holds (setting : Setting) (now : ℕ) (marks : List Mark) (tale : Tal
   pub order : IsInOrder now marks tale.told
 
 pub holds : (setting : Setting) (now : ℕ) (marks : List Mark) (tale : Tale) → AreMarked setting now marks tale → Holds setting now marks tale
-holds setting now marks tale nothing = record { so = λ conn. all_told [] [] refl; law = first_by_last setting; order = order_none }
+holds setting now marks tale (nothing moving) = record { so = λ conn. all_told [] [] refl; law = first_by_last setting moving; order = order_none }
 holds setting now marks tale (a_step earlier later those its le made) =
     let before = holds setting earlier those its made in record {
       so = before.so;

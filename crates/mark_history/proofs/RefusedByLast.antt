@@ -111,6 +111,7 @@ refused_tale tale conn tag it serial = record {
   told = with_item tale.told conn (refusal tale conn tag it).answer;
   course = course_after tale.course conn (refusal tale conn tag it);
   before = with_session tale.before conn (tale.course.sessions conn);
+  moving = tale.moving;
 }
 
 abbrev now_said : Tale → ℕ → Tag → Command → ℕ → ℕ → ℕ

@@ -185,8 +185,8 @@ a_client : (how : _) → tells_client (Told how) ≡ true
 unfolding tells_client
 a_client how = refl
 
-none_told : HasTellings [] first_tale
-none_told = record {
+none_told : (moving : ℕ → List ℕ → Bool) → HasTellings [] (first_tale moving)
+none_told moving = record {
   ends = λ i j d h k. absurd (omega arith);
   low = λ k d h. absurd (omega arith);
   from_one = λ k d h. absurd (omega arith);
@@ -211,7 +211,7 @@ more_asked marks tale requests more has =
     }
 
 pub has_tellings : (setting : Setting) (now : ℕ) (marks : List Mark) (tale : Tale) → AreMarked setting now marks tale → HasTellings marks tale
-has_tellings setting now marks tale nothing = none_told
+has_tellings setting now marks tale (nothing moving) = none_told moving
 has_tellings setting now marks tale (a_step earlier later those its le made) = has_tellings setting earlier those its made
 has_tellings setting now marks tale (asks at those its requests more made) =
     more_asked those its requests more (has_tellings setting at those its made)

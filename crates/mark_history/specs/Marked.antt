@@ -1,7 +1,7 @@
 -- How marks come about. Of each connection the first command that its client wasn't told of is open: steps see it, and one may act on it. What a step did
 -- on condition that the client is told may be taken back as long as it isn't; then others see the command, or one acts on it anew. A command that was
 -- only seen may be refused, as its mailbox is being moved; the step that saw it last is then its point.
-use Rattle.std.specs.Prelude.{◌≡◌, ℕ, ◌+◌, ◌≤◌, ◌==◌, if◌then◌else◌, List, [], ◌∷◌, ◌++◌, length, take, Option, None, Some}
+use Rattle.std.specs.Prelude.{◌≡◌, ℕ, ◌+◌, ◌≤◌, ◌==◌, Bool, true, if◌then◌else◌, List, [], ◌∷◌, ◌++◌, length, take, Option, None, Some}
 use Rattle.imap_types.specs.declared.command.Command.{Command}
 use Rattle.imap_types.specs.declared.command.Tag.{Tag}
 use Rattle.imap_types.specs.declared.reply.NoText.TheVariants.{BeingMoved}
@@ -16,32 +16,36 @@ use Rattle.mur_base.specs.declared.point.What.TheVariants.{Reserved as reserved}
 use Rattle.mur_model.specs.declared.session.Sess.{Sess}
 use Rattle.mur_model.specs.declared.setting.Setting.{Setting}
 use Rattle.mur_model.specs.declared.store.Store.{Store}
+use Rattle.mur_model.specs.Act.{need_of}
 use Rattle.mur_model.specs.Answer.{Answered, MayTake}
 use Rattle.mur_model.specs.History.{Course, Talk, GoesOn, IsLegal, IsRefused, numbered, carried_out, course_after, refused_out, with_session}
+use Rattle.mur_model.specs.Needed.{Mailbox, Work}
 use Rattle.mark_history.specs.declared.mark.Mark.{Mark}
 use Rattle.mark_history.specs.declared.mark.MarkKind.{MarkKind}
 use Rattle.mark_history.specs.declared.mark.MarkKind.TheVariants.{Home, Told}
 use Rattle.mark_history.specs.FirstCourse.{first_course}
 use Rattle.mark_history.specs.History.{is_of, points_of}
 
--- what marks are of: what the clients asked and were replied, and what they were told of that; the store and all sessions; and of each connection the
--- session before its last reply
+-- what marks are of: what the clients asked and were replied, and what they were told of that; the store and all sessions; of each connection the
+-- session before its last reply; and behind each step which mailboxes are being moved, which is fixed for all steps of a run
 pub record Tale : Type 0 where
   pub talk : Talk
   pub told : ℕ → List Answer
   pub course : Course
   pub before : ℕ → Sess
+  pub moving : ℕ → List ℕ → Bool
 
 -- another list at a connection
 unfoldable pub with_list : {T : Type 0} → (ℕ → List T) → ℕ → List T → ℕ → List T
 with_list lists conn list other = if other == conn then list else lists other
 
-abbrev pub first_tale : Tale
-first_tale = record {
+abbrev pub first_tale : (ℕ → List ℕ → Bool) → Tale
+first_tale moving = record {
   talk = record { requests = λ _. []; answers = λ _. []; serials = λ _. [] };
   told = λ _. [];
   course = first_course;
   before = first_course.sessions;
+  moving = moving;
 }
 
 abbrev pub asking : Tale → (ℕ → List Request) → Tale
@@ -74,6 +78,14 @@ last_from ask earlier (mark ∷ marks) = last_from ask (said_by ask mark earlier
 abbrev pub last_of : AskId → List Mark → Option MarkKind
 last_of ask marks = last_from ask None marks
 
+-- and that mark itself
+unfoldable pub last_mark_from : AskId → Option Mark → List Mark → Option Mark
+last_mark_from ask earlier [] = earlier
+last_mark_from ask earlier (mark ∷ marks) = last_mark_from ask (if is_of ask mark then Some mark else earlier) marks
+
+abbrev pub last_mark : AskId → List Mark → Option Mark
+last_mark ask marks = last_mark_from ask None marks
+
 -- the open command was asked, and may be carried out with this UIDVALIDITY
 pub record CanAct (setting : Setting) (tale : Tale) (conn : ℕ) (request : Request) (serial : ℕ) : Type 0 where
   pub unreplied : IsUnreplied tale conn
@@ -94,6 +106,7 @@ acting setting tale conn request serial = record {
   told = tale.told;
   course = course_after tale.course conn (done setting tale conn request serial);
   before = with_session tale.before conn (tale.course.sessions conn);
+  moving = tale.moving;
 }
 
 -- its client is told
@@ -111,13 +124,24 @@ taking_back tale conn = record {
   told = tale.told;
   course = record { store = tale.course.store; sessions = with_session tale.course.sessions conn (tale.before conn) };
   before = tale.before;
+  moving = tale.moving;
 }
+
+-- the mailbox that the open command needs was being moved in the step that saw it last
+pub record SawMove (setting : Setting) (marks : List Mark) (tale : Tale) (conn : ℕ) (it : Command) : Type 0 where
+  pub step : ℕ
+  pub saw : last_mark (open_ask tale conn) marks ≡ Some (record { step = step; ask = open_ask tale conn; kind = Home IfAnswered })
+  pub name : List ℕ
+  pub work : Work
+  pub need : need_of setting (tale.course.sessions conn) it ≡ Mailbox name work
+  pub moving : tale.moving step name ≡ true
 
 -- the open command was asked and seen, has no reply, and may be refused since its mailbox is being moved: it needs one
 pub record CanRefuse (setting : Setting) (marks : List Mark) (tale : Tale) (conn : ℕ) (tag : Tag) (it : Command) : Type 0 where
   pub unreplied : IsUnreplied tale conn
   pub refused : IsRefused setting tale.talk tale.course conn (length (tale.told conn) + 1) tag it reserved BeingMoved
   pub seen : last_of (open_ask tale conn) marks ≡ Some (Home IfAnswered)
+  pub move : SawMove setting marks tale conn it
 
 abbrev pub refusal : Tale → ℕ → Tag → Command → Answered
 refusal tale conn tag it = refused_out tale.course conn tag it BeingMoved
@@ -133,11 +157,12 @@ refusing tale conn tag it serial = record {
   told = tale.told;
   course = course_after tale.course conn (refusal tale conn tag it);
   before = with_session tale.before conn (tale.course.sessions conn);
+  moving = tale.moving;
 }
 
 -- up to a step these marks are made, and are of this
 pub data AreMarked (setting : Setting) : ℕ → List Mark → Tale → Type 0 where
-  nothing : AreMarked setting 0 [] first_tale
+  nothing : (moving : ℕ → List ℕ → Bool) → AreMarked setting 0 [] (first_tale moving)
   a_step : (now next : ℕ) (marks : List Mark) (tale : Tale) → now ≤ next → AreMarked setting now marks tale → AreMarked setting next marks tale
   asks : (now : ℕ) (marks : List Mark) (tale : Tale) (requests : ℕ → List Request) → GoesOn tale.talk.requests requests
       → AreMarked setting now marks tale → AreMarked setting now marks (asking tale requests)

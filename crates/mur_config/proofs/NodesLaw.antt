@@ -1,4 +1,4 @@
--- Nodes that break no rule have names of their own, and the kinds that a cluster needs.
+-- Nodes that break no rule have valid names of their own, and the kinds that a cluster needs.
 use Rattle.std.proofs.Common.{◌≡◌, ◌≢◌, ℕ, ◌≤◌, Bool, true, false, ◌&&◌, not, nat_eq, nat_lt, nat_le, is_none, List, [], ◌∷◌, length, Option}
 use Rattle.std.proofs.Common.{None, Some, refl, arith}
 use Rattle.std.specs.List.{All, AllPairs, list_any, list_all}
@@ -14,8 +14,8 @@ use Rattle.mur_base.specs.declared.name.NameFault.{NameFault}
 use Rattle.mur_config.specs.declared.node.Kind.{Kind}
 use Rattle.mur_config.specs.declared.node.Kind.TheVariants.{Master, Frontend, Backend}
 use Rattle.mur_config.specs.declared.node.Node.{Node}
-use Rattle.mur_config.specs.declared.nodes.NodesFault.TheVariants.{NameTwice, NodeCount, BadPartition}
-use Rattle.mur_config.specs.Nodes.{is_node_named, node_names_differ, count_of_kind, is_some_within, has_node_counts, fits_kind}
+use Rattle.mur_config.specs.declared.nodes.NodesFault.TheVariants.{BadName, NameTwice, NodeCount, BadPartition}
+use Rattle.mur_config.specs.Nodes.{has_valid_name, is_node_named, node_names_differ, count_of_kind, is_some_within, has_node_counts, fits_kind}
 use Rattle.mur_config.specs.Nodes.{has_partition, nodes_fault, FitsKind, AreNodes}
 
 none_named : (name : List ℕ) (nodes : List Node) → list_any (is_node_named name) nodes ≡ false → All (λ (node : Node). name ≢ node.name) nodes
@@ -37,6 +37,10 @@ no_fault : (fault : Option NameFault) → is_none fault ≡ true → fault ≡ N
 no_fault None h = refl
 no_fault (Some fault) h = cc
 
+kept_names : (nodes : List Node) → list_all has_valid_name nodes ≡ true → All (λ (node : Node). short_name_fault node.name ≡ None) nodes
+unfolding has_valid_name
+kept_names nodes h = λ k d within. no_fault _ (AllPass-from_list_all has_valid_name nodes h k d within)
+
 nothing : (text : List ℕ) → nat_eq (length text) 0 ≡ true → text ≡ []
 nothing [] h = refl
 nothing (b ∷ text) h = let e = eqb-true (length (b ∷ text)) 0 h in absurd (omega arith)
@@ -57,14 +61,16 @@ within limit count h =
     let parts = and_parts (nat_lt 0 count) (nat_le count limit) h in
     (grind (arith, nat_tests, parts.0), grind (arith, nat_tests, parts.1))
 
-kept_by : (nodes : List Node) → node_names_differ nodes ≡ true → has_node_counts nodes ≡ true → list_all has_partition nodes ≡ true → AreNodes nodes
+kept_by : (nodes : List Node) → list_all has_valid_name nodes ≡ true → node_names_differ nodes ≡ true → has_node_counts nodes ≡ true
+    → list_all has_partition nodes ≡ true → AreNodes nodes
 unfolding has_node_counts
-kept_by nodes names counts partitions =
+kept_by nodes valid names counts partitions =
     let front = is_some_within FRONTEND_LIMIT (count_of_kind Frontend nodes) in
     let back = is_some_within BACKEND_LIMIT (count_of_kind Backend nodes) in
     let whole = and_parts (nat_eq (count_of_kind Master nodes) 1 && front) back counts in
     let parts = and_parts (nat_eq (count_of_kind Master nodes) 1) front whole.0 in
     record {
+      named = kept_names nodes valid;
       names = names_apart nodes names;
       master = eqb-true (count_of_kind Master nodes) 1 parts.0;
       frontends = within FRONTEND_LIMIT (count_of_kind Frontend nodes) parts.1;
@@ -72,14 +78,15 @@ kept_by nodes names counts partitions =
       partitions = kept_partitions nodes partitions;
     }
 
-nodes_by : (nodes : List Node) → (names counts partitions : Bool) → node_names_differ nodes ≡ names → has_node_counts nodes ≡ counts
-    → list_all has_partition nodes ≡ partitions
+nodes_by : (nodes : List Node) → (valid names counts partitions : Bool) → list_all has_valid_name nodes ≡ valid → node_names_differ nodes ≡ names
+    → has_node_counts nodes ≡ counts → list_all has_partition nodes ≡ partitions
     → nodes_fault nodes ≡ None → AreNodes nodes
 unfolding nodes_fault
-nodes_by nodes true true true n c p h = kept_by nodes n c p
-nodes_by nodes true true false n c p h = let none : Some BadPartition ≡ None = rw (n, c, p) at h in cc
-nodes_by nodes true false partitions n c p h = let none : Some NodeCount ≡ None = rw (n, c) at h in cc
-nodes_by nodes false counts partitions n c p h = let none : Some NameTwice ≡ None = rw (n) at h in cc
+nodes_by nodes true true true true v n c p h = kept_by nodes v n c p
+nodes_by nodes true true true false v n c p h = let none : Some BadPartition ≡ None = rw (v, n, c, p) at h in cc
+nodes_by nodes true true false partitions v n c p h = let none : Some NodeCount ≡ None = rw (v, n, c) at h in cc
+nodes_by nodes true false counts partitions v n c p h = let none : Some NameTwice ≡ None = rw (v, n) at h in cc
+nodes_by nodes false names counts partitions v n c p h = let none : Some BadName ≡ None = rw (v) at h in cc
 
 pub nodes_kept : (nodes : List Node) → nodes_fault nodes ≡ None → AreNodes nodes
-nodes_kept nodes h = nodes_by nodes _ _ _ refl refl refl h
+nodes_kept nodes h = nodes_by nodes _ _ _ _ refl refl refl refl h

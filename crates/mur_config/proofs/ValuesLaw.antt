@@ -11,7 +11,8 @@ use Rattle.mur_base.specs.declared.user.User.{User}
 use Rattle.mur_config.specs.Config.{is_kind, is_draft_of_kind, count_of_drafts, has_draft_counts, has_own_names, port_of, node_at, has_node_names, node_of_kind, node_of_draft, user_at, user_of_draft}
 use Rattle.mur_config.specs.Json.{each_of}
 use Rattle.mur_config.specs.Names.{names_differ}
-use Rattle.mur_config.specs.Nodes.{nodes_fault, node_names_differ, is_node_named, has_node_counts, count_of_kind, is_of_kind, is_node_of_kind, has_partition, fits_kind, AreTakenAsNodes}
+use Rattle.mur_config.specs.Nodes.{nodes_fault, has_valid_name, node_names_differ, is_node_named, has_node_counts, count_of_kind, is_of_kind}
+use Rattle.mur_config.specs.Nodes.{is_node_of_kind, has_partition, fits_kind, AreTakenAsNodes}
 use Rattle.mur_config.specs.declared.draft.Draft.{Draft}
 use Rattle.mur_config.specs.declared.draft.NodeDraft.{NodeDraft}
 use Rattle.mur_config.specs.declared.draft.UserDraft.{UserDraft}
@@ -46,22 +47,24 @@ each-cons is x xs made h = each_by is x xs made _ _ refl refl h
 -- what a node has of its draft
 record FromDraft (draft : NodeDraft) (node : Node) : Type 0 where
   pub name : node.name ≡ draft.name
+  pub valid : has_valid_name node ≡ true
   pub kind : draft.kind ≡ Some node.kind
   pub partition : has_partition node ≡ true
 
-made_by : (draft : NodeDraft) (node : Node) (kind : Kind) (port : Option ℕ) → draft.kind ≡ Some kind → fits_kind kind draft.partition ≡ true
-    → option_map (node_at draft kind) port ≡ Some node → FromDraft draft node
-unfolding has_partition
-made_by draft node kind (Some port) is fits h =
+made_by : (draft : NodeDraft) (node : Node) (kind : Kind) (port : Option ℕ) → draft.kind ≡ Some kind → is_none (short_name_fault draft.name) ≡ true
+    → fits_kind kind draft.partition ≡ true → option_map (node_at draft kind) port ≡ Some node → FromDraft draft node
+unfolding has_valid_name has_partition
+made_by draft node kind (Some port) is valid fits h =
     let same : node_at draft kind port ≡ node = taken _ _ h in
-    subst (λ (node : Node). FromDraft draft node) same (record { name = refl; kind = is; partition = fits })
-made_by draft node kind None is fits h = cc
+    subst (λ (node : Node). FromDraft draft node) same (record { name = refl; valid = valid; kind = is; partition = fits })
+made_by draft node kind None is valid fits h = cc
 
 named_by : (draft : NodeDraft) (node : Node) (kind : Kind) (good : Bool) → draft.kind ≡ Some kind → has_node_names draft kind ≡ good
     → (if good then option_map (node_at draft kind) (port_of kind draft.port) else None) ≡ Some node → FromDraft draft node
 unfolding has_node_names
 named_by draft node kind true is good h =
-    made_by draft node kind _ is ((and_parts (is_none (short_name_fault draft.name)) (fits_kind kind draft.partition) good).1) h
+    let parts = and_parts (is_none (short_name_fault draft.name)) (fits_kind kind draft.partition) good in
+    made_by draft node kind _ is parts.0 parts.1 h
 named_by draft node kind false is good h = cc
 
 kind_by : (draft : NodeDraft) (node : Node) (kind : Option Kind) → draft.kind ≡ kind → node_of_kind draft kind ≡ Some node → FromDraft draft node
@@ -73,9 +76,10 @@ from_draft : (draft : NodeDraft) (node : Node) → node_of_draft draft ≡ Some 
 unfolding node_of_draft
 from_draft draft node h = kind_by draft node _ refl h
 
--- the nodes have their drafts' names and kinds, and a backend has a partition
+-- the nodes have their drafts' names and kinds, each name is valid, and a backend has a partition
 record FromDrafts (drafts : List NodeDraft) (nodes : List Node) : Type 0 where
   pub names : map (λ (node : Node). node.name) nodes ≡ map (λ (draft : NodeDraft). draft.name) drafts
+  pub valid : list_all has_valid_name nodes ≡ true
   pub counts : (kind : Kind) → count_of_kind kind nodes ≡ count_of_drafts kind drafts
   pub partitions : list_all has_partition nodes ≡ true
 
@@ -90,13 +94,14 @@ from_drafts : (drafts : List NodeDraft) (nodes : List Node) → each_of node_of_
 unfolding each_of count_of_kind count_of_drafts
 from_drafts [] nodes h =
     let same : [] ≡ nodes = taken _ _ h in
-    subst (λ (nodes : List Node). FromDrafts [] nodes) same (record { names = refl; counts = λ kind. refl; partitions = refl })
+    subst (λ (nodes : List Node). FromDrafts [] nodes) same (record { names = refl; valid = refl; counts = λ kind. refl; partitions = refl })
 from_drafts (draft ∷ drafts) nodes h =
     let each = each-cons node_of_draft draft drafts nodes h in
     let first = from_draft draft each.one each.first in
     let rest = from_drafts drafts each.others each.rest in
     subst (λ (nodes : List Node). FromDrafts (draft ∷ drafts) nodes) each.whole (record {
       names = rw (first.name, rest.names) refl;
+      valid = rw (first.valid, rest.valid) refl;
       counts = λ kind. counted kind draft each.one drafts each.others first.kind (rest.counts kind) _ refl;
       partitions = rw (first.partition, rest.partitions) refl;
     })
@@ -154,7 +159,7 @@ nodes_keep draft nodes made own counts =
     (names_differ (map (λ (user : UserDraft). user.name) draft.users)) own).0 in
     let differ : node_names_differ nodes ≡ true = node_names_are nodes ∙ (ap names_differ from.names ∙ names) in
     let counted : has_node_counts nodes ≡ true = counts_are draft.nodes nodes from ∙ counts in
-    rw (differ, counted, from.partitions) refl
+    rw (from.valid, differ, counted, from.partitions) refl
 
 -- what a user has of its draft
 record OfDraft (draft : UserDraft) (user : User) : Type 0 where

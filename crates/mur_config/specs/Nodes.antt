@@ -10,10 +10,14 @@ use Rattle.mur_config.specs.declared.node.Kind.TheVariants.{Master, Frontend, Ba
 use Rattle.mur_config.specs.declared.node.Node.{Node}
 use Rattle.mur_config.specs.declared.node.Link.{Link}
 use Rattle.mur_config.specs.declared.nodes.NodesFault.{NodesFault}
-use Rattle.mur_config.specs.declared.nodes.NodesFault.TheVariants.{NameTwice, NodeCount, BadPartition}
+use Rattle.mur_config.specs.declared.nodes.NodesFault.TheVariants.{BadName, NameTwice, NodeCount, BadPartition}
 
 unfoldable pub is_node_named : List ℕ → Node → Bool
 is_node_named name node = bytes_eq node.name name
+
+-- a node has a name by the rules of names
+unfoldable pub has_valid_name : Node → Bool
+has_valid_name node = is_none (short_name_fault node.name)
 
 -- no two nodes have one name
 unfoldable pub node_names_differ : List Node → Bool
@@ -53,7 +57,8 @@ has_partition node = fits_kind node.kind node.partition
 -- the first rule that a list of nodes breaks
 unfoldable pub nodes_fault : List Node → Option NodesFault
 nodes_fault nodes =
-    if not (node_names_differ nodes) then Some NameTwice
+    if not (list_all has_valid_name nodes) then Some BadName
+    else if not (node_names_differ nodes) then Some NameTwice
     else if not (has_node_counts nodes) then Some NodeCount
     else if not (list_all has_partition nodes) then Some BadPartition
     else None
@@ -70,6 +75,7 @@ FitsKind Backend partition = short_name_fault partition ≡ None
 
 -- what every list of nodes keeps
 pub record AreNodes (nodes : List Node) : Type 0 where
+  pub named : All (λ (node : Node). short_name_fault node.name ≡ None) nodes
   pub names : AllPairs (λ (one other : Node). one.name ≢ other.name) nodes
   pub master : count_of_kind Master nodes ≡ 1
   pub frontends : (1 ≤ count_of_kind Frontend nodes) × (count_of_kind Frontend nodes ≤ FRONTEND_LIMIT)

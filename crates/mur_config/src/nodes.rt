@@ -2,8 +2,9 @@
 ghost use Rattle.std.specs.Prelude.{◌≡◌, ◌++◌, IfSome, IfOk, OnOk};
 ghost use Rattle.std.specs.Option.{option_copied};
 ghost use Rattle.std.specs.List.{list_any, list_all};
-ghost use Rattle.mur_config.specs.Nodes.{nodes_fault, node_names_differ, is_node_named, is_of_kind, is_node_of_kind, count_of_kind, is_some_within};
-ghost use Rattle.mur_config.specs.Nodes.{has_node_counts, fits_kind, has_partition, node_named, links_from, links_of, AreTakenAsNodes, AreNodes};
+ghost use Rattle.mur_config.specs.Nodes.{nodes_fault, has_valid_name, node_names_differ, is_node_named, is_of_kind, is_node_of_kind, count_of_kind};
+ghost use Rattle.mur_config.specs.Nodes.{is_some_within, has_node_counts, fits_kind, has_partition, node_named, links_from, links_of};
+ghost use Rattle.mur_config.specs.Nodes.{AreTakenAsNodes, AreNodes};
 
 use crate::node::{Kind, Links, Node};
 use mur_base::limits::{BACKEND_LIMIT, FRONTEND_LIMIT};
@@ -15,6 +16,9 @@ use thiserror::Error;
 /// The first rule that a list of nodes breaks, in this order.
 #[derive(Clone, Copy, Debug, PartialEq, Eq, Error)]
 pub enum NodesFault {
+    /// No list has this fault, since each `NodeName` keeps the rules: the test makes them known of the whole list.
+    #[error("a node's name has another form than it needs")]
+    BadName,
     #[error("two nodes have one name")]
     NameTwice,
     #[error("there isn't one master, or there are no or too many frontends or backends")]
@@ -24,7 +28,7 @@ pub enum NodesFault {
 }
 
 /// The nodes of a cluster, in the configuration's order: one master, 1 to `FRONTEND_LIMIT` frontends and 1 to
-/// `BACKEND_LIMIT` backends, each under a name of its own.
+/// `BACKEND_LIMIT` backends, each under a valid name of its own.
 #[derive(Drop)]
 pub struct Nodes {
     nodes: Items<Node>,
@@ -48,7 +52,9 @@ impl Nodes {
     pub fn new(nodes: Items<Node>) -> Result<Nodes, NodesFault>
         ensures { AreTakenAsNodes nodes result }
     {
-        if !node_names_differ(nodes.as_slice()) {
+        if !have_valid_names(nodes.as_slice()) {
+            Err(NodesFault::BadName)
+        } else if !node_names_differ(nodes.as_slice()) {
             Err(NodesFault::NameTwice)
         } else if !has_node_counts(nodes.as_slice()) {
             Err(NodesFault::NodeCount)
@@ -105,6 +111,19 @@ fn put_links(alloc: Global, from: &Node, nodes: &[Node], links: &mut Links) -> R
         }
     }
     Ok(())
+}
+
+fn have_valid_names(nodes: &[Node]) -> bool
+    ensures { result ≡ list_all has_valid_name nodes.now }
+{
+    nodes.iter().all(|node| has_valid_name(node))
+}
+
+#[tactic(auto, unfolding(crate::specs::Nodes::has_valid_name))]
+fn has_valid_name(node: &Node) -> bool
+    ensures { result ≡ has_valid_name node.now }
+{
+    NodeRule::fault_of(node.name.as_bytes()).is_none()
 }
 
 #[tactic(auto, unfolding(crate::specs::Nodes::node_names_differ))]

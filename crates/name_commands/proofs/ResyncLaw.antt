@@ -1,5 +1,5 @@
 -- LIST's OK ends a resync: each command that waited is tested, one after the other, and any other is left where it is.
-use Rattle.std.proofs.Common.{◌≡◌, ℕ, Bool, true, false, cond, List, [], ◌∷◌, map, filter, Option, None, Some, refl, sym, ap, subst, ◌∙◌}
+use Rattle.std.proofs.Common.{◌≡◌, ℕ, ◌≤◌, Bool, true, false, cond, List, [], ◌∷◌, length, map, filter, Option, None, Some, refl, sym, ap, subst, ◌∙◌, arith}
 use Rattle.std.specs.declared.cmp.Ordering.{Ordering}
 use Rattle.std.specs.declared.cmp.Ordering.TheVariants.{Less, Equal, Greater}
 use Rattle.std.specs.List.{fold}
@@ -24,13 +24,14 @@ use Rattle.name_flows.specs.Link.{waiting_in}
 use Rattle.name_flows.specs.Listed.{LinesByName, ended_resync, is_lost, line_in, list_ok_by, round, round_by, Round, with_find, with_line}
 use Rattle.name_flows.specs.Running.{answer_to, flow_at}
 use Rattle.name_flows.specs.Steps.{FlowStep, handed, silent}
+use Rattle.name_flows.proofs.AnswerOrder.{ordered_few}
 use Rattle.name_links.specs.LinkIs.{AreNumbered, IsTagged}
 use Rattle.name_links.proofs.HearParts.{not_lost}
 use Rattle.name_links.proofs.LinesByName.{Each, IsAboutIt, is_in_passing}
 use Rattle.name_links.proofs.ResyncEnd.{find_about, finds_each, finds_none}
 use Rattle.name_links.proofs.Rounds.{carried_out, IsRound, round_is, rounds_are}
 use Rattle.name_links.proofs.Sends.{heard_is, step_ok}
-use Rattle.name_commands.specs.Moves.{Move, answers_of, lines_of, place_after, tested_move}
+use Rattle.name_commands.specs.Moves.{Move, is_answered, is_kept, is_sent, answers_of, lines_of, place_after, tested_move}
 use Rattle.name_commands.specs.Places.{NamePlace, nowhere, waits, FlowsShow, IsNumbered, asks_at, flow_line, flows_at}
 use Rattle.name_commands.specs.Whose.{Whose, is_own_ask, is_own_line, is_own_told, own_flow}
 use Rattle.name_commands.proofs.AskLaw.{begun_is, begun_others, begun_own, begun_running}
@@ -207,6 +208,12 @@ module _ (whose : Whose) (start : Flows) (held : Names) where
 
 -- ---- LIST's OK
 
+-- a command has one answer at most
+one_answer : (move : Move) → length (answers_of move) ≤ 1
+one_answer (is_answered front id body) = omega arith
+one_answer (is_kept ask) = omega arith
+one_answer (is_sent name flow) = omega arith
+
 -- what the end of a resync is to one that waited
 pub record IsTested (whose : Whose) (flows : Flows) (held : Names) (step : FlowStep) (ask : NameAsk) : Type 0 where
   pub then : Flows
@@ -299,7 +306,9 @@ module _ (whose : Whose) (flows : Flows) (held : Names) (held_order : IsInOrder 
 
     silent_so : filter (is_own_ask whose) (waiting_in flows.resync) ≡ []
         → (filter (is_own_line whose) step.sends ≡ []) × (filter (is_own_told whose) step.answers ≡ [])
-    silent_so none = let has = has_left (λ name. own_flow whose (flow_at flows name)) (λ name. refl) none in (has.lines_are, has.answers_are)
+    silent_so none =
+        let has = has_left (λ name. own_flow whose (flow_at flows name)) (λ name. refl) none in
+        (has.lines_are, ordered_few (is_own_told whose) ended.answers [] (omega arith) has.answers_are)
 
     -- one of them did
     tested_has : (ask : NameAsk) → FlowsShow whose flows (waits ask) → IsTestedThen whose over held ended ask
@@ -333,15 +342,16 @@ module _ (whose : Whose) (flows : Flows) (held : Names) (held_order : IsInOrder 
     tested_so ask at =
         let tested = tested_has ask at in
         let body = refusal tested.then held ask.name ask.kind in
+        let move = tested_move ask body in
         record {
           then = tested.then;
           up = tested.up;
           master = tested.master;
           over = ended_round.resync;
           makes = record {
-            at = tested_numbers ask body at.numbered (tested_move ask body) refl at tested.has;
+            at = tested_numbers ask body at.numbered move refl at tested.has;
             lines = (tested.has).lines_are;
-            answers = (tested.has).answers_are;
+            answers = ordered_few (is_own_told whose) ended.answers (answers_of move) (one_answer move) (tested.has).answers_are;
           };
         }
 

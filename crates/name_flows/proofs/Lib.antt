@@ -6,3 +6,4 @@ pub mod HeardOthers
 pub mod HeardSame
 pub mod FindsSame
 pub mod HeardLaw
+pub mod AnswerOrder

@@ -8,6 +8,7 @@ pub mod Deletes
 pub mod Finds
 pub mod Link
 pub mod Listing
+pub mod AnswerOrder
 pub mod Listed
 pub mod Heard
 pub mod OneName

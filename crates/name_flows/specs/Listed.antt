@@ -17,6 +17,7 @@ use Rattle.name_flows.specs.declared.flows.Flows.{Flows}
 use Rattle.name_flows.specs.declared.resync.Resync.{Resync}
 use Rattle.name_flows.specs.declared.sent.Sent.TheVariants.{Find}
 use Rattle.name_flows.specs.declared.sent.SentLine.{SentLine}
+use Rattle.name_flows.specs.AnswerOrder.{in_command_order}
 use Rattle.name_flows.specs.Asked.{refusal, begun_flow, begun_line}
 use Rattle.name_flows.specs.Phases.{is_creating_phase, is_closing_phase}
 use Rattle.name_flows.specs.Running.{answer_to}
@@ -74,8 +75,9 @@ round_by it ask None = record it { flows = begun_flow it.flows ask; lines = with
 abbrev pub round : Names → Round → NameAsk → Round
 round held it ask = round_by it ask (refusal it.flows held ask.name ask.kind)
 
+-- they are tested in the order of asking, and answered in that of their commands
 abbrev pub after_round : Option BackendRecord → Round → FlowStep
-after_round change it = record { flows = it.flows; entry = change; sends = map line_in it.lines; answers = it.answers }
+after_round change it = record { flows = it.flows; entry = change; sends = map line_in it.lines; answers = in_command_order it.answers }
 
 -- What was made here and wasn't listed is forgotten, and what is closed here and wasn't listed is looked for. Then those that waited are tested.
 abbrev pub ended_resync : Flows → Names → Resync → FlowStep

@@ -1,6 +1,7 @@
 // LIST's OK: a resync ends.
 ghost use Rattle.std.specs.Prelude.{◌≡◌, ◌∷◌, [], None, Some, filter, map, IfOk, OnOk};
 ghost use Rattle.std.specs.List.{fold};
+ghost use Rattle.name_flows.specs.AnswerOrder.{in_command_order};
 ghost use Rattle.name_flows.specs.Listed.{name_in, is_unmade, is_lost, find_line, with_find, line_in, forget_all, round, ended_resync, list_ok};
 ghost use Rattle.name_flows.specs.Steps.{given};
 
@@ -91,6 +92,15 @@ fn forget_all(names: MailNames) -> Option<BackendRecord>
     }
 }
 
+/// Answers by connection, and by number of the command there.
+fn in_command_order(answers: Answers) -> Result<Answers, Memory>
+    ensures { IfOk result (λ all. all ≡ in_command_order answers) }
+{
+    let mut all = answers.into_vec();
+    all.sort_by_key(|told| (told.answer.id.conn, told.answer.id.command))?;
+    Ok(Answers::from_vec(all))
+}
+
 /// What the end of a resync gives.
 fn resync_gives(
     alloc: Global,
@@ -102,7 +112,7 @@ fn resync_gives(
     ensures { IfOk result (λ it. it ≡ record {
       entry = forget_all (map name_in (filter (is_unmade listed.now) held.now));
       sends = map line_in lines.now;
-      answers = answers;
+      answers = in_command_order answers;
     }) }
 {
     let sends = in_order(alloc, lines)?;
@@ -110,7 +120,7 @@ fn resync_gives(
     Ok(Gives {
         entry: forget_all(names),
         sends,
-        answers,
+        answers: in_command_order(answers)?,
     })
 }
 

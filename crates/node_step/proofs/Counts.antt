@@ -1,7 +1,6 @@
 -- A step counts at most as many commands of a connection more as bytes came.
-use Rattle.std.proofs.Common.{◌≡◌, ℕ, ◌+◌, ◌<◌, ◌^◌, length, Option, Some, None, refl, subst, arith}
-use Rattle.backend_core.specs.declared.backend.Backend.{Backend}
-use Rattle.backend_core.specs.declared.input.BackInput.{BackInput}
+use Rattle.std.proofs.Common.{◌≡◌, ℕ, ◌+◌, ◌<◌, ◌^◌, length, Some, refl, subst, arith}
+use Rattle.back_node.specs.declared.node.BackNode.{BackNode}
 use Rattle.front_core.specs.declared.front.Front.{Front}
 use Rattle.front_core.specs.Front.{connect, bytes_in, hang, deliver}
 use Rattle.front_core.specs.Room.{HasCommands}
@@ -11,7 +10,7 @@ use Rattle.node_step.specs.declared.input.NodeInput.{NodeInput}
 use Rattle.node_step.specs.declared.input.NodeInput.TheVariants.{Opened, Piece, Hung, From}
 use Rattle.node_step.specs.declared.node.NodeState.{NodeState}
 use Rattle.node_step.specs.declared.node.NodeState.TheVariants as node
-use Rattle.node_step.specs.NodeStep.{as_front, front_takes, back_takes, back_by, back_input, master_takes, takes}
+use Rattle.node_step.specs.NodeStep.{as_front, front_takes, back_takes, master_takes, takes}
 use Rattle.node_step.specs.Room.{FrontHasRoom, HasRoomToTake}
 
 -- no connection of the node, where it is a frontend, has more commands than so many
@@ -41,17 +40,12 @@ front_counts front (Hung conn) most has = front_has (hang front conn) (most + 0)
 front_counts front (From name message) most has =
     front_has (deliver front name message).front (most + 0) (no_more (deliver front name message).front most (deliver_counts front name message most has))
 
-back_by_counts : (home : Backend) (input : Option BackInput) (most : ℕ) → HasCommandsAt (back_by home input).state most
-unfolding back_by as_front
-back_by_counts home None most next e = cc
-back_by_counts home (Some input) most next e = cc
-
-back_counts : (home : Backend) (input : NodeInput) (most : ℕ) → HasCommandsAt (back_takes home input).state most
+back_counts : (home : BackNode) (input : NodeInput) (most : ℕ) → HasCommandsAt (back_takes home input).state most
 unfolding back_takes as_front
 back_counts home (Opened conn) most next e = cc
 back_counts home (Piece conn bytes) most next e = cc
 back_counts home (Hung conn) most next e = cc
-back_counts home (From name message) most next e = back_by_counts home (back_input name message) most next e
+back_counts home (From name message) most next e = cc
 
 master_counts : (master : Master) (input : NodeInput) (most : ℕ) → HasCommandsAt (master_takes master input).state most
 unfolding master_takes as_front

@@ -1,4 +1,5 @@
 pub mod NodeKinds
 pub mod Counts
+pub mod MasterOuts
 pub mod OwnOuts
 pub mod Unmarked

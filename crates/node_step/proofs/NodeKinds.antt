@@ -1,6 +1,6 @@
 -- A node is of one kind.
 use Rattle.std.proofs.Common.{◌≡◌, Option, Some, None, refl}
-use Rattle.backend_core.specs.declared.backend.Backend.{Backend}
+use Rattle.back_node.specs.declared.node.BackNode.{BackNode}
 use Rattle.front_core.specs.declared.front.Front.{Front}
 use Rattle.master_core.specs.declared.master.Master.{Master}
 use Rattle.node_step.specs.declared.node.NodeState.{NodeState}
@@ -16,7 +16,7 @@ front_is (Some (node.Master master)) front e = cc
 front_is None front e = cc
 
 -- what is a backend is that one
-pub back_is : (found : Option NodeState) (home : Backend) → as_back found ≡ Some home → found ≡ Some (node.Back home)
+pub back_is : (found : Option NodeState) (home : BackNode) → as_back found ≡ Some home → found ≡ Some (node.Back home)
 unfolding as_back
 back_is (Some (node.Front front)) home e = cc
 back_is (Some (node.Back it)) home e = cc
@@ -32,7 +32,7 @@ master_is (Some (node.Master it)) master e = cc
 master_is None master e = cc
 
 -- a backend is no frontend
-pub back_no_front : (found : Option NodeState) (home : Backend) → as_back found ≡ Some home → as_front found ≡ None
+pub back_no_front : (found : Option NodeState) (home : BackNode) → as_back found ≡ Some home → as_front found ≡ None
 unfolding as_front as_back
 back_no_front (Some (node.Front front)) home e = cc
 back_no_front (Some (node.Back it)) home e = refl
@@ -51,7 +51,7 @@ pub a_front : (front : Front) → as_front (Some (node.Front front)) ≡ Some fr
 unfolding as_front
 a_front front = refl
 
-pub a_back : (home : Backend) → as_back (Some (node.Back home)) ≡ Some home
+pub a_back : (home : BackNode) → as_back (Some (node.Back home)) ≡ Some home
 unfolding as_back
 a_back home = refl
 
@@ -59,6 +59,6 @@ pub no_back : (front : Front) → as_back (Some (node.Front front)) ≡ None
 unfolding as_back
 no_back front = refl
 
-pub no_front : (home : Backend) → as_front (Some (node.Back home)) ≡ None
+pub no_front : (home : BackNode) → as_front (Some (node.Back home)) ≡ None
 unfolding as_front
 no_front home = refl

@@ -1,282 +1,151 @@
--- A node gives bytes to no client but the one that its input is about.
-use Rattle.std.proofs.Common.{◌≡◌, ◌≢◌, ℕ, Bool, true, false, nat_eq, List, [], ◌∷◌, Option, Some, None, refl, sym, ◌∙◌, subst}
-use Rattle.std.specs.Prelude.{⊤}
-use Rattle.std.specs.Cmp.Lexicographic.{pointwise, same_text}
-use Rattle.backend_core.specs.declared.backend.Backend.{Backend}
-use Rattle.backend_core.specs.declared.input.BackInput.{BackInput}
-use Rattle.backend_core.specs.declared.input.BackInput.TheVariants.{Up as up_in, End as end_in}
-use Rattle.backend_core.specs.declared.op_plan.OpPlan.{OpPlan}
-use Rattle.backend_core.specs.declared.plan.Owed.{Owed}
-use Rattle.backend_core.specs.AskPlan.{ask_plan}
-use Rattle.backend_core.specs.OpPlan.{home_after, told_after}
-use Rattle.backend_core.specs.Plan.{answer_outs, back_plan, owed_outs, owes, plan_of, settles}
+-- What a node lets out in a step: bytes for its own clients alone, and messages for the nodes that it may send to; a frontend marks no command.
+use Rattle.std.proofs.Common.{◌≡◌, ℕ, List, [], ◌∷◌, refl, sym, subst}
+use Rattle.std.specs.Prelude.{⊤, All}
+use Rattle.std.proofs.lemmas.List.Elements.{All-head, All-tail}
+use Rattle.back_node.specs.declared.node.BackNode.{BackNode}
+use Rattle.back_node.specs.NodeLaws.{AsksAs, IsSaid, OwesOnly}
+use Rattle.back_node.specs.Takes.{node_takes}
+use Rattle.back_node.proofs.Said.{step_says}
 use Rattle.front_core.specs.declared.front.Front.{Front}
-use Rattle.front_core.specs.Front.{connect, bytes_in, deliver, line_from, up_from}
-use Rattle.front_core.proofs.OneConnection.OwnOuts.{IsFor, AreFor, answer_for_it, connect_for, bytes_for}
-use Rattle.link_msg.specs.declared.answer.AnswerBody.{AnswerBody}
-use Rattle.link_msg.specs.declared.counts.Counts.{Counts}
-use Rattle.node_step.specs.declared.input.NodeInput.{NodeInput}
-use Rattle.node_step.specs.declared.input.NodeInput.TheVariants.{Opened, Piece, Hung, From}
+use Rattle.front_core.specs.Front.{ways_of}
+use Rattle.front_core.proofs.OwnOuts.{AreLetOut, HasConnections, IsLetOut, MayAsk, MovesBy, bytes_own, connect_own, hang_own, message_own}
+use Rattle.link_msg.specs.declared.answer.BackAnswer.{BackAnswer}
 use Rattle.link_msg.specs.declared.message.LinkMsg.{LinkMsg}
 use Rattle.link_msg.specs.declared.message.LinkMsg.TheVariants.{Up, End, Line, Ask, Answer}
 use Rattle.link_msg.specs.declared.out.Out.{Out}
 use Rattle.link_msg.specs.declared.out.Out.TheVariants.{Client, Close, Link, Mark, Told}
-use Rattle.mur_base.specs.declared.point.AskId.{AskId}
+use Rattle.master_core.specs.declared.master.Master.{Master}
+use Rattle.master_core.specs.declared.sender.Sender.TheVariants as sender
+use Rattle.node_step.specs.declared.input.NodeInput.{NodeInput}
+use Rattle.node_step.specs.declared.input.NodeInput.TheVariants.{Opened, Piece, Hung, From}
 use Rattle.node_step.specs.declared.node.NodeState.{NodeState}
 use Rattle.node_step.specs.declared.node.NodeState.TheVariants as node
-use Rattle.master_core.specs.declared.master.Master.{Master}
-use Rattle.master_core.specs.Linked.{node_says}
-use Rattle.master_core.specs.Outside.{connect as outside_connects, bytes_in as outside_says}
-use Rattle.master_core.proofs.OutsideAlone.{IsItsOwn, AreItsOwn, connects_alone, bytes_alone}
-use Rattle.node_step.specs.NodeStep.{as_front, front_takes, back_takes, back_by, back_input, master_takes, takes}
+use Rattle.node_step.specs.NodeStep.{Acted, back_takes, front_takes, master_takes, takes}
+use Rattle.node_step.proofs.MasterOuts.{MayBeTold, SaysFrom, SpeaksFrom, TellsOwn, bytes_let, connect_let, says_let, without_tells}
 
--- the connection that an input is about, if it is about one
-abbrev pub conn_of_message : LinkMsg → Option ℕ
-conn_of_message (Answer answer) = Some (answer.id).conn
-conn_of_message message = None
+-- a node may be given answers
+abbrev pub MayBeAnswered : (List ℕ → LinkMsg → Type 0) → List ℕ → Type 0
+MayBeAnswered may node = (answer : BackAnswer) → may node (Answer answer)
 
-abbrev pub conn_of : NodeInput → Option ℕ
-conn_of (Opened conn) = Some conn
-conn_of (Piece conn bytes) = Some conn
-conn_of (Hung conn) = Some conn
-conn_of (From name message) = conn_of_message message
+-- its connections, those whom it owes answers, and those whom it tells of changes
+abbrev pub HasOwn : (ℕ → Type 0) → (List ℕ → LinkMsg → Type 0) → NodeState → Type 0
+HasOwn own may (node.Front front) = HasConnections own front
+HasOwn own may (node.Back home) = OwesOnly (MayBeAnswered may) home.flows
+HasOwn own may (node.Master master) = TellsOwn own may master
 
--- an output that gives no bytes to this client
-abbrev pub IsNotFor : ℕ → Out → Type 0
-IsNotFor other (Client conn bytes) = other ≢ conn
-IsNotFor other out = ⊤
+-- a client of its own acts, or a node asks or says a line to which it may send
+abbrev pub ComesFrom : (ℕ → Type 0) → (List ℕ → LinkMsg → Type 0) → NodeInput → Type 0
+ComesFrom own may (Opened conn) = own conn
+ComesFrom own may (Piece conn bytes) = own conn
+ComesFrom own may (Hung conn) = own conn
+ComesFrom own may (From name message) = SpeaksFrom may name message
 
-unfoldable pub AreNotFor : ℕ → List Out → Type 0
-AreNotFor other [] = ⊤
-AreNotFor other (out ∷ outs) = IsNotFor other out × AreNotFor other outs
+-- where the input sends a command on
+abbrev pub MovesOn : (List ℕ → LinkMsg → Type 0) → NodeInput → Type 0
+MovesOn may (From name message) = MovesBy may message
+MovesOn may input = ⊤
 
-not_for : (home : List ℕ) (conn other : ℕ) (out : Out) → other ≢ conn → IsFor home conn out → IsNotFor other out
-not_for home conn other (Client own bytes) ne is = λ e. ne (cc)
-not_for home conn other (Close own) ne is = tt
-not_for home conn other (Link name message) ne is = tt
-not_for home conn other (Mark ask counts) ne is = tt
-not_for home conn other (Told ask how) ne is = tt
+-- it may send to the master, a frontend to the servers of its records, and where an answer sends it
+abbrev pub MaySend : (List ℕ → LinkMsg → Type 0) → NodeState → NodeInput → Type 0
+MaySend may (node.Front front) input = MayAsk may (ways_of front) × MovesOn may input
+MaySend may (node.Back home) input = MayBeTold may home.flows.master
+MaySend may (node.Master master) input = ⊤
 
-none_for : (home : List ℕ) (conn other : ℕ) (outs : List Out) → other ≢ conn → AreFor home conn outs → AreNotFor other outs
-unfolding AreFor AreNotFor
-none_for home conn other [] ne are = tt
-none_for home conn other (out ∷ outs) ne are = (not_for home conn other out ne are.0, none_for home conn other outs ne are.1)
+-- a frontend marks no command
+abbrev pub MayMark : NodeState → Type 0
+MayMark (node.Front front) = ⊥
+MayMark (node.Back home) = ⊤
+MayMark (node.Master master) = ⊤
 
-not_it : (conn other : ℕ) → Some conn ≢ Some other → other ≢ conn
-not_it conn other ne e = ne (cc)
+-- a node stays of its kind, with its master, and a frontend with its first backend
+abbrev pub KeepsKind : NodeState → NodeState → Type 0
+KeepsKind (node.Front was) (node.Front now) = (now.master ≡ was.master) × (now.first ≡ was.first)
+KeepsKind (node.Back was) (node.Back now) = now.flows.master ≡ was.flows.master
+KeepsKind (node.Master was) (node.Master now) = ⊤
+KeepsKind was now = ⊥
 
-nothing_for : (other : ℕ) → AreNotFor other []
-unfolding AreNotFor
-nothing_for other = tt
+pub record LetsOut (own : ℕ → Type 0) (may : List ℕ → LinkMsg → Type 0) (marks : Type 0) (was : NodeState) (acted : Acted) : Type 0 where
+  pub outs : AreLetOut own may marks acted.outs
+  pub has : HasOwn own may acted.state
+  pub kind : KeepsKind was acted.state
 
-up_for : (front : Front) (other : ℕ) (is_master : Bool) → AreNotFor other (up_from is_master front).outs
-unfolding up_from AreNotFor
-up_for front other true = (tt, tt)
-up_for front other false = tt
+module _ (own : ℕ → Type 0) (may : List ℕ → LinkMsg → Type 0) where
+  -- ---- a frontend
 
-line_for : (front : Front) (bytes : List ℕ) (other : ℕ) (is_master : Bool) → AreNotFor other (line_from is_master front bytes).outs
-unfolding line_from AreNotFor
-line_for front bytes other true = tt
-line_for front bytes other false = tt
+  pub front_lets : (front : Front) (input : NodeInput) → HasConnections own front → ComesFrom own may input → MayAsk may (ways_of front) → MovesOn may input
+      → LetsOut own may ⊥ (node.Front front) (front_takes front input)
+  unfolding front_takes
+  front_lets front (Opened conn) has from may_ask moves =
+      let lets = connect_own own may front has conn from in record { outs = lets.outs; has = lets.has; kind = (lets.master, lets.first) }
+  front_lets front (Piece conn bytes) has from may_ask moves =
+      let lets = bytes_own own may front has may_ask conn bytes in record { outs = lets.outs; has = lets.has; kind = (lets.master, lets.first) }
+  front_lets front (Hung conn) has from may_ask moves =
+      let lets = hang_own own may front has conn in record { outs = tt; has = lets.has; kind = (lets.master, lets.first) }
+  front_lets front (From name message) has from may_ask moves =
+      let lets = message_own own may front has may_ask name message moves in record { outs = lets.outs; has = lets.has; kind = (lets.master, lets.first) }
 
-message_for : (front : Front) (from : List ℕ) (message : LinkMsg) (other : ℕ) → conn_of_message message ≢ Some other
-    → AreNotFor other (deliver front from message).outs
-unfolding deliver
-message_for front from (Answer answer) other ne =
-    none_for front.home (answer.id).conn other (deliver front from (Answer answer)).outs (not_it (answer.id).conn other ne) (answer_for_it front from answer)
-message_for front from Up other ne = up_for front other (pointwise nat_eq from front.master)
-message_for front from End other ne = nothing_for other
-message_for front from (Line line) other ne = line_for front line other (pointwise nat_eq from front.master)
-message_for front from (Ask ask) other ne = nothing_for other
+  -- ---- a backend
 
-front_own : (front : Front) (input : NodeInput) (other : ℕ) → conn_of input ≢ Some other → AreNotFor other (front_takes front input).outs
-unfolding front_takes
-front_own front (Opened conn) other ne = none_for front.home conn other (connect front conn).outs (not_it conn other ne) (connect_for front conn)
-front_own front (Piece conn bytes) other ne = none_for front.home conn other (bytes_in front conn bytes).outs (not_it conn other ne) (bytes_for front conn bytes)
-front_own front (Hung conn) other ne = nothing_for other
-front_own front (From name message) other ne = message_for front name message other ne
+  one_said : (master : List ℕ) (out : Out) → MayBeTold may master → IsSaid master (MayBeAnswered may) out → IsLetOut own may ⊤ out
+  one_said master (Link to (Line line)) there is = subst (MayBeTold may) (sym is) there line
+  one_said master (Link to (Answer answer)) there is = is answer
+  one_said master (Link to Up) there is = absurd is
+  one_said master (Link to End) there is = absurd is
+  one_said master (Link to (Ask ask)) there is = absurd is
+  one_said master (Mark ask counts) there is = tt
+  one_said master (Client conn bytes) there is = absurd is
+  one_said master (Close conn) there is = tt
+  one_said master (Told ask how) there is = tt
 
--- a backend has no clients
+  all_said : (master : List ℕ) (outs : List Out) → MayBeTold may master → All (IsSaid master (MayBeAnswered may)) outs → AreLetOut own may ⊤ outs
+  all_said master [] there all = tt
+  all_said master (out ∷ outs) there all = (
+    one_said master out there (All-head (IsSaid master (MayBeAnswered may)) out outs all),
+    all_said master outs there (All-tail (IsSaid master
+        (MayBeAnswered may)) out outs all),
+  )
 
-answered_own : (other : ℕ) (from : List ℕ) (id : AskId) (counts : Counts) (body : Option AnswerBody) → AreNotFor other (answer_outs from id counts body)
-unfolding AreNotFor answer_outs
-answered_own other from id counts None = tt
-answered_own other from id counts (Some body) = (tt, (tt, tt))
+  asks_as : (name : List ℕ) (message : LinkMsg) → SpeaksFrom may name message → AsksAs (MayBeAnswered may) name message
+  asks_as name (Ask ask) there = there
+  asks_as name Up there = tt
+  asks_as name End there = tt
+  asks_as name (Line bytes) there = tt
+  asks_as name (Answer answer) there = tt
 
-owed_own : (other : ℕ) (home : Backend) (owed : Option Owed) → AreNotFor other (owed_outs home owed)
-owed_own other home None = nothing_for other
-owed_own other home (Some owed) =
-    answered_own other owed.to owed.id (told_after home owed.telling).counts (Some (told_after home owed.telling).body)
+  back_lets : (home : BackNode) (input : NodeInput) → OwesOnly (MayBeAnswered may) home.flows → ComesFrom own may input → MayBeTold may home.flows.master
+      → LetsOut own may ⊤ (node.Back home) (back_takes home input)
+  unfolding back_takes
+  back_lets home (Opened conn) owes from there = record { outs = tt; has = owes; kind = refl }
+  back_lets home (Piece conn bytes) owes from there = record { outs = tt; has = owes; kind = refl }
+  back_lets home (Hung conn) owes from there = record { outs = tt; has = owes; kind = refl }
+  back_lets home (From name message) owes from there =
+      let says = step_says (MayBeAnswered may) home name message owes (asks_as name message from) in
+      record { outs = all_said home.flows.master (node_takes home name message).outs there says.outs; has = says.owes; kind = says.master }
 
-plan_own : (other : ℕ) (home : Backend) (input : BackInput) → AreNotFor other (plan_of home input).outs
-unfolding plan_of
-plan_own other home input = owed_own other (home_after home (back_plan home input).entries) (back_plan home input).owed
+  -- ---- the master
 
-back_by_own : (other : ℕ) (home : Backend) (input : Option BackInput) → AreNotFor other (back_by home input).outs
-unfolding back_by
-back_by_own other home None = nothing_for other
-back_by_own other home (Some input) = plan_own other home input
+  says_lines : (name : List ℕ) (message : LinkMsg) → SpeaksFrom may name message → SaysFrom may name message
+  says_lines name (Line bytes) there = there
+  says_lines name (Ask ask) there = tt
+  says_lines name Up there = tt
+  says_lines name End there = tt
+  says_lines name (Answer answer) there = tt
 
-pub back_own : (other : ℕ) (home : Backend) (input : NodeInput) → AreNotFor other (back_takes home input).outs
-unfolding back_takes
-back_own other home (Opened conn) = nothing_for other
-back_own other home (Piece conn bytes) = nothing_for other
-back_own other home (Hung conn) = nothing_for other
-back_own other home (From name message) = back_by_own other home (back_input name message)
+  pub master_lets : (master : Master) (input : NodeInput) → TellsOwn own may master → ComesFrom own may input
+      → LetsOut own may ⊤ (node.Master master) (master_takes master input)
+  unfolding master_takes
+  master_lets master (Opened conn) tells from =
+      let lets = connect_let own may master tells conn from in record { outs = lets.outs; has = lets.tells; kind = tt }
+  master_lets master (Piece conn bytes) tells from =
+      let lets = bytes_let own may master tells conn bytes from in record { outs = lets.outs; has = lets.tells; kind = tt }
+  master_lets master (Hung conn) tells from = record { outs = tt; has = without_tells own may master (sender.Outside conn) tells; kind = tt }
+  master_lets master (From name message) tells from =
+      let lets = says_let own may master tells name message (says_lines name message from) in record { outs = lets.outs; has = lets.tells; kind = tt }
 
--- what the master lets out for a message of a node gives this client nothing
-abbrev pub SaysNothingTo : ℕ → NodeState → NodeInput → Type 0
-SaysNothingTo other it input = (master : Master) (name : List ℕ) (message : LinkMsg) → it ≡ node.Master master → input ≡ From name message
-    → AreNotFor other (node_says master name message).outs
-
--- the master gives bytes to the client that its input is about
-
-not_it_by : (conn other : ℕ) (out : Out) → other ≢ conn → IsItsOwn conn out → IsNotFor other out
-not_it_by conn other (Client own bytes) ne is = λ e. ne (e ∙ is)
-not_it_by conn other (Close own) ne is = tt
-not_it_by conn other (Link name message) ne is = tt
-not_it_by conn other (Mark ask counts) ne is = tt
-not_it_by conn other (Told ask how) ne is = tt
-
-alone_for : (conn other : ℕ) (outs : List Out) → other ≢ conn → AreItsOwn conn outs → AreNotFor other outs
-unfolding AreItsOwn AreNotFor
-alone_for conn other [] ne are = tt
-alone_for conn other (out ∷ outs) ne are = (not_it_by conn other out ne are.0, alone_for conn other outs ne are.1)
-
-master_own : (master : Master) (input : NodeInput) (other : ℕ) → SaysNothingTo other (node.Master master) input → conn_of input ≢ Some other → AreNotFor other (master_takes master input).outs
-unfolding master_takes
-master_own master (Opened conn) other says ne = alone_for conn other (outside_connects master conn).outs (not_it conn other ne) (connects_alone master conn).own
-master_own master (Piece conn bytes) other says ne = alone_for conn other (outside_says master conn bytes).outs (not_it conn other ne) (bytes_alone master conn bytes).own
-master_own master (Hung conn) other says ne = nothing_for other
-master_own master (From name message) other says ne = says master name message refl refl
-
-pub takes_own : (it : NodeState) (input : NodeInput) (other : ℕ) → SaysNothingTo other it input → conn_of input ≢ Some other → AreNotFor other (takes it input).outs
-unfolding takes
-takes_own (node.Front front) input other says ne = front_own front input other ne
-takes_own (node.Back home) input other says ne = back_own other home input
-takes_own (node.Master master) input other says ne = master_own master input other says ne
-
--- where outputs may go
-abbrev pub IsTo : (List ℕ → Type 0) → Out → Type 0
-IsTo may (Link other message) = may other
-IsTo may out = ⊤
-
-unfoldable pub AreTo : (List ℕ → Type 0) → List Out → Type 0
-AreTo may [] = ⊤
-AreTo may (out ∷ outs) = IsTo may out × AreTo may outs
-
-nowhere : (may : List ℕ → Type 0) → AreTo may []
-unfolding AreTo
-nowhere may = tt
-
-to_home : (may : List ℕ → Type 0) (home : List ℕ) (conn : ℕ) (out : Out) → may home → IsFor home conn out → IsTo may out
-to_home may home conn (Client own bytes) there is = tt
-to_home may home conn (Close own) there is = tt
-to_home may home conn (Link name message) there is = subst may (sym is) there
-to_home may home conn (Mark ask counts) there is = tt
-to_home may home conn (Told ask how) there is = tt
-
-all_home : (may : List ℕ → Type 0) (home : List ℕ) (conn : ℕ) (outs : List Out) → may home → AreFor home conn outs → AreTo may outs
-unfolding AreFor AreTo
-all_home may home conn [] there are = tt
-all_home may home conn (out ∷ outs) there are = (to_home may home conn out there are.0, all_home may home conn outs there are.1)
-
-up_goes : (may : List ℕ → Type 0) (front : Front) (from : List ℕ) (is_master : Bool) → pointwise nat_eq from front.master ≡ is_master → may from
-    → AreTo may (up_from is_master front).outs
-unfolding up_from AreTo
-up_goes may front from true same there = (subst may (same_text from front.master (sym same)) there, tt)
-up_goes may front from false same there = tt
-
-line_goes : (may : List ℕ → Type 0) (front : Front) (bytes : List ℕ) (is_master : Bool) → AreTo may (line_from is_master front bytes).outs
-unfolding line_from AreTo
-line_goes may front bytes true = tt
-line_goes may front bytes false = tt
-
-message_goes : (may : List ℕ → Type 0) (front : Front) (from : List ℕ) (message : LinkMsg) → may front.home → may from → AreTo may (deliver front from message).outs
-unfolding deliver
-message_goes may front from (Answer answer) there back =
-    all_home may front.home (answer.id).conn (deliver front from (Answer answer)).outs there (answer_for_it front from answer)
-message_goes may front from Up there back = up_goes may front from (pointwise nat_eq from front.master) refl back
-message_goes may front from End there back = nowhere may
-message_goes may front from (Line line) there back = line_goes may front line (pointwise nat_eq from front.master)
-message_goes may front from (Ask ask) there back = nowhere may
-
--- who sent an input
-abbrev pub sender_of : NodeInput → Option (List ℕ)
-sender_of (From name message) = Some name
-sender_of input = None
-
-front_goes : (may : List ℕ → Type 0) (front : Front) (input : NodeInput) → may front.home → ((name : List ℕ) → sender_of input ≡ Some name → may name)
-    → AreTo may (front_takes front input).outs
-unfolding front_takes
-front_goes may front (Opened conn) there back = all_home may front.home conn (connect front conn).outs there (connect_for front conn)
-front_goes may front (Piece conn bytes) there back = all_home may front.home conn (bytes_in front conn bytes).outs there (bytes_for front conn bytes)
-front_goes may front (Hung conn) there back = nowhere may
-front_goes may front (From name message) there back = message_goes may front name message there (back name refl)
-
-answered_goes : (may : List ℕ → Type 0) (from : List ℕ) (id : AskId) (counts : Counts) (body : Option AnswerBody) → may from
-    → AreTo may (answer_outs from id counts body)
-unfolding AreTo answer_outs
-answered_goes may from id counts None there = tt
-answered_goes may from id counts (Some body) there = (there, (tt, tt))
-
--- a backend answers who asked
-
-owes_goes : (may : List ℕ → Type 0) (home : Backend) (from : List ℕ) (id : AskId) (plan : Option OpPlan) → may from
-    → AreTo may (settles home (owes from id plan)).outs
-owes_goes may home from id None there = nowhere may
-owes_goes may home from id (Some plan) there =
-    let after = home_after home plan.entries in
-    answered_goes may from id (told_after after plan.telling).counts (Some (told_after after plan.telling).body) there
-
-back_goes_by : (may : List ℕ → Type 0) (home : Backend) (from : List ℕ) (message : LinkMsg) → may from
-    → AreTo may (back_by home (back_input from message)).outs
-unfolding back_by back_input plan_of
-back_goes_by may home from Up there = nowhere may
-back_goes_by may home from End there = nowhere may
-back_goes_by may home from (Ask ask) there =
-    owes_goes may home from ask.id (ask_plan home ask) there
-back_goes_by may home from (Line line) there = nowhere may
-back_goes_by may home from (Answer answer) there = nowhere may
-
-back_goes : (may : List ℕ → Type 0) (home : Backend) (input : NodeInput) → ((name : List ℕ) → sender_of input ≡ Some name → may name)
-    → AreTo may (back_takes home input).outs
-unfolding back_takes
-back_goes may home (Opened conn) there = nowhere may
-back_goes may home (Piece conn bytes) there = nowhere may
-back_goes may home (Hung conn) there = nowhere may
-back_goes may home (From name message) there = back_goes_by may home name message (there name refl)
-
--- what the master lets out for a message of a node goes there
-abbrev pub SaysTo : (List ℕ → Type 0) → NodeState → NodeInput → Type 0
-SaysTo may it input = (master : Master) (name : List ℕ) (message : LinkMsg) → it ≡ node.Master master → input ≡ From name message
-    → AreTo may (node_says master name message).outs
-
--- for what a client does the master sends nothing to nodes
-
-nowhere_by : (may : List ℕ → Type 0) (conn : ℕ) (out : Out) → IsItsOwn conn out → IsTo may out
-nowhere_by may conn (Client own bytes) is = tt
-nowhere_by may conn (Close own) is = tt
-nowhere_by may conn (Link name message) is = absurd is
-nowhere_by may conn (Mark ask counts) is = tt
-nowhere_by may conn (Told ask how) is = tt
-
-alone_goes : (may : List ℕ → Type 0) (conn : ℕ) (outs : List Out) → AreItsOwn conn outs → AreTo may outs
-unfolding AreItsOwn AreTo
-alone_goes may conn [] are = tt
-alone_goes may conn (out ∷ outs) are = (nowhere_by may conn out are.0, alone_goes may conn outs are.1)
-
-master_goes : (may : List ℕ → Type 0) (master : Master) (input : NodeInput) → SaysTo may (node.Master master) input → AreTo may (master_takes master input).outs
-unfolding master_takes
-master_goes may master (Opened conn) says = alone_goes may conn (outside_connects master conn).outs (connects_alone master conn).own
-master_goes may master (Piece conn bytes) says = alone_goes may conn (outside_says master conn bytes).outs (bytes_alone master conn bytes).own
-master_goes may master (Hung conn) says = nowhere may
-master_goes may master (From name message) says = says master name message refl refl
-
--- a frontend sends to its home and to who sent to it, a backend to who sent to it
-pub takes_goes : (may : List ℕ → Type 0) (it : NodeState) (input : NodeInput) → ((front : Front) → as_front (Some it) ≡ Some front → may front.home)
-    → SaysTo may it input → ((name : List ℕ) → sender_of input ≡ Some name → may name) → AreTo may (takes it input).outs
-unfolding takes as_front
-takes_goes may (node.Front front) input homes says sender = front_goes may front input (homes front refl) sender
-takes_goes may (node.Back home_state) input homes says sender = back_goes may home_state input sender
-takes_goes may (node.Master master) input homes says sender = master_goes may master input says
+  -- so whatever comes to a node
+  pub takes_lets : (it : NodeState) (input : NodeInput) → HasOwn own may it → ComesFrom own may input → MaySend may it input
+      → LetsOut own may (MayMark it) it (takes it input)
+  unfolding takes
+  takes_lets (node.Front front) input has from sends = front_lets front input has from sends.0 sends.1
+  takes_lets (node.Back home) input has from sends = back_lets home input has from sends
+  takes_lets (node.Master master) input has from sends = master_lets master input has from

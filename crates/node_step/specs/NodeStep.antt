@@ -1,9 +1,8 @@
 -- One step of a node: what an input makes of its state, and what it lets out.
-use Rattle.std.specs.Prelude.{ℕ, List, [], Option, None, Some}
-use Rattle.backend_core.specs.declared.backend.Backend.{Backend}
-use Rattle.backend_core.specs.declared.input.BackInput.{BackInput}
-use Rattle.backend_core.specs.declared.input.BackInput.TheVariants.{Up as up_in, End as end_in, FromFront}
-use Rattle.backend_core.specs.Plan.{Planned, plan_of}
+use Rattle.std.specs.Prelude.{List, [], Option, None, Some}
+use Rattle.back_node.specs.declared.node.BackNode.{BackNode}
+use Rattle.back_node.specs.Acted.{BackActed}
+use Rattle.back_node.specs.Takes.{node_takes}
 use Rattle.front_core.specs.declared.front.Front.{Front}
 use Rattle.front_core.specs.Front.{Stepped, connect, bytes_in, hang, deliver}
 use Rattle.master_core.specs.declared.master.Master.{Master}
@@ -13,8 +12,6 @@ use Rattle.master_core.specs.Outside.{Stepped as Served, connect as outside_conn
 use Rattle.master_core.specs.Streams.{without}
 use Rattle.node_step.specs.declared.input.NodeInput.{NodeInput}
 use Rattle.node_step.specs.declared.input.NodeInput.TheVariants.{Opened, Piece, Hung, From}
-use Rattle.link_msg.specs.declared.message.LinkMsg.{LinkMsg}
-use Rattle.link_msg.specs.declared.message.LinkMsg.TheVariants.{Up, End, Line, Ask, Answer}
 use Rattle.link_msg.specs.declared.out.Out.{Out}
 use Rattle.node_step.specs.declared.node.NodeState.{NodeState}
 use Rattle.node_step.specs.declared.node.NodeState.TheVariants as node
@@ -38,27 +35,15 @@ front_takes front (Piece conn bytes) = front_acted (bytes_in front conn bytes)
 front_takes front (Hung conn) = idle (node.Front (hang front conn))
 front_takes front (From name message) = front_acted (deliver front name message)
 
--- what a message is to a backend
-unfoldable pub back_input : List ℕ → LinkMsg → Option BackInput
-back_input name Up = Some (up_in name)
-back_input name End = Some (end_in name)
-back_input name (Ask ask) = Some (FromFront name ask)
-back_input name (Line bytes) = None
-back_input name (Answer answer) = None
-
-abbrev pub back_acted : Planned → Acted
-back_acted planned = record { state = node.Back planned.home; outs = planned.outs }
-
-unfoldable pub back_by : Backend → Option BackInput → Acted
-back_by home None = idle (node.Back home)
-back_by home (Some input) = back_acted (plan_of home input)
+abbrev pub back_acted : BackActed → Acted
+back_acted next = record { state = node.Back next.state; outs = next.outs }
 
 -- a backend has no clients
-unfoldable pub back_takes : Backend → NodeInput → Acted
+unfoldable pub back_takes : BackNode → NodeInput → Acted
 back_takes home (Opened conn) = idle (node.Back home)
 back_takes home (Piece conn bytes) = idle (node.Back home)
 back_takes home (Hung conn) = idle (node.Back home)
-back_takes home (From name message) = back_by home (back_input name message)
+back_takes home (From name message) = back_acted (node_takes home name message)
 
 abbrev pub master_acted : Served → Acted
 master_acted served = record { state = node.Master served.master; outs = served.outs }
@@ -82,7 +67,7 @@ as_front (Some (node.Back home)) = None
 as_front (Some (node.Master master)) = None
 as_front None = None
 
-unfoldable pub as_back : Option NodeState → Option Backend
+unfoldable pub as_back : Option NodeState → Option BackNode
 as_back (Some (node.Front front)) = None
 as_back (Some (node.Back home)) = Some home
 as_back (Some (node.Master master)) = None

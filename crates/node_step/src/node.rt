@@ -3,7 +3,7 @@ ghost use Rattle.std.specs.Prelude.{◌≡◌, Some};
 ghost use Rattle.std.specs.Option.{option_copied};
 ghost use Rattle.node_step.specs.NodeStep.{as_back};
 
-use backend_core::Backend;
+use back_node::BackNode;
 use front_core::Front;
 use master_core::Master;
 
@@ -13,7 +13,7 @@ pub enum NodeState {
     /// A frontend, which speaks to mail clients.
     Front(Front),
     /// A backend, which keeps mailboxes.
-    Back(Backend),
+    Back(BackNode),
     /// The master, which keeps the table of all mailboxes.
     Master(Master),
 }
@@ -21,7 +21,7 @@ pub enum NodeState {
 impl NodeState {
     /// The backend that it is, if it is one.
     #[tactic(auto, unfolding(crate::specs::NodeStep::as_back))]
-    pub fn as_back(&self) -> Option<&Backend>
+    pub fn as_back(&self) -> Option<&BackNode>
         ensures { option_copied result ≡ as_back (Some self.now) }
     {
         match self {

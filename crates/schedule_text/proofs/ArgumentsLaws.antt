@@ -1,10 +1,10 @@
 -- Arguments are cut from the text behind a word exactly as they are spelled there.
-use Rattle.std.proofs.Common.{◌≡◌, ℕ, ◌⊎◌, Bool, true, false, nat_eq, nat_lt, List, [], ◌∷◌, ◌++◌, length, map, Option, None, Some, Ok, Err}
+use Rattle.std.proofs.Common.{◌≡◌, ℕ, ◌<◌, ◌^◌, ◌⊎◌, Bool, true, false, cond, nat_eq, nat_lt, List, [], ◌∷◌, ◌++◌, length, map, Option, None, Some, Ok, Err}
 use Rattle.std.proofs.Common.{refl, sym, ap, ◌∙◌, subst, inl, inr, append-nil, eqb-true}
 use Rattle.std.specs.Bool.{⊤}
 use Rattle.std.specs.Option.{ok_or}
 use Rattle.std.proofs.lemmas.Bool.{or_parts, or_from, lt-ltb, ltb-true}
-use Rattle.mur_base.specs.Number.{number_of}
+use Rattle.mur_base.specs.Number.{number_of, is_numeral, digits_behind}
 use Rattle.schedule_text.specs.declared.schedule.fault.Rule.TheVariants.{WrongCount, BadNumber}
 use Rattle.schedule_text.specs.declared.words.Kind.{Kind}
 use Rattle.schedule_text.specs.declared.words.Kind.TheVariants.{Node, Number, Text}
@@ -238,6 +238,18 @@ some_number (Some found) n h = cc
 pub number_spelled : (word : List ℕ) (n : ℕ) → number_of_word word ≡ Ok n → number_of word ≡ Some n
 unfolding number_of_word
 number_spelled word n h = some_number (number_of word) n h
+
+read_by : (numeral fits : Bool) (value n : ℕ) → nat_lt value (2 ^ 64) ≡ fits → cond numeral (cond fits (Some value) None) None ≡ Some n → n < 2 ^ 64
+read_by true true value n low h =
+    let same : value ≡ n = cc in
+    subst (λ (m : ℕ). m < 2 ^ 64) same (ltb-true value (2 ^ 64) low)
+read_by true false value n low h = cc
+read_by false fits value n low h = cc
+
+-- a number that is read has 64 bits
+pub number_low : (word : List ℕ) (n : ℕ) → number_of word ≡ Some n → n < 2 ^ 64
+unfolding number_of
+number_low word n h = read_by (is_numeral word) _ (digits_behind 0 word) n refl h
 
 pub number_read : (word : List ℕ) (n : ℕ) → number_of word ≡ Some n → number_of_word word ≡ Ok n
 unfolding number_of_word

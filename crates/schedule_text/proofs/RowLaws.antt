@@ -16,6 +16,7 @@ use Rattle.schedule_text.specs.declared.words.Word.TheVariants.{Open as open_wor
 use Rattle.schedule_text.specs.MayFollow.{Opens, MayFollow}
 use Rattle.schedule_text.specs.Rows.{event_in, flow_count, text_in}
 use Rattle.schedule_text.specs.Schedule.{event_of}
+use Rattle.schedule_text.specs.ScheduleFits.{HasConnNumber}
 use Rattle.schedule_text.specs.ScheduleNodes.{node_in, client_node_in, takes_clients, link_in}
 use Rattle.schedule_text.specs.ScheduleOpened.{is_opened, opened_before, unopened}
 use Rattle.schedule_text.specs.ScheduleWords.{split_word, arguments_in, number_of_word}
@@ -24,7 +25,8 @@ use Rattle.schedule_text.specs.Text.{bytes_of}
 use Rattle.schedule_text.specs.Words.{Value, Saying, row, said_by, word_text, kinds_of, word_named}
 use Rattle.schedule_text.specs.Words.Value.{a_node, a_number, a_text}
 use Rattle.schedule_text.proofs.ArgumentsLaws.{is_split, split_read, behind_word, AreOfKinds, one_of_kind, two_of_kinds, are_cut, spaced, AllSpell}
-use Rattle.schedule_text.proofs.ArgumentsLaws.{one_spells, two_spell, are_arguments, kind_of, EndsWithText, are_read, number_spelled, number_read}
+use Rattle.schedule_text.proofs.ArgumentsLaws.{one_spells, two_spell, are_arguments, kind_of, EndsWithText, are_read}
+use Rattle.schedule_text.proofs.ArgumentsLaws.{number_spelled, number_low, number_read}
 use Rattle.schedule_text.proofs.HighBytes.{lacks_below}
 use Rattle.schedule_text.proofs.WordLaws.{is_row, named_is}
 use Rattle.schedule_text.specs.declared.words.Kind.TheVariants.{Node, Number, Text}
@@ -74,7 +76,7 @@ text_spelled : (text bytes : List ℕ) → text_in text ≡ Ok bytes → bytes_o
 unfolding text_in
 text_spelled text bytes h = some_text (bytes_of text) bytes h
 
--- the event that a word and arguments make: they say it, it may follow, and it weighs no more than they
+-- the event that a word and arguments make: they say it, it may follow and weighs no more than they; a connection that it opens has a number of 64 bits
 record IsMade (config : Config) (before : List Event) (word : Word) (arguments : List (List ℕ)) (event : Event) : Type 0 where
   values : List Value
   said : said_by event ≡ row word values
@@ -82,6 +84,7 @@ record IsMade (config : Config) (before : List Event) (word : Word) (arguments :
   follows : MayFollow config before event
   steps : steps_of event ≤ 2 ^ 32
   bytes : bytes_brought event ≤ length (spaced arguments)
+  conn : HasConnNumber event
 
 open_made : (config : Config) (before : List Event) (node number : List ℕ) (event : Event) → IsWord node
     → event_in config before open_word (node ∷ number ∷ []) ≡ Ok event → IsMade config before open_word (node ∷ number ∷ []) event
@@ -102,6 +105,7 @@ open_made config before node number event word h =
       );
       steps = omega arith;
       bytes = omega arith;
+      conn = number_low number conn.0 (number_spelled number conn.0 conn.1);
     })
 
 data_made : (config : Config) (before : List Event) (number text : List ℕ) (event : Event)
@@ -119,6 +123,7 @@ data_made config before number text event h =
       follows = opens_in before conn.0 (is_there before conn.0 there.0 _ refl there.1);
       steps = omega arith;
       bytes = omega (arith, text_shortens text bytes.0 bytes.1, length-append number (32 ∷ text ++ []), length-append text []);
+      conn = tt;
     })
 
 hang_made : (config : Config) (before : List Event) (number : List ℕ) (event : Event)
@@ -135,6 +140,7 @@ hang_made config before number event h =
       follows = opens_in before conn.0 (is_there before conn.0 there.0 _ refl there.1);
       steps = omega arith;
       bytes = omega arith;
+      conn = tt;
     })
 
 deliver_made : (config : Config) (before : List Event) (from to : List ℕ) (event : Event) → IsWord from → IsWord to
@@ -152,6 +158,7 @@ deliver_made config before from to event sender taker h =
       follows = are_linked_nodes config from to link.0 link.1;
       steps = omega arith;
       bytes = omega arith;
+      conn = tt;
     })
 
 flow_made : (config : Config) (before : List Event) (number : List ℕ) (event : Event)
@@ -168,6 +175,7 @@ flow_made config before number event h =
       follows = omega (arith, is.within);
       steps = omega (arith, is.within);
       bytes = omega arith;
+      conn = tt;
     })
 
 event_made : (config : Config) (before : List Event) (word : Word) (arguments : List (List ℕ)) (event : Event) → AreOfKinds (kinds_of word) arguments
@@ -189,12 +197,14 @@ event_made config before flow_word arguments event fit =
     one_of_kind Number (λ a. event_in config before flow_word a ≡ Ok event → IsMade config before flow_word a event)
     (λ number is. flow_made config before number event) arguments fit
 
--- an event that is read from a line: it is spelled there, it may follow those before it, and weighs no more than the line
+-- an event that is read from a line: it is spelled there, may follow those before it and weighs no more than the line; a connection that it opens has a
+-- number of 64 bits
 pub record IsReadFrom (config : Config) (before : List Event) (line : List ℕ) (event : Event) : Type 0 where
   pub spelled : IsSpelledBy line event
   pub follows : MayFollow config before event
   pub steps : steps_of event ≤ 2 ^ 32
   pub bytes : bytes_brought event ≤ length line
+  pub conn : HasConnNumber event
 
 pub event_is : (config : Config) (before : List Event) (line : List ℕ) (event : Event) → event_of config before line ≡ Ok event
     → IsReadFrom config before line event
@@ -219,6 +229,7 @@ event_is config before line event h =
       steps = made.steps;
       bytes =
           omega (arith, made.bytes, ap length cut.parts, ap length (is_split line).parts, length-append (split_word line).word (split_word line).rest);
+      conn = made.conn;
     }
 
 -- the arguments of a line, whatever events stand before it

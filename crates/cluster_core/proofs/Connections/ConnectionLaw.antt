@@ -1,8 +1,8 @@
 -- What holds of a connection: what its client was told is a front of what the one store replied, and at most one command waits,
 -- in one place.
-use Rattle.std.proofs.Common.{◌≡◌, ◌≢◌, ℕ, true, false, nat_eq, List, [], ◌++◌, length, Option, None, Some, refl, ◌∙◌}
-use Rattle.std.proofs.Common.{arith}
+use Rattle.std.proofs.Common.{◌≡◌, ◌≢◌, ℕ, Bool, true, false, nat_eq, List, [], ◌++◌, length, Option, Some, refl, ◌∙◌, arith}
 use Rattle.std.proofs.lemmas.Bool.Decides.{nat_tests}
+use Rattle.feed_core.specs.declared.replica.Replica.{Replica}
 use Rattle.front_core.specs.declared.connection.Connection.{Connection}
 use Rattle.front_core.specs.declared.connection.Stage.TheVariants.{Reading}
 use Rattle.imap_reply.specs.Greeting.{greeting}
@@ -11,82 +11,118 @@ use Rattle.imap_talk.specs.Transcript.{replies_to}
 use Rattle.imap_talk.proofs.TranscriptGrows.{AreAnswered}
 use Rattle.imap_talk.specs.declared.inputs.Input.{Input}
 use Rattle.imap_types.specs.declared.request.Answer.{Answer}
+use Rattle.mark_history.specs.Marked.{AreMarked, Tale, last_mark, talk_told}
+use Rattle.mark_history.specs.declared.mark.Mark.{Mark}
+use Rattle.mur_base.specs.declared.point.AskId.{AskId}
 use Rattle.mur_model.specs.declared.session.Sess.{Sess}
-use Rattle.mur_model.specs.declared.setting.Setting.{Setting}
-use Rattle.mur_model.specs.History.{Course, Talk, TalkGoesOn, with_session}
+use Rattle.mur_model.specs.History.{TalkGoesOn, with_session}
 use Rattle.mur_model.proofs.HistoryGrows.{same_talk, talks_follow}
-use Rattle.front_core.specs.Ended.{released}
-use Rattle.front_core.proofs.OneConnection.Released.{released_count, stands_released}
-use Rattle.front_core.proofs.OneConnection.Standing.{Stands}
+use Rattle.route_links.specs.Barriers.{Place as Barrier, Place as barrier}
 use Rattle.cluster_core.specs.declared.world.Client.{Client}
 use Rattle.cluster_core.specs.declared.world.World.{World}
-use Rattle.cluster_core.specs.World.{client_at}
-use Rattle.mark_history.proofs.Told.{IsTold}
-use Rattle.front_core.proofs.OneConnection.Places.{About, of_connection, IsPlaced, PlacesStay, Place, its_message}
+use Rattle.cluster_core.specs.World.{client_at, home_at}
+use Rattle.cluster_core.proofs.Commands.InPlace.{IsInNone, IsInPlace}
+use Rattle.cluster_core.proofs.Commands.Moving.{IsSeenBy}
+use Rattle.cluster_core.proofs.Commands.Place.{Place, Place as place}
+use Rattle.cluster_core.proofs.Commands.Standing.{Fixed, Stands, next_id}
 
--- what was asked, what the one store replied, how much of it the clients were told, and the store with its sessions
-pub record Story : Type 0 where
-  pub talk : Talk
-  pub told : ℕ → List Answer
-  pub course : Course
+-- the command of this number is in this place, in a world
+abbrev pub IsInPlaceOf : Fixed → World → List ℕ → Replica → AskId → Place → Type 0
+IsInPlaceOf fixed world front replica id here = IsInPlace fixed.master (home_at world) world.links front replica id here
+
+abbrev pub IsInNoneOf : Fixed → World → ℕ → Type 0
+IsInNoneOf fixed world conn = IsInNone fixed.master (home_at world) world.links conn
+
+-- what the last mark of a command is whose barrier was answered
+abbrev pub marked_at : (ℕ → List ℕ → Bool) → List Mark → AskId → Barrier → Type 0
+marked_at moving marks id (barrier.answered table) = IsSeenBy moving marks id table
+marked_at moving marks id other = Unit {0}
+
+abbrev pub IsMarkedAt : (ℕ → List ℕ → Bool) → List Mark → AskId → Place → Type 0
+IsMarkedAt moving marks id (place.is_barred at) = marked_at moving marks id at
+IsMarkedAt moving marks id other = Unit {0}
+
+-- a step leaves the command of a connection where it is
+pub record PlacesStay (fixed : Fixed) (conn : ℕ) (before after : World) : Type 0 where
+  pub in_place : (front : List ℕ) (replica : Replica) (command : ℕ) (here : Place)
+      → IsInPlaceOf fixed before front replica (record { conn = conn; command = command }) here
+      → IsInPlaceOf fixed after front replica (record { conn = conn; command = command }) here
+  pub in_none : IsInNoneOf fixed before conn → IsInNoneOf fixed after conn
+
+-- and its marks
+abbrev pub MarksStay : ℕ → List Mark → List Mark → Type 0
+MarksStay conn before after = (command : ℕ)
+    → last_mark (record { conn = conn; command = command }) after ≡ last_mark (record { conn = conn; command = command }) before
 
 -- what a step of one connection keeps of a world
-pub record KeepsOthers (conn : ℕ) (world next : World) : Type 0 where
+pub record KeepsOthers (fixed : Fixed) (conn : ℕ) (world next : World) : Type 0 where
   pub nodes : next.nodes ≡ world.nodes
+  pub broken : next.broken ≡ world.broken
   pub steps : next.steps ≡ world.steps
   pub clients : (other : ℕ) → other ≢ conn → client_at next other ≡ client_at world other
-  pub places : (whom : About) → whom ≢ of_connection conn → PlacesStay whom world.links next.links
+  pub places : (other : ℕ) → other ≢ conn → PlacesStay fixed other world next
+  pub marks : (other : ℕ) → other ≢ conn → MarksStay other world.marks next.marks
 
-pub keeps_all : (conn : ℕ) (world : World) → KeepsOthers conn world world
-keeps_all conn world = record {
+pub keeps_all : (fixed : Fixed) (conn : ℕ) (world : World) → KeepsOthers fixed conn world world
+keeps_all fixed conn world = record {
   nodes = refl;
+  broken = refl;
   steps = refl;
   clients = λ other ne. refl;
-  places = λ whom ne here placed. placed;
+  places = λ other ne. record { in_place = λ front replica command here is. is; in_none = λ is. is };
+  marks = λ other ne command. refl;
 }
 
-pub keeps_on : (conn : ℕ) (one two three : World) → KeepsOthers conn one two → KeepsOthers conn two three → KeepsOthers conn one three
-keeps_on conn one two three first second = record {
+pub keeps_on : (fixed : Fixed) (conn : ℕ) (one two three : World) → KeepsOthers fixed conn one two → KeepsOthers fixed conn two three
+    → KeepsOthers fixed conn one three
+keeps_on fixed conn one two three first second = record {
   nodes = second.nodes ∙ first.nodes;
+  broken = second.broken ∙ first.broken;
   steps = second.steps ∙ first.steps;
   clients = λ other ne. second.clients other ne ∙ first.clients other ne;
-  places = λ whom ne here placed. second.places whom ne here (first.places whom ne here placed);
+  places = λ other ne. record {
+    in_place = λ front replica command here is.
+        (second.places other ne).in_place front replica command here ((first.places other ne).in_place front replica command here is);
+    in_none = λ is. (second.places other ne).in_none ((first.places other ne).in_none is);
+  };
+  marks = λ other ne command. second.marks other ne command ∙ first.marks other ne command;
 }
 
-abbrev pub told_of : Story → Talk
-told_of story = record { requests = story.talk.requests; answers = story.told; serials = story.talk.serials }
-
--- what a step of one connection keeps of a story
-pub record GoesOnAt (conn : ℕ) (story next : Story) : Type 0 where
+-- what a step of one connection keeps of a tale
+pub record GoesOnAt (conn : ℕ) (story next : Tale) : Type 0 where
   pub requests : next.talk.requests ≡ story.talk.requests
   pub said : (other : ℕ) → other ≢ conn → next.talk.answers other ≡ story.talk.answers other
   pub told : (other : ℕ) → other ≢ conn → next.told other ≡ story.told other
   pub sessions : (other : ℕ) → other ≢ conn → next.course.sessions other ≡ story.course.sessions other
-  pub more : TalkGoesOn (told_of story) (told_of next)
+  pub more : TalkGoesOn (talk_told story) (talk_told next)
+  pub moving : next.moving ≡ story.moving
 
-pub same_story : (conn : ℕ) (story : Story) → GoesOnAt conn story story
+pub same_story : (conn : ℕ) (story : Tale) → GoesOnAt conn story story
 same_story conn story = record {
   requests = refl;
   said = λ other ne. refl;
   told = λ other ne. refl;
   sessions = λ other ne. refl;
-  more = same_talk (told_of story);
+  more = same_talk (talk_told story);
+  moving = refl;
 }
 
-pub stories_follow : (conn : ℕ) (one two three : Story) → GoesOnAt conn one two → GoesOnAt conn two three → GoesOnAt conn one three
+pub stories_follow : (conn : ℕ) (one two three : Tale) → GoesOnAt conn one two → GoesOnAt conn two three → GoesOnAt conn one three
 stories_follow conn one two three first second = record {
   requests = second.requests ∙ first.requests;
   said = λ other ne. second.said other ne ∙ first.said other ne;
   told = λ other ne. second.told other ne ∙ first.told other ne;
   sessions = λ other ne. second.sessions other ne ∙ first.sessions other ne;
-  more = talks_follow (told_of one) (told_of two) (told_of three) first.more second.more;
+  more = talks_follow (talk_told one) (talk_told two) (talk_told three) first.more second.more;
+  moving = second.moving ∙ first.moving;
 }
 
 abbrev pub client_with : List ℕ → List Input → List Answer → Client
 client_with front inputs told = record { at = front; given = greeting ++ replies_to inputs told }
 
--- a connection in the middle of a step, in which it reads
-pub record IsReading (front : List ℕ) (conn : ℕ) (inputs : List Input) (connection : Connection) (world : World) (story : Story) : Type 0 where
+-- a connection of a frontend with this replica, in the middle of a step, in which it reads
+pub record IsReading (fixed : Fixed) (front : List ℕ) (replica : Replica) (conn : ℕ) (inputs : List Input) (connection : Connection) (world : World)
+    (story : Tale) : Type 0 where
   pub stage_is : connection.stage ≡ Reading
   pub waiting_is : connection.waiting ≡ []
   pub session_is : connection.session ≡ story.course.sessions conn
@@ -95,35 +131,36 @@ pub record IsReading (front : List ℕ) (conn : ℕ) (inputs : List Input) (conn
   pub answered : AreAnswered inputs (story.told conn)
   pub said : story.talk.answers conn ≡ story.told conn
   pub client : client_at world conn ≡ Some (client_with front inputs (story.told conn))
-  pub nothing : IsPlaced (of_connection conn) world.links None
+  pub nothing : IsInPlaceOf fixed world front replica (next_id conn (story.told conn)) place.nowhere
 
 -- and whatever it is at
-pub record IsStanding (setting : Setting) (front home : List ℕ) (conn : ℕ) (inputs : List Input) (held : Option (List ℕ)) (connection : Connection)
-    (world : World) (story : Story) : Type 0 where
+pub record IsStanding (fixed : Fixed) (front : List ℕ) (replica : Replica) (conn : ℕ) (inputs : List Input) (held : Option (List ℕ))
+    (connection : Connection) (world : World) (story : Tale) : Type 0 where
   pub count : connection.answered ≡ length (story.told conn)
   pub client : client_at world conn ≡ Some (client_with front inputs (story.told conn))
-  pub place : Place
-  pub placed : IsPlaced (of_connection conn) world.links (its_message front place)
-  pub stands : Stands setting home conn inputs held connection (story.told conn) (story.talk.answers conn) (story.course.sessions conn) place
+  pub here : Place
+  pub placed : IsInPlaceOf fixed world front replica (next_id conn (story.told conn)) here
+  pub marked : IsMarkedAt story.moving world.marks (next_id conn (story.told conn)) here
+  pub stands : Stands fixed front conn inputs held connection (story.told conn) (story.talk.answers conn) (story.course.sessions conn) here
 
--- a world and a story that a step of one connection made of another
-pub record IsMade (setting : Setting) (conn : ℕ) (before : World) (told : Story) (world : World) (story : Story) : Type 0 where
-  pub others : KeepsOthers conn before world
+-- a world and a tale that a step of one connection made of another
+pub record IsMade (fixed : Fixed) (conn : ℕ) (before : World) (told : Tale) (world : World) (story : Tale) : Type 0 where
+  pub others : KeepsOthers fixed conn before world
   pub goes_on : GoesOnAt conn told story
   pub store : story.course.store ≡ told.course.store
-  pub is_told : IsTold setting world.steps world.marks story.talk story.told story.course
+  pub is_told : AreMarked fixed.setting world.steps world.marks story
 
-pub record ReadsOn (setting : Setting) (front home : List ℕ) (conn : ℕ) (inputs : List Input) (connection : Connection) (before : World)
-    (told : Story) (world : World) : Type 0 where
-  pub story : Story
-  pub made : IsMade setting conn before told world story
-  pub reading : IsReading front conn inputs connection world story
+pub record ReadsOn (fixed : Fixed) (front : List ℕ) (replica : Replica) (conn : ℕ) (inputs : List Input) (connection : Connection) (before : World)
+    (told : Tale) (world : World) : Type 0 where
+  pub story : Tale
+  pub made : IsMade fixed conn before told world story
+  pub reading : IsReading fixed front replica conn inputs connection world story
 
-pub record StandsOn (setting : Setting) (front home : List ℕ) (conn : ℕ) (inputs : List Input) (held : Option (List ℕ))
-    (connection : Connection) (before : World) (told : Story) (world : World) : Type 0 where
-  pub story : Story
-  pub made : IsMade setting conn before told world story
-  pub standing : IsStanding setting front home conn inputs held connection world story
+pub record StandsOn (fixed : Fixed) (front : List ℕ) (replica : Replica) (conn : ℕ) (inputs : List Input) (held : Option (List ℕ))
+    (connection : Connection) (before : World) (told : Tale) (world : World) : Type 0 where
+  pub story : Tale
+  pub made : IsMade fixed conn before told world story
+  pub standing : IsStanding fixed front replica conn inputs held connection world story
 
 pub session_at : (sessions : ℕ → Sess) (conn : ℕ) (session : Sess) → with_session sessions conn session conn ≡ session
 unfolding with_session
@@ -132,16 +169,3 @@ session_at sessions conn session = let same : nat_eq conn conn ≡ true = grind 
 pub session_of_other : (sessions : ℕ → Sess) (conn : ℕ) (session : Sess) (other : ℕ) → other ≢ conn → with_session sessions conn session other ≡ sessions other
 unfolding with_session
 session_of_other sessions conn session other ne = let apart : nat_eq other conn ≡ false = grind (arith, nat_tests) in rw apart refl
-
--- a connection stands as it did when what it held is let go
-pub standing_released : (setting : Setting) (front home : List ℕ) (conn : ℕ) (all : List Input) (held : Option (List ℕ)) (connection : Connection)
-    (world : World) (story : Story) → IsStanding setting front home conn all held connection world story
-    → IsStanding setting front home conn all held (released connection) world story
-standing_released setting front home conn all held connection world story is = record {
-  count = released_count connection ∙ is.count;
-  client = is.client;
-  place = is.place;
-  placed = is.placed;
-  stands = stands_released setting home conn all held connection (story.told conn) (story.talk.answers conn) (story.course.sessions conn) is.place
-      is.stands;
-}

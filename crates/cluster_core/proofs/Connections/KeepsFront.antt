@@ -1,143 +1,255 @@
 -- A step of one connection at its frontend keeps the law.
-use Rattle.std.proofs.Common.{◌≡◌, ◌≢◌, ℕ, true, List, [], Option, Some, refl, sym, ◌∙◌, ap, subst}
+use Rattle.std.proofs.Common.{◌≡◌, ◌≢◌, ℕ, true, List, [], ◌∷◌, Option, None, Some, refl, sym, ◌∙◌, ap, subst}
 use Rattle.std.specs.Ordering.{nat_cmp}
 use Rattle.std.specs.Cmp.Lexicographic.{slice_cmp}
 use Rattle.std.proofs.Math.Logic.{⊎_elim}
 use Rattle.std.proofs.lemmas.Bool.{cases_eq}
+use Rattle.feed_core.specs.declared.replica.Replica.{Replica}
 use Rattle.front_core.specs.declared.connection.Connection.{Connection}
 use Rattle.front_core.specs.declared.front.Front.{Front}
-use Rattle.front_core.specs.Front.{connection_at}
-use Rattle.link_msg.specs.declared.out.Out.{Out}
-use Rattle.mur_base.specs.Map.{value_at, with_value}
-use Rattle.mur_base.proofs.MapLaws.{numbers_apart, value_at-with_value, value_at-with_value-other}
-use Rattle.mur_config.specs.declared.config.Config.{Config}
+use Rattle.front_core.specs.Front.{Stepped, connection_at}
+use Rattle.imap_talk.specs.Heard.{Heard, frames_heard, has_closed}
 use Rattle.imap_talk.specs.declared.inputs.Input.{Input}
+use Rattle.imap_talk.proofs.RequestsOf.{requests_of}
 use Rattle.imap_types.specs.declared.request.Answer.{Answer}
 use Rattle.imap_types.specs.declared.request.Request.{Request}
-use Rattle.mur_model.specs.declared.setting.Setting.{Setting}
-use Rattle.mur_model.specs.History.{Course, TalkGoesOn}
-use Rattle.mur_model.proofs.HistoryGrows.{talks_follow}
-use Rattle.node_step.specs.declared.node.NodeState.TheVariants as state
-use Rattle.cluster_core.specs.declared.world.World.{World}
-use Rattle.imap_talk.specs.Heard.{Heard, frames_heard, has_closed}
 use Rattle.link_msg.specs.declared.message.LinkMsg.{LinkMsg}
+use Rattle.link_msg.specs.declared.out.Out.{Out}
+use Rattle.link_msg.specs.declared.out.Out.TheVariants.{Client as to_client, Close, Link as to_node, Mark as mark, Told as tell}
 use Rattle.link_queue.specs.Links.{Links}
-use Rattle.cluster_core.specs.World.{front_at, node_at, setting_of, carry_all, with_state}
-use Rattle.cluster_core.proofs.Connections.ConnectionLaw.{Story, told_of, IsMade, IsStanding}
-use Rattle.cluster_core.proofs.Connections.Comes.{front_here, homes_beside}
-use Rattle.cluster_core.proofs.Connections.OthersStay.{front_state, streams_put}
-use Rattle.node_step.proofs.NodeKinds.{front_is}
-use Rattle.cluster_core.proofs.Connections.KeepsLaw.{ConnectionIs, IsAt, IsGone, KeepsLaw, KeepsOn, connection_stays}
-use Rattle.cluster_core.proofs.Connections.NameLaw.{name_stays}
-use Rattle.cluster_core.specs.Shown.{held_by}
-use Rattle.mur_model.specs.Store.{box_at}
+use Rattle.many_links.specs.ManyHold.{ManyHold}
+use Rattle.mark_history.specs.Marked.{AreMarked, Tale, last_mark, talk_told}
+use Rattle.mark_history.specs.declared.mark.Mark.{Mark}
+use Rattle.mur_base.specs.Map.{with_value}
+use Rattle.mur_base.proofs.MapLaws.{names_apart, numbers_apart, same_or_other, value_at-with_value, value_at-with_value-other}
+use Rattle.mur_config.specs.declared.config.Config.{Config}
+use Rattle.mur_model.specs.History.{Course, TalkGoesOn}
 use Rattle.mur_model.specs.declared.store.Store.{Store}
-use Rattle.serve_law.proofs.HomeStore.{AreSerialsTo}
-use Rattle.cluster_core.proofs.Connections.KeepsStill.{fronts_at_other, nodes_with_front, having_nodes, carry_all_nodes}
-use Rattle.cluster_core.proofs.Runs.WholeLaw.{carry_all_broken}
-use Rattle.front_core.proofs.OneConnection.Places.{About, of_connection, other_whom, PlacesStay}
-use Rattle.imap_talk.proofs.RequestsOf.{requests_of}
+use Rattle.mur_model.proofs.HistoryGrows.{talks_follow}
+use Rattle.node_step.specs.declared.node.NodeState.{NodeState}
+use Rattle.node_step.specs.declared.node.NodeState.TheVariants as state
+use Rattle.cluster_core.specs.World.{setting_of, carry, carry_all, client_at, front_at, given_more, home_at}
+use Rattle.cluster_core.specs.declared.world.Client.{Client}
+use Rattle.cluster_core.specs.declared.world.World.{World}
+use Rattle.cluster_core.proofs.Commands.Standing.{Fixed, next_id}
+use Rattle.cluster_core.proofs.Connections.ConnectionLaw.{IsMade, IsStanding, MarksStay, PlacesStay}
+use Rattle.cluster_core.proofs.Connections.KeepsLaw.{ConnectionIs, FeedsHold, IsAt, IsGone, KeepsLaw, KeepsOn, fixed_of, murder_of}
+use Rattle.cluster_core.proofs.Connections.Stays.{ReplicasStay, SameFront, connection_stays, fixed_places, marked_stays, same_front}
+use Rattle.cluster_core.proofs.Connections.Stays.SameFront.{both}
+use Rattle.cluster_core.proofs.Nodes.Carried.{is_made}
+use Rattle.cluster_core.proofs.Nodes.Comes.{FrontMoved, front_moved, with_front}
+use Rattle.cluster_core.proofs.Nodes.Stay.{front_cores}
+use Rattle.cluster_core.proofs.Places.FrontWorlds.{SameHomes, alike_stay, stays_on}
 
--- a frontend with another state of one connection
+-- ---- outputs are carried out alike whatever the nodes are
+
+abbrev pub having_nodes : World → List (List ℕ × NodeState) → World
+having_nodes world nodes = record world { nodes = nodes }
+
+given_nodes : (world : World) (nodes : List (List ℕ × NodeState)) (conn : ℕ) (bytes : List ℕ) (found : Option Client)
+    → given_more (having_nodes world nodes) conn bytes found ≡ having_nodes (given_more world conn bytes found) nodes
+unfolding given_more
+given_nodes world nodes conn bytes None = refl
+given_nodes world nodes conn bytes (Some client) = refl
+
+carry_nodes : (node : List ℕ) (world : World) (nodes : List (List ℕ × NodeState)) (out : Out)
+    → carry node (having_nodes world nodes) out ≡ having_nodes (carry node world out) nodes
+unfolding carry
+carry_nodes node world nodes (to_client conn bytes) = given_nodes world nodes conn bytes (client_at world conn)
+carry_nodes node world nodes (Close conn) = refl
+carry_nodes node world nodes (to_node other message) = refl
+carry_nodes node world nodes (mark ask counts) = refl
+carry_nodes node world nodes (tell ask how) = refl
+
+pub carry_all_nodes : (node : List ℕ) (world : World) (nodes : List (List ℕ × NodeState)) (outs : List Out)
+    → carry_all node (having_nodes world nodes) outs ≡ having_nodes (carry_all node world outs) nodes
+unfolding carry_all
+carry_all_nodes node world nodes [] = refl
+carry_all_nodes node world nodes (out ∷ outs) = ap (λ w. carry_all node w outs) (carry_nodes node world nodes out)
+    ∙ carry_all_nodes node (carry node world out) nodes outs
+
+-- ---- a frontend with another state of one connection
+
 abbrev pub with_connection : Front → ℕ → Connection → Front
 with_connection front conn connection = record front { connections = with_value nat_cmp front.connections conn connection }
 
-abbrev pub world_after : World → List ℕ → Front → ℕ → Connection → List Out → World
-world_after world node front conn connection outs =
-    carry_all node (with_state world node (state.Front (with_connection front conn connection))) outs
+abbrev pub turned_so : Front → ℕ → Connection → List Out → Stepped
+turned_so front conn connection outs = record { front = with_connection front conn connection; outs = outs }
 
--- the outputs of a connection's step were carried out and made this story; the connection is so behind it
-pub front_keeps : (config : Config) (heard after : ℕ → Heard) (origin : World) (law : KeepsLaw config heard origin) (links : Links LinkMsg) (conn : ℕ) (node : List ℕ)
-    (front : Front) (was connection : Connection) (outs : List Out) (told story : Story)
-    → ((whom : About) → whom ≢ of_connection conn → PlacesStay whom origin.links links)
+abbrev pub world_after : World → List ℕ → Front → ℕ → Connection → List Out → World
+world_after world node front conn connection outs = with_front world node (turned_so front conn connection outs)
+
+-- what another connection finds of the frontends
+pub fronts_at_other : (world next : World) (node : List ℕ) (front later : Front) (other : ℕ) → front_at world node ≡ Some front
+    → FrontMoved world node later next → connection_at later other ≡ connection_at front other
+    → (any : List ℕ) → SameFront other (front_at world any) (front_at next any)
+fronts_at_other world next node front later other at moved same any = ⊎_elim
+    (λ (e : any ≡ node). subst (λ n. SameFront other (front_at world n) (front_at next n)) (sym e)
+    (subst (λ f. SameFront other f (front_at next node)) (sym at)
+    (subst (λ f. SameFront other (Some front) f) (sym moved.own) (both front later same))))
+    (λ (ne : any ≢ node). same_front other (front_at world any) (front_at next any) (moved.fronts any ne))
+    (same_or_other (slice_cmp nat_cmp) names_apart any node)
+
+just_front : {one other : Front} → Some one ≡ Some other → one ≡ other
+just_front e = cc
+
+-- and every replica is as it was
+pub replicas_stay : (world next : World) (node : List ℕ) (front later : Front) → front_at world node ≡ Some front → FrontMoved world node later next
+    → later.replica ≡ front.replica → ReplicasStay world next
+replicas_stay world next node front later at moved same any was now before after = ⊎_elim
+    (λ (e : any ≡ node).
+    let one : front ≡ was = just_front (sym at ∙ (ap (front_at world) (sym e) ∙ before)) in
+    let two : later ≡ now = just_front (sym moved.own ∙ (ap (front_at next) (sym e) ∙ after)) in
+    ap (λ (f : Front). f.replica) (sym two) ∙ same ∙ ap (λ (f : Front). f.replica) one)
+    (λ (ne : any ≢ node).
+    let is : was ≡ now = just_front (sym before ∙ (sym (moved.fronts any ne) ∙ after)) in
+    ap (λ (f : Front). f.replica) (sym is))
+    (same_or_other (slice_cmp nat_cmp) names_apart any node)
+
+-- ---- the world after the step, beside that which the outputs alone make
+
+module _ (world : World) (node : List ℕ) (front : Front) (conn : ℕ) (connection : Connection) (outs : List Out) where
+  abbrev carried : World
+  carried = carry_all node world outs
+
+  abbrev next : World
+  next = world_after world node front conn connection outs
+
+  pub after_is : next ≡ having_nodes carried (with_value (slice_cmp nat_cmp) world.nodes node (state.Front (with_connection front conn connection)))
+  after_is = carry_all_nodes node world (with_value (slice_cmp nat_cmp) world.nodes node (state.Front (with_connection front conn connection))) outs
+
+  pub same_links : next.links ≡ carried.links
+  same_links = ap (λ (w : World). w.links) after_is
+
+  pub same_marks : next.marks ≡ carried.marks
+  same_marks = ap (λ (w : World). w.marks) after_is
+
+  pub same_steps : next.steps ≡ carried.steps
+  same_steps = ap (λ (w : World). w.steps) after_is
+
+  pub same_clients : (other : ℕ) → client_at next other ≡ client_at carried other
+  same_clients other = ap (λ w. client_at w other) after_is
+
+  -- the backends of both, where the outputs changed no node
+  pub same_homes : front_at world node ≡ Some front → carried.nodes ≡ world.nodes → SameHomes carried next
+  same_homes at nodes name = (front_moved world node front (turned_so front conn connection outs) at).homes name
+      ∙ sym (ap (λ n. home_at (having_nodes carried n) name) nodes)
+
+-- ---- the law
+
+-- The outputs of a connection's step were carried out and made this story; the connection is so behind it. The step may have taken a message off its link.
+pub front_keeps : (config : Config) (heard after : ℕ → Heard) (origin : World) (law : KeepsLaw config heard origin) (links : Links LinkMsg) (conn : ℕ)
+    (node : List ℕ) (front : Front) (was connection : Connection) (outs : List Out) (told story : Tale)
+    → ((other : ℕ) → other ≢ conn → PlacesStay (fixed_of config) other origin (record origin { links = links }))
     → front_at origin node ≡ Some front → connection_at front conn ≡ Some was
-    → TalkGoesOn (told_of law.story) (told_of told) → told.told ≡ law.story.told → told.talk.answers ≡ law.story.talk.answers → told.course ≡ law.story.course
+    → TalkGoesOn (talk_told law.story) (talk_told told) → told.told ≡ law.story.told → told.talk.answers ≡ law.story.talk.answers
+    → told.course ≡ law.story.course → told.moving ≡ law.story.moving
     → ((other : ℕ) → told.talk.requests other ≡ requests_of (setting_of config) (frames_heard (after other)))
     → ((other : ℕ) → other ≢ conn → after other ≡ heard other)
     → (has_closed (after conn) ≡ true → story.told conn ≡ law.story.told conn)
-    → IsMade (setting_of config) conn (record origin { links = links }) told (carry_all node (record origin { links = links }) outs) story
-    → ConnectionIs (setting_of config) law.home conn (world_after (record origin { links = links }) node front conn connection outs) story (after conn)
-    → KeepsOn config (told_of law.story) after (world_after (record origin { links = links }) node front conn connection outs)
-front_keeps config heard after origin law links conn node front was connection outs told story places at has more same_told same_said same_course requests others
-    no_more made mine =
+    → IsMade (fixed_of config) conn (record origin { links = links }) told (carry_all node (record origin { links = links }) outs) story
+    → ManyHold (murder_of (world_after (record origin { links = links }) node front conn connection outs) law.master) law.given law.story.course.store
+    → FeedsHold config (world_after (record origin { links = links }) node front conn connection outs) law.master
+    → ConnectionIs (fixed_of config) conn (world_after (record origin { links = links }) node front conn connection outs) story (after conn)
+    → KeepsOn config law.story after (world_after (record origin { links = links }) node front conn connection outs)
+front_keeps config heard after origin law links conn node front was connection outs told story places at has more same_told same_said same_course same_moving
+    requests others no_more made many feeds mine =
     let world : World = record origin { links = links } in
     let later : Front = with_connection front conn connection in
-    let nodes = with_value (slice_cmp nat_cmp) world.nodes node (state.Front later) in
     let carried : World = carry_all node world outs in
-    let next : World = having_nodes carried nodes in
+    let next : World = world_after world node front conn connection outs in
+    let step = front_moved world node front (turned_so front conn connection outs) at in
+    let moved : FrontMoved origin node later next = record { own = step.own; fronts = step.fronts; homes = step.homes; masters = step.masters } in
+    let fixed : Fixed = fixed_of config in
     let same_store : story.course.store ≡ law.story.course.store = made.store ∙ ap (λ (c : Course). c.store) same_course in
-    let e : world_after world node front conn connection outs ≡ next = carry_all_nodes node world nodes outs in
-    subst (λ w. KeepsOn config (told_of law.story) after w) (sym e)
-    (record {
+    record {
       law = record {
-        home = law.home;
-        backend = law.backend;
-        home_is = homes_beside origin node front later at law.home ∙ law.home_is;
-        nodes = nodes_with_front config origin next law.home node front later at refl refl refl law.nodes;
-        whole = carry_all_broken node world outs ∙ law.whole;
-        streams = streams_put origin node (state.Front front) (state.Front later) (front_is (node_at origin node) front at) (front_state later) law.streams;
+        master = law.master;
+        nodes = front_cores config origin next law.master law.nodes node front later at
+            (record { me = refl; master = refl; first = refl; setting = refl }) moved;
+        whole = (is_made world node (state.Front later) outs).broken ∙ law.whole;
         story = story;
-        names = λ name. name_stays origin next law.story.course.store story.course.store law.home name
-            (λ any. ap (λ h. value_at (slice_cmp nat_cmp) (held_by h) name) (homes_beside origin node front later at any)) (ap (λ (s : Store). box_at s name) same_store) (law.names name);
-        serials = subst (λ (s : Store). AreSerialsTo s law.backend) (sym same_store) law.serials;
-        is_told = made.is_told;
+        given = law.given;
+        many = subst (λ (s : Store). ManyHold (murder_of next law.master) law.given s) (sym same_store) many;
+        feeds = feeds;
+        is_told = subst (λ m. AreMarked (setting_of config) next.steps m story) (sym (same_marks world node front conn connection outs))
+            (subst (λ n. AreMarked (setting_of config) n carried.marks story) (sym (same_steps world node front conn connection outs)) made.is_told);
         requests = λ other. ap (λ (r : ℕ → List Request). r other) made.goes_on.requests ∙ requests other;
         connections = λ other. ⊎_elim
-            (λ (same : other ≡ conn). subst (λ c. ConnectionIs (setting_of config) law.home c next story (after c)) (sym same)
-            (subst (λ w. ConnectionIs (setting_of config) law.home conn w story (after conn)) e mine))
-            (λ (ne : other ≢ conn). subst (λ h. ConnectionIs (setting_of config) law.home other next story h) (sym (others other ne))
-            (connection_stays (setting_of config) law.home other origin next law.story story (heard other)
+            (λ (same : other ≡ conn). subst (λ c. ConnectionIs fixed c next story (after c)) (sym same) mine)
+            (λ (ne : other ≢ conn). subst (λ h. ConnectionIs fixed other next story h) (sym (others other ne))
+            (let stay : PlacesStay fixed other origin next = stays_on fixed other origin carried next
+            (stays_on fixed other origin world carried (places other ne) (made.others.places other ne))
+            (alike_stay fixed other carried next (same_homes world node front conn connection outs at made.others.nodes)
+            (same_links world node front conn connection outs)) in
+            connection_stays fixed other origin next law.story story (heard other)
             (record {
-              fronts = fronts_at_other origin node front later other at
+              fronts = fronts_at_other origin next node front later other at moved
                   (value_at-with_value-other nat_cmp numbers_apart front.connections conn other connection ne);
-              client = made.others.clients other ne;
-              places = λ here placed. made.others.places (of_connection other) (other_whom other conn ne) here
-                  (places (of_connection other) (other_whom other conn ne) here placed);
+              client = same_clients world node front conn connection outs other ∙ made.others.clients other ne;
+              in_place = fixed_places fixed other origin next stay (replicas_stay origin next node front later at moved refl);
+              in_none = stay.in_none;
+              marks = subst (MarksStay other origin.marks) (sym (same_marks world node front conn connection outs)) (made.others.marks other ne);
               told = made.goes_on.told other ne ∙ ap (λ (t : ℕ → List Answer). t other) same_told;
               said = made.goes_on.said other ne ∙ ap (λ (t : ℕ → List Answer). t other) same_said;
               session = made.goes_on.sessions other ne ∙ ap (λ (c : Course). c.sessions other) same_course;
+              moving = made.goes_on.moving ∙ same_moving;
             }) (law.connections other)))
             (cases_eq other conn);
       };
-      more = talks_follow (told_of law.story) (told_of told) (told_of story) more made.goes_on.more;
+      more = talks_follow (talk_told law.story) (talk_told told) (talk_told story) more made.goes_on.more;
       closed = λ other shut. ⊎_elim
           (λ (same : other ≡ conn). subst (λ c. story.told c ≡ law.story.told c) (sym same) (no_more (subst (λ c. has_closed (after c) ≡ true) same shut)))
           (λ (ne : other ≢ conn). made.goes_on.told other ne ∙ ap (λ (t : ℕ → List Answer). t other) same_told)
           (cases_eq other conn);
-    })
+      moving = made.goes_on.moving ∙ same_moving;
+    }
 
--- the connection after its step, as the world then has it
+-- ---- the connection itself
+
+-- as the world then has it
 pub is_at_after : (world : World) (node : List ℕ) (front : Front) (conn : ℕ) (was connection : Connection) (outs : List Out) → front_at world node ≡ Some front
     → connection_at front conn ≡ Some was
     → IsAt (world_after world node front conn connection outs) conn node (with_connection front conn connection) connection
 is_at_after world node front conn was connection outs at has = record {
-  at = ap (λ w. front_at w node) (carry_all_nodes node world (with_value (slice_cmp nat_cmp) world.nodes node
-      (state.Front (with_connection front conn connection))) outs)
-      ∙ front_here world node front (with_connection front conn connection) at;
+  at = (front_moved world node front (turned_so front conn connection outs) at).own;
   has = value_at-with_value nat_cmp numbers_apart front.connections conn connection was has;
 }
 
 -- what holds of the world that the outputs made holds with the frontend's new state
-pub standing_after : (world : World) (node : List ℕ) (front : Front) (conn : ℕ) (connection : Connection) (outs : List Out) (setting : Setting) (home : List ℕ)
-    (all : List Input) (held : Option (List ℕ)) (story : Story)
-    → IsStanding setting node home conn all held connection (carry_all node world outs) story
-    → IsStanding setting node home conn all held connection (world_after world node front conn connection outs) story
-standing_after world node front conn connection outs setting home all held story is =
-    subst (λ w. IsStanding setting node home conn all held connection w story)
-    (sym (carry_all_nodes node world (with_value (slice_cmp nat_cmp) world.nodes node (state.Front (with_connection front conn connection))) outs))
-    (record { count = is.count; client = is.client; place = is.place; placed = is.placed; stands = is.stands })
+pub standing_after : (fixed : Fixed) (world : World) (node : List ℕ) (front : Front) (conn : ℕ) (connection : Connection) (outs : List Out)
+    (all : List Input) (held : Option (List ℕ)) (replica : Replica) (story : Tale) → front_at world node ≡ Some front
+    → (carry_all node world outs).nodes ≡ world.nodes
+    → IsStanding fixed node replica conn all held connection (carry_all node world outs) story
+    → IsStanding fixed node replica conn all held connection (world_after world node front conn connection outs) story
+standing_after fixed world node front conn connection outs all held replica story at nodes is =
+    let carried : World = carry_all node world outs in
+    let next : World = world_after world node front conn connection outs in
+    record {
+      count = is.count;
+      client = same_clients world node front conn connection outs conn ∙ is.client;
+      here = is.here;
+      placed = (alike_stay fixed conn carried next (same_homes world node front conn connection outs at nodes)
+          (same_links world node front conn connection outs)).in_place node replica _ is.here is.placed;
+      marked = marked_stays story.moving (next_id conn (story.told conn)) carried.marks next.marks
+          (ap (λ (m : List Mark). last_mark (next_id conn (story.told conn)) m) (same_marks world node front conn connection outs)) is.here is.marked;
+      stands = is.stands;
+    }
 
-pub gone_after : (world : World) (node : List ℕ) (front : Front) (conn : ℕ) (connection : Connection) (setting : Setting) (home : List ℕ) (all : List Input)
-    (story : Story)
-    → IsGone setting node home conn all connection world story
-    → IsGone setting node home conn all connection (world_after world node front conn connection []) story
+pub gone_after : (fixed : Fixed) (world : World) (node : List ℕ) (front : Front) (conn : ℕ) (connection : Connection) (all : List Input) (replica : Replica)
+    (story : Tale) → front_at world node ≡ Some front
+    → IsGone fixed node replica conn all connection world story
+    → IsGone fixed node replica conn all connection (world_after world node front conn connection []) story
 unfolding carry_all
-gone_after world node front conn connection setting home all story is = record {
-  stage_is = is.stage_is;
-  count = is.count;
-  lasts = is.lasts;
-  client = is.client;
-  place = is.place;
-  placed = is.placed;
-  left = is.left;
-}
+gone_after fixed world node front conn connection all replica story at is =
+    let next : World = world_after world node front conn connection [] in
+    record {
+      stage_is = is.stage_is;
+      count = is.count;
+      lasts = is.lasts;
+      client = is.client;
+      here = is.here;
+      placed = (alike_stay fixed conn world next (same_homes world node front conn connection [] at refl) refl).in_place node replica _ is.here is.placed;
+      marked = is.marked;
+      left = is.left;
+    }

@@ -1,42 +1,45 @@
 -- A client that closes its connection keeps the law.
-use Rattle.std.proofs.Common.{◌≡◌, ◌≢◌, ℕ, true, false, nat_eq, List, [], Option, Some, refl, sym, ◌∙◌, ap, subst}
-use Rattle.std.proofs.Common.{arith}
+use Rattle.std.proofs.Common.{◌≡◌, ◌≢◌, ℕ, ◌+◌, true, false, nat_eq, List, [], ◌∷◌, ◌++◌, length, Option, Some, refl, sym, ◌∙◌, ap, subst, arith}
 use Rattle.std.proofs.Math.Logic.{⊎_elim}
 use Rattle.std.proofs.lemmas.Bool.{cases_eq}
 use Rattle.std.proofs.lemmas.Bool.Decides.{nat_tests}
 use Rattle.std.proofs.lemmas.List.{append-nil}
+use Rattle.cluster_core.specs.Heard.{hears}
+use Rattle.cluster_core.specs.World.{setting_of, carry_all, client_at, client_does}
+use Rattle.front_core.proofs.OneConnection.Readings.{inputs_in}
 use Rattle.front_core.specs.declared.connection.Connection.{Connection}
 use Rattle.front_core.specs.declared.front.Front.{Front}
-use Rattle.front_core.specs.Front.{hang, front_hang_at, hung_up}
-use Rattle.imap_talk.specs.declared.inputs.Input.{Input}
-use Rattle.imap_wire.specs.Frames.{begun}
-use Rattle.mur_config.specs.declared.config.Config.{Config}
-use Rattle.imap_types.specs.declared.request.Answer.{Answer}
-use Rattle.mur_model.specs.declared.session.Sess.{Sess}
-use Rattle.mur_model.specs.declared.setting.Setting.{Setting}
-use Rattle.mur_model.proofs.HistoryGrows.{same_talk}
-use Rattle.schedule_text.specs.declared.event.Event.TheVariants.{Hang}
-use Rattle.imap_talk.specs.Inputs.{requests_in}
-use Rattle.front_core.proofs.OneConnection.Readings.{inputs_in}
-use Rattle.node_step.specs.declared.input.NodeInput.TheVariants.{Hung}
-use Rattle.node_step.specs.declared.node.NodeState.TheVariants as state
-use Rattle.cluster_core.specs.declared.world.World.{World}
+use Rattle.front_core.specs.Front.{front_hang_at, hang, hung_up, still}
 use Rattle.imap_talk.specs.Heard.{Heard, nobody, elsewhere, client, frames_heard}
-use Rattle.cluster_core.specs.Heard.{hears}
-use Rattle.cluster_core.specs.World.{client_at, node_at, setting_of, carry_all, with_state, comes, client_does}
-use Rattle.cluster_core.proofs.Connections.ConnectionLaw.{told_of, keeps_all, same_story}
-use Rattle.front_core.proofs.OneConnection.Standing.{Stands, IsLeft}
-use Rattle.front_core.proofs.OneConnection.Standing.Stands.{reads, waits, faulted, finished}
-use Rattle.front_core.proofs.OneConnection.Standing.IsLeft.{nothing, left_waiting}
-use Rattle.front_core.proofs.OneConnection.Places.{Place}
-use Rattle.front_core.proofs.OneConnection.Waits.{left_behind}
-use Rattle.cluster_core.proofs.Connections.Comes.{hung_comes, hung_elsewhere}
-use Rattle.cluster_core.proofs.Connections.KeepsFront.{world_after, with_connection, front_keeps, is_at_after, gone_after}
-use Rattle.front_core.proofs.OneConnection.LastAnswer.{stands_last}
-use Rattle.cluster_core.proofs.Connections.KeepsLaw.{ConnectionIs, IsAt, IsGone, KeepsLaw, KeepsOn, LooksAlike, looks_same}
+use Rattle.imap_talk.specs.Inputs.{requests_in}
+use Rattle.imap_talk.specs.declared.inputs.Input.{Input}
+use Rattle.imap_talk.specs.declared.inputs.Input.TheVariants.{Asks}
+use Rattle.imap_talk.proofs.InputLaws.{requests-append}
+use Rattle.imap_talk.proofs.RequestsOf.{answered_lengths, next_request, requests_of}
+use Rattle.imap_types.specs.declared.request.Answer.{Answer}
+use Rattle.imap_types.specs.declared.request.Request.TheVariants.{Command as a_command}
+use Rattle.imap_wire.specs.Frames.{begun}
+use Rattle.mark_history.specs.Marked.{talk_told}
+use Rattle.mur_config.specs.declared.config.Config.{Config}
+use Rattle.mur_model.specs.History.{numbered}
+use Rattle.mur_model.specs.declared.session.Sess.{Sess}
+use Rattle.mur_model.proofs.HistoryGrows.{same_talk}
+use Rattle.node_step.specs.declared.input.NodeInput.TheVariants.{Hung}
+use Rattle.schedule_text.specs.declared.event.Event.TheVariants.{Hang}
+use Rattle.cluster_core.specs.declared.world.World.{World}
+use Rattle.cluster_core.proofs.Commands.Place.{Place}
+use Rattle.cluster_core.proofs.Commands.Released.{stands_last}
+use Rattle.cluster_core.proofs.Commands.Standing.{Fixed, IsLeft, LeftWaiting, Stands, Waiting}
+use Rattle.cluster_core.proofs.Commands.Standing.IsLeft.{nothing, left_waiting}
+use Rattle.cluster_core.proofs.Commands.Standing.Stands.{reads, waits, faulted, finished}
+use Rattle.cluster_core.proofs.Connections.ConnectionLaw.{keeps_all, same_story}
+use Rattle.cluster_core.proofs.Connections.KeepsFront.{front_keeps, gone_after, is_at_after, turned_so, with_connection, world_after}
+use Rattle.cluster_core.proofs.Connections.KeepsLaw.{ConnectionIs, IsAt, IsGone, KeepsLaw, KeepsOn, fixed_of}
 use Rattle.cluster_core.proofs.Connections.KeepsLaw.ConnectionIs.{is_nobody, is_elsewhere, is_open, is_closed}
-use Rattle.cluster_core.proofs.Connections.KeepsStill.{still_kept}
-use Rattle.imap_talk.proofs.RequestsOf.{requests_of}
+use Rattle.cluster_core.proofs.Connections.KeepsStill.{MasterServes, elsewhere_kept, same_kept}
+use Rattle.cluster_core.proofs.Connections.StillFed.{feeds_alike, fronts_were}
+use Rattle.cluster_core.proofs.Feeds.Many.{front_keeps_many}
+use Rattle.cluster_core.proofs.Nodes.Comes.{front_comes, front_moved, with_front}
 
 abbrev pub after_hang : Config → (ℕ → Heard) → ℕ → ℕ → Heard
 after_hang config heard conn other = hears config other (heard other) (Hang conn)
@@ -53,38 +56,62 @@ heard_closed : (config : Config) (conn : ℕ) (bytes : List ℕ) (heard : Heard)
 unfolding hears
 heard_closed config conn bytes heard e = let same : nat_eq conn conn ≡ true = grind (arith, nat_tests) in rw (e, same) refl
 
--- what is left of a connection, whatever it was at
-left_by : (setting : Setting) (home : List ℕ) (conn : ℕ) (all : List Input) (held : Option (List ℕ)) (connection : Connection)
-    (told said : List Answer) (session : Sess) (place : Place) → Stands setting home conn all held connection told said session place
-    → IsLeft setting home conn (requests_in all) told said session place
-left_by setting home conn all held connection told said session place (reads stage waiting s lasts answered same at) =
+-- ---- what is left of a connection
+
+-- a command that waits when its client closes the connection
+pub left_behind : (fixed : Fixed) (front : List ℕ) (conn : ℕ) (all : List Input) (held : Option (List ℕ)) (connection : Connection)
+    (told said : List Answer) (session : Sess) (here : Place) → Waiting fixed front conn all held connection told said session here
+    → LeftWaiting fixed front conn (requests_in all) told said session here
+unfolding requests_in
+left_behind fixed front conn all held connection told said session here waiting = record {
+  tag = waiting.tag;
+  c = waiting.c;
+  of = record { setting_is = (waiting.of).setting_is; its = (waiting.of).its; was_is = refl };
+  next = subst (λ r. numbered r (length told + 1) ≡ Some (a_command waiting.tag (waiting.c).it))
+      (sym (ap requests_in waiting.parts ∙ requests-append waiting.passed (Asks waiting.request ∷ connection.waiting)
+      ∙ ap (λ r. requests_in waiting.passed ++ r ∷ requests_in connection.waiting) waiting.is))
+      (next_request (requests_in waiting.passed) (requests_in connection.waiting) (a_command waiting.tag (waiting.c).it) (length told)
+      (answered_lengths waiting.passed told waiting.answered));
+  knows = waiting.knows;
+}
+
+pub left_by : (fixed : Fixed) (front : List ℕ) (conn : ℕ) (all : List Input) (held : Option (List ℕ)) (connection : Connection)
+    (told said : List Answer) (session : Sess) (here : Place) → Stands fixed front conn all held connection told said session here
+    → IsLeft fixed front conn (requests_in all) told said session here
+left_by fixed front conn all held connection told said session here (reads stage waiting s lasts answered same at) =
     nothing [] (same ∙ sym (append-nil told)) (omega arith) at
-left_by setting home conn all held connection told said session place (waits waiting) =
-    left_waiting (left_behind setting home conn all held connection told said session place waiting)
-left_by setting home conn all held connection told said session place (faulted stage none lengths same lasts at) =
+left_by fixed front conn all held connection told said session here (waits waiting) =
+    left_waiting (left_behind fixed front conn all held connection told said session here waiting)
+left_by fixed front conn all held connection told said session here (faulted stage none lengths same lasts at) =
     nothing [] (same ∙ sym (append-nil told)) (omega arith) at
-left_by setting home conn all held connection told said session place (finished passed more request before final stage parts answered is_told is_end same at)
-    =
+left_by fixed front conn all held connection told said session here
+    (finished passed more request before final stage parts answered is_told is_end same at) =
     nothing [] (same ∙ sym (append-nil told)) (omega arith) at
+
+-- ---- the step
 
 hangs_at : (world : World) (conn : ℕ) (node : List ℕ) (front : Front) (connection : Connection) (given : List ℕ)
     → world.broken ≡ [] → client_at world conn ≡ Some (record { at = node; given = given })
     → IsAt world conn node front connection
     → client_does world (Hung conn) (client_at world conn) ≡ world_after world node front conn (hung_up connection) []
-unfolding client_does hang front_hang_at carry_all
-hangs_at world conn node front connection given whole at is = ap (client_does world (Hung conn)) at ∙ hung_comes world node conn front whole is.at
-    ∙ ap (λ f. with_state world node (state.Front (front_hang_at front conn f))) is.has
+unfolding client_does hang front_hang_at
+hangs_at world conn node front connection given whole at is = ap (client_does world (Hung conn)) at ∙ front_comes world node (Hung conn) front whole is.at
+    ∙ ap (λ f. with_front world node (still (front_hang_at front conn f))) is.has
 
 -- a connection at its frontend is closed
 closes : (config : Config) (heard : ℕ → Heard) (world : World) (conn : ℕ) (law : KeepsLaw config heard world) (bytes node : List ℕ) (front : Front)
     (connection : Connection) → IsAt world conn node front connection
     → law.story.talk.requests conn ≡ requests_in (inputs_in (setting_of config) bytes) → after_hang config heard conn conn ≡ client bytes true
-    → IsGone (setting_of config) node law.home conn (inputs_in (setting_of config) bytes) (hung_up connection) world law.story
-    → KeepsOn config (told_of law.story) (after_hang config heard conn) (world_after world node front conn (hung_up connection) [])
+    → IsGone (fixed_of config) node front.replica conn (inputs_in (setting_of config) bytes) (hung_up connection) world law.story
+    → KeepsOn config law.story (after_hang config heard conn) (world_after world node front conn (hung_up connection) [])
 unfolding carry_all frames_heard
 closes config heard world conn law bytes node front connection at asked now gone =
+    let later : Front = with_connection front conn (hung_up connection) in
+    let next : World = world_after world node front conn (hung_up connection) [] in
+    let moved = front_moved world node front (turned_so front conn (hung_up connection) []) at.at in
     front_keeps config heard (after_hang config heard conn) world law world.links conn node front connection (hung_up connection) [] law.story law.story
-    (λ whom ne here placed. placed) at.at at.has (same_talk (told_of law.story)) refl refl refl
+    (λ other ne. record { in_place = λ f r c here is. is; in_none = λ is. is })
+    at.at at.has (same_talk (talk_told law.story)) refl refl refl refl
     (λ other. ⊎_elim
     (λ (same : other ≡ conn). subst (λ c. law.story.talk.requests c ≡ requests_of (setting_of config) (frames_heard (after_hang config heard conn c)))
     (sym same)
@@ -93,26 +120,21 @@ closes config heard world conn law bytes node front connection at asked now gone
     (heard other) ne)))
     (cases_eq other conn))
     (λ other ne. other_heard config conn other (heard other) ne) (λ shut. refl)
-    (record { others = keeps_all conn world; goes_on = same_story conn law.story; store = refl; is_told = law.is_told })
-    (subst (λ h. ConnectionIs (setting_of config) law.home conn (world_after world node front conn (hung_up connection) []) law.story h) (sym now)
-    (is_closed bytes node (with_connection front conn (hung_up connection)) (hung_up connection)
+    (record { others = keeps_all (fixed_of config) conn world; goes_on = same_story conn law.story; store = refl; is_told = law.is_told })
+    (front_keeps_many config world law.master law.given law.story.course.store law.nodes law.many node front
+    (turned_so front conn (hung_up connection) []) at.at)
+    (feeds_alike config world next law.master moved.homes refl (fronts_were world next node front later at.at moved refl) law.feeds)
+    (subst (λ h. ConnectionIs (fixed_of config) conn next law.story h) (sym now)
+    (is_closed bytes node later (hung_up connection)
     (is_at_after world node front conn connection (hung_up connection) [] at.at at.has)
-    (gone_after world node front conn (hung_up connection) (setting_of config) law.home (inputs_in (setting_of config) bytes) law.story gone)))
+    (gone_after (fixed_of config) world node front conn (hung_up connection) (inputs_in (setting_of config) bytes) front.replica law.story at.at gone)))
 
-alike_heard : (config : Config) (heard : ℕ → Heard) (world next : World) (conn : ℕ) (law : KeepsLaw config heard world) → LooksAlike world next
-    → after_hang config heard conn conn ≡ heard conn
-    → KeepsOn config (told_of law.story) (after_hang config heard conn) next
-alike_heard config heard world next conn law alike same =
-    still_kept config heard (after_hang config heard conn) world next alike
-    (λ other. ⊎_elim
+pub still_heard : (config : Config) (heard : ℕ → Heard) (conn : ℕ) → after_hang config heard conn conn ≡ heard conn
+    → (other : ℕ) → after_hang config heard conn other ≡ heard other
+still_heard config heard conn same other = ⊎_elim
     (λ (e : other ≡ conn). subst (λ c. after_hang config heard conn c ≡ heard c) (sym e) same)
     (λ (ne : other ≢ conn). other_heard config conn other (heard other) ne)
-    (cases_eq other conn)) law
-
-still_heard : (config : Config) (heard : ℕ → Heard) (world : World) (conn : ℕ) (law : KeepsLaw config heard world)
-    → after_hang config heard conn conn ≡ heard conn
-    → KeepsOn config (told_of law.story) (after_hang config heard conn) world
-still_heard config heard world conn law same = alike_heard config heard world world conn law (looks_same world) same
+    (cases_eq other conn)
 
 nothing_heard : (config : Config) (conn : ℕ) → hears config conn nobody (Hang conn) ≡ nobody
 unfolding hears
@@ -127,34 +149,37 @@ unfolding hears
 closed_heard config conn bytes = refl
 
 hang_by : (config : Config) (heard : ℕ → Heard) (world : World) (conn : ℕ) (law : KeepsLaw config heard world) (was : Heard) → heard conn ≡ was
-    → ConnectionIs (setting_of config) law.home conn world law.story was
-    → KeepsOn config (told_of law.story) (after_hang config heard conn) (client_does world (Hung conn) (client_at world conn))
+    → MasterServes config → ConnectionIs (fixed_of config) conn world law.story was
+    → KeepsOn config law.story (after_hang config heard conn) (client_does world (Hung conn) (client_at world conn))
 unfolding client_does frames_heard
-hang_by config heard world conn law was e (is_nobody none fronts untold) =
-    subst (λ c. KeepsOn config (told_of law.story) (after_hang config heard conn) (client_does world (Hung conn) c)) (sym none)
-    (still_heard config heard world conn law (ap (λ h. hears config conn h (Hang conn)) e ∙ nothing_heard config conn ∙ sym e))
-hang_by config heard world conn law was e (is_elsewhere node given at none untold) =
-    subst (λ c. KeepsOn config (told_of law.story) (after_hang config heard conn) (client_does world (Hung conn) c)) (sym at)
-    (alike_heard config heard world (comes world node (Hung conn)) conn law
-    (hung_elsewhere world node conn given (node_at world node) refl at none)
-    (ap (λ h. hears config conn h (Hang conn)) e ∙ elsewhere_heard config conn ∙ sym e))
-hang_by config heard world conn law was e (is_open bytes node front connection at reader standing) =
-    subst (λ w. KeepsOn config (told_of law.story) (after_hang config heard conn) w) (sym (hangs_at world conn node front connection _ law.whole standing.client at))
+hang_by config heard world conn law was e serves (is_nobody none fronts untold) =
+    subst (λ c. KeepsOn config law.story (after_hang config heard conn) (client_does world (Hung conn) c)) (sym none)
+    (same_kept config heard (after_hang config heard conn) world
+    (still_heard config heard conn (ap (λ h. hears config conn h (Hang conn)) e ∙ nothing_heard config conn ∙ sym e)) law)
+hang_by config heard world conn law was e serves (is_elsewhere node given at none untold) =
+    subst (λ c. KeepsOn config law.story (after_hang config heard conn) (client_does world (Hung conn) c)) (sym at)
+    (elsewhere_kept config heard (after_hang config heard conn) world node conn (Hung conn) given refl serves at none law
+    (still_heard config heard conn (ap (λ h. hears config conn h (Hang conn)) e ∙ elsewhere_heard config conn ∙ sym e)))
+hang_by config heard world conn law was e serves (is_open bytes node front connection at reader standing) =
+    subst (λ w. KeepsOn config law.story (after_hang config heard conn) w)
+    (sym (hangs_at world conn node front connection _ law.whole standing.client at))
     (closes config heard world conn law bytes node front connection at (law.requests conn ∙ ap (λ h. requests_of (setting_of config) (frames_heard h)) e)
     (heard_closed config conn bytes (heard conn) e)
     (record {
       stage_is = refl;
       count = standing.count;
       client = standing.client;
-      lasts = stands_last (setting_of config) law.home conn (inputs_in (setting_of config) bytes) (begun bytes) connection
-          (law.story.told conn) (law.story.talk.answers conn) (law.story.course.sessions conn) standing.place standing.stands;
-      place = standing.place;
+      lasts = stands_last (fixed_of config) node conn (inputs_in (setting_of config) bytes) (begun bytes) connection
+          (law.story.told conn) (law.story.talk.answers conn) (law.story.course.sessions conn) standing.here standing.stands;
+      here = standing.here;
       placed = standing.placed;
-      left = left_by (setting_of config) law.home conn (inputs_in (setting_of config) bytes) (begun bytes) connection
-          (law.story.told conn) (law.story.talk.answers conn) (law.story.course.sessions conn) standing.place standing.stands;
+      marked = standing.marked;
+      left = left_by (fixed_of config) node conn (inputs_in (setting_of config) bytes) (begun bytes) connection
+          (law.story.told conn) (law.story.talk.answers conn) (law.story.course.sessions conn) standing.here standing.stands;
     }))
-hang_by config heard world conn law was e (is_closed bytes node front connection at gone) =
-    subst (λ w. KeepsOn config (told_of law.story) (after_hang config heard conn) w) (sym (hangs_at world conn node front connection _ law.whole gone.client at))
+hang_by config heard world conn law was e serves (is_closed bytes node front connection at gone) =
+    subst (λ w. KeepsOn config law.story (after_hang config heard conn) w)
+    (sym (hangs_at world conn node front connection _ law.whole gone.client at))
     (closes config heard world conn law bytes node front connection at (law.requests conn ∙ ap (λ h. requests_of (setting_of config) (frames_heard h)) e)
     (ap (λ h. hears config conn h (Hang conn)) e ∙ closed_heard config conn bytes)
     (record {
@@ -162,11 +187,12 @@ hang_by config heard world conn law was e (is_closed bytes node front connection
       count = gone.count;
       lasts = gone.lasts;
       client = gone.client;
-      place = gone.place;
+      here = gone.here;
       placed = gone.placed;
+      marked = gone.marked;
       left = gone.left;
     }))
 
-pub hang_keeps : (config : Config) (heard : ℕ → Heard) (world : World) (conn : ℕ) (law : KeepsLaw config heard world)
-    → KeepsOn config (told_of law.story) (after_hang config heard conn) (client_does world (Hung conn) (client_at world conn))
-hang_keeps config heard world conn law = hang_by config heard world conn law (heard conn) refl (law.connections conn)
+pub hang_keeps : (config : Config) (heard : ℕ → Heard) (world : World) (conn : ℕ) (law : KeepsLaw config heard world) → MasterServes config
+    → KeepsOn config law.story (after_hang config heard conn) (client_does world (Hung conn) (client_at world conn))
+hang_keeps config heard world conn law serves = hang_by config heard world conn law (heard conn) refl serves (law.connections conn)

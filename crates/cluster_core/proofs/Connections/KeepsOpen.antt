@@ -1,7 +1,5 @@
 -- A connection that is opened keeps the law.
-use Rattle.std.proofs.Common.{◌≡◌, ◌≢◌, ℕ, Bool, true, false, nat_eq, List, [], ◌++◌, length, Option, None, Some}
-use Rattle.std.proofs.Common.{inr, refl, sym, ◌∙◌, ap, subst}
-use Rattle.std.proofs.Common.{arith}
+use Rattle.std.proofs.Common.{◌≡◌, ◌≢◌, ℕ, ◌+◌, Bool, true, false, nat_eq, List, [], ◌∷◌, ◌++◌, length, Option, None, Some, inr, refl, sym, ◌∙◌, ap, subst, arith}
 use Rattle.std.specs.Prelude.{is_some}
 use Rattle.std.specs.Ordering.{nat_cmp}
 use Rattle.std.specs.Cmp.Lexicographic.{slice_cmp}
@@ -9,45 +7,53 @@ use Rattle.std.proofs.Math.Logic.{⊎_elim}
 use Rattle.std.proofs.lemmas.Bool.{cases_eq}
 use Rattle.std.proofs.lemmas.Bool.Decides.{nat_tests}
 use Rattle.std.proofs.lemmas.List.{append-nil}
+use Rattle.cluster_core.specs.Heard.{hears, is_frontend, opened_at}
+use Rattle.cluster_core.specs.World.{setting_of, carry, carry_all, client_at, comes, front_at, given_more, home_at, opens, with_client, with_state}
+use Rattle.cluster_core.specs.declared.world.Client.{Client}
+use Rattle.front_core.specs.Reading.{first_reading}
+use Rattle.front_core.proofs.OneConnection.Readings.{inputs_in, reading_of}
 use Rattle.front_core.specs.declared.front.Front.{Front}
-use Rattle.front_core.specs.Front.{connection_at, connect, connect_at}
+use Rattle.front_core.specs.Front.{Stepped, connection_at, connect, connect_at}
+use Rattle.front_core.specs.Slots.{new_connection}
 use Rattle.imap_reply.specs.Greeting.{greeting}
+use Rattle.imap_talk.specs.Heard.{Heard, nobody, elsewhere, client, frames_heard}
+use Rattle.imap_talk.specs.Inputs.{at_first, before_next, inputs_of}
 use Rattle.imap_talk.specs.SessionEnds.{has_ended}
 use Rattle.imap_talk.specs.Transcript.{replies_to, told_till}
+use Rattle.imap_talk.proofs.RequestsOf.{requests_of}
 use Rattle.imap_talk.proofs.TranscriptGrows.{AreAnswered, none_answered}
+use Rattle.imap_types.specs.declared.request.Answer.{Answer}
 use Rattle.imap_wire.specs.Frames.{begun}
 use Rattle.imap_wire.proofs.FeedLaws.{frames-nil}
-use Rattle.mur_base.specs.Map.{value_at, with_value, with_entry}
+use Rattle.link_msg.specs.declared.out.Out.TheVariants.{Client as to_client}
+use Rattle.many_links.specs.ManyHold.{ManyHold}
+use Rattle.mark_history.specs.Marked.{Tale, talk_told}
+use Rattle.mur_base.specs.Map.{with_value, with_entry}
 use Rattle.mur_base.proofs.MapLaws.{numbers_apart, value_at-with_value, value_at-with_value-other, value_at-with_entry, value_at-with_entry-other}
 use Rattle.mur_config.specs.declared.config.Config.{Config}
-use Rattle.imap_types.specs.declared.request.Answer.{Answer}
 use Rattle.mur_model.specs.declared.setting.Setting.{Setting}
 use Rattle.mur_model.proofs.HistoryGrows.{same_talk, talks_follow}
-use Rattle.schedule_text.specs.declared.event.Event.TheVariants.{Open}
-use Rattle.front_core.specs.Reading.{first_reading}
-use Rattle.front_core.specs.Slots.{new_connection}
-use Rattle.imap_talk.specs.Inputs.{at_first, before_next, inputs_of}
-use Rattle.cluster_core.specs.declared.world.Client.{Client}
 use Rattle.node_step.specs.declared.input.NodeInput.TheVariants.{Opened}
 use Rattle.node_step.specs.declared.node.NodeState.TheVariants as state
+use Rattle.schedule_text.specs.declared.event.Event.TheVariants.{Open}
 use Rattle.cluster_core.specs.declared.world.World.{World}
-use Rattle.imap_talk.specs.Heard.{Heard, nobody, elsewhere, client, frames_heard}
-use Rattle.cluster_core.specs.Heard.{hears, opened_at, is_frontend}
-use Rattle.cluster_core.specs.Shown.{held_by}
-use Rattle.cluster_core.specs.World.{client_at, node_at, front_at, setting_of, with_client, with_state, comes, opens, given_more, carry, carry_all}
-use Rattle.cluster_core.proofs.Connections.ConnectionLaw.{Story, told_of}
-use Rattle.cluster_core.proofs.Connections.Comes.{with_front, opened_comes, opened_elsewhere, front_here, homes_beside}
-use Rattle.cluster_core.proofs.Connections.OthersStay.{front_state, streams_put}
-use Rattle.node_step.proofs.NodeKinds.{front_is}
-use Rattle.front_core.proofs.OneConnection.Places.{nowhere}
-use Rattle.front_core.proofs.OneConnection.Standing.Stands.{reads}
-use Rattle.cluster_core.proofs.Connections.KeepsLaw.{ConnectionIs, IsUntold, KeepsLaw, KeepsOn, connection_stays}
-use Rattle.cluster_core.proofs.Connections.KeepsLaw.{looks_same, same_front}
+use Rattle.cluster_core.proofs.Commands.Place.{Place as place}
+use Rattle.cluster_core.proofs.Commands.Standing.{Fixed}
+use Rattle.cluster_core.proofs.Commands.Standing.Stands.{reads}
+use Rattle.cluster_core.proofs.Connections.ConnectionLaw.{PlacesStay}
+use Rattle.cluster_core.proofs.Connections.KeepsFront.{fronts_at_other, replicas_stay}
+use Rattle.cluster_core.proofs.Connections.KeepsLaw.{AreNodesOf, ConnectionIs, IsUntold, KeepsLaw, KeepsOn, fixed_of, murder_of}
 use Rattle.cluster_core.proofs.Connections.KeepsLaw.ConnectionIs.{is_nobody, is_elsewhere, is_open, is_closed}
-use Rattle.cluster_core.proofs.Connections.NameLaw.{name_stays}
-use Rattle.cluster_core.proofs.Connections.KeepsStill.{still_kept, fronts_at_other, nodes_alike, nodes_with_front}
-use Rattle.front_core.proofs.OneConnection.Readings.{inputs_in, reading_of}
-use Rattle.imap_talk.proofs.RequestsOf.{requests_of}
+use Rattle.cluster_core.proofs.Connections.KeepsStill.{MasterServes, elsewhere_kept, same_kept}
+use Rattle.cluster_core.proofs.Connections.Nowhere.{in_nowhere}
+use Rattle.cluster_core.proofs.Connections.Stays.{ReplicasStay, connection_stays, fixed_places, same_front}
+use Rattle.cluster_core.proofs.Connections.StillFed.{feeds_alike, fronts_were}
+use Rattle.cluster_core.proofs.Feeds.Many.{front_keeps_many, same_murder}
+use Rattle.cluster_core.proofs.Nodes.Comes.{FrontMoved, front_comes, front_moved, with_front}
+use Rattle.cluster_core.proofs.Nodes.Stay.{front_cores, same_nodes}
+use Rattle.cluster_core.proofs.Places.FrontWorlds.{alike_stay}
+
+-- ---- what is heard
 
 -- nothing is heard anew of a connection that was opened before, nor of another one
 heard_before : (config : Config) (conn : ℕ) (heard : Heard) (node : List ℕ) (other : ℕ) → (heard ≡ nobody → conn ≢ other)
@@ -61,25 +67,25 @@ heard_before config conn elsewhere node other ne = refl
 heard_before config conn (client bytes true) node other ne = refl
 heard_before config conn (client bytes false) node other ne = refl
 
-has_client : (setting : Setting) (home : List ℕ) (conn : ℕ) (world : World) (story : Story) (heard : Heard) (there : Client) → client_at world conn ≡ Some there
-    → ConnectionIs setting home conn world story heard → heard ≡ nobody → ⊥
-has_client setting home conn world story heard there at (is_nobody none fronts untold) e = cc
-has_client setting home conn world story heard there at (is_elsewhere node given is none untold) e = cc
-has_client setting home conn world story heard there at (is_open bytes node front connection is reader standing) e = cc
-has_client setting home conn world story heard there at (is_closed bytes node front connection is gone) e = cc
+has_client : (fixed : Fixed) (conn : ℕ) (world : World) (story : Tale) (heard : Heard) (there : Client) → client_at world conn ≡ Some there
+    → ConnectionIs fixed conn world story heard → heard ≡ nobody → ⊥
+has_client fixed conn world story heard there at (is_nobody none fronts untold) e = cc
+has_client fixed conn world story heard there at (is_elsewhere node given is none untold) e = cc
+has_client fixed conn world story heard there at (is_open bytes node front connection is reader standing) e = cc
+has_client fixed conn world story heard there at (is_closed bytes node front connection is gone) e = cc
 
 -- a connection without a client was never heard of
-record IsNew (conn : ℕ) (world : World) (story : Story) (heard : Heard) : Type 0 where
+record IsNew (fixed : Fixed) (conn : ℕ) (world : World) (story : Tale) (heard : Heard) : Type 0 where
   nobody_is : heard ≡ nobody
   fronts : (node : List ℕ) (front : Front) → front_at world node ≡ Some front → connection_at front conn ≡ None
-  untold : IsUntold conn world.links story
+  untold : IsUntold fixed conn world story
 
-is_new : (setting : Setting) (home : List ℕ) (conn : ℕ) (world : World) (story : Story) (heard : Heard) → client_at world conn ≡ None
-    → ConnectionIs setting home conn world story heard → IsNew conn world story heard
-is_new setting home conn world story heard at (is_nobody none fronts untold) = record { nobody_is = refl; fronts = fronts; untold = untold }
-is_new setting home conn world story heard at (is_elsewhere node given is none untold) = cc
-is_new setting home conn world story heard at (is_open bytes node front connection is reader standing) = (let k = standing.client in cc)
-is_new setting home conn world story heard at (is_closed bytes node front connection is gone) = (let k = gone.client in cc)
+is_new : (fixed : Fixed) (conn : ℕ) (world : World) (story : Tale) (heard : Heard) → client_at world conn ≡ None
+    → ConnectionIs fixed conn world story heard → IsNew fixed conn world story heard
+is_new fixed conn world story heard at (is_nobody none fronts untold) = record { nobody_is = refl; fronts = fronts; untold = untold }
+is_new fixed conn world story heard at (is_elsewhere node given is none untold) = cc
+is_new fixed conn world story heard at (is_open bytes node front connection is reader standing) = (let k = standing.client in cc)
+is_new fixed conn world story heard at (is_closed bytes node front connection is gone) = (let k = gone.client in cc)
 
 hears_first : (config : Config) (conn : ℕ) (heard : Heard) (node : List ℕ) (frontend : Bool) → heard ≡ nobody → is_frontend config node ≡ frontend
     → hears config conn heard (Open node conn) ≡ opened_at frontend
@@ -94,7 +100,7 @@ unfolding frames_heard
 first_frames true = sym frames-nil
 first_frames false = refl
 
-abbrev after_open : Config → (ℕ → Heard) → List ℕ → ℕ → ℕ → Heard
+abbrev pub after_open : Config → (ℕ → Heard) → List ℕ → ℕ → ℕ → Heard
 after_open config heard node conn other = hears config other (heard other) (Open node conn)
 
 other_after : (config : Config) (heard : ℕ → Heard) (node : List ℕ) (conn other : ℕ) → other ≢ conn → after_open config heard node conn other ≡ heard other
@@ -104,7 +110,7 @@ nothing_yet : (heard : Heard) → heard ≡ nobody → frames_heard heard ≡ []
 unfolding frames_heard
 nothing_yet heard e = ap frames_heard e
 
-requests_first : (config : Config) (story : Story) (heard : ℕ → Heard) (conn : ℕ) (node : List ℕ) → heard conn ≡ nobody
+requests_first : (config : Config) (story : Tale) (heard : ℕ → Heard) (conn : ℕ) (node : List ℕ) → heard conn ≡ nobody
     → ((c : ℕ) → story.talk.requests c ≡ requests_of (setting_of config) (frames_heard (heard c)))
     → (other : ℕ) → story.talk.requests other ≡ requests_of (setting_of config) (frames_heard (after_open config heard node conn other))
 requests_first config story heard conn node e all other = ⊎_elim
@@ -115,78 +121,99 @@ requests_first config story heard conn node e all other = ⊎_elim
     (λ (ne : other ≢ conn). all other ∙ ap (λ h. requests_of (setting_of config) (frames_heard h)) (sym (other_after config heard node conn other ne)))
     (cases_eq other conn)
 
--- a connection at a node that is no frontend
+-- ---- at a node that is no frontend
+
+just_front : {one other : Front} → Some one ≡ Some other → one ≡ other
+just_front h = cc
+
 joined_keeps : (config : Config) (heard : ℕ → Heard) (world : World) (node : List ℕ) (conn : ℕ) (law : KeepsLaw config heard world)
-    → front_at world node ≡ None
-    → IsNew conn world law.story (heard conn) → KeepsOn config (told_of law.story) (after_open config heard node conn) (with_client world node conn)
-joined_keeps config heard world node conn law none new =
+    → front_at world node ≡ None → IsNew (fixed_of config) conn world law.story (heard conn)
+    → KeepsOn config law.story (after_open config heard node conn) (with_client world node conn)
+joined_keeps config heard world node conn law none first =
+    let fixed : Fixed = fixed_of config in
     let next : World = with_client world node conn in
-    let off : is_frontend config node ≡ false = sym (law.nodes.frontends node) ∙ ap is_some none in
+    let off : is_frontend config node ≡ false = sym ((law.nodes).frontends node) ∙ ap is_some none in
+    let stay : (other : ℕ) → PlacesStay fixed other world next = λ other. alike_stay fixed other world next (λ any. refl) refl in
+    let replicas : ReplicasStay world next = λ any was now before later. ap (λ (f : Front). f.replica) (just_front (sym later ∙ before)) in
     record {
       law = record {
-        home = law.home;
-        backend = law.backend;
-        home_is = law.home_is;
-        nodes = nodes_alike config world next law.home (λ any. refl) law.nodes;
+        master = law.master;
+        nodes = same_nodes config world next law.master refl law.nodes;
         whole = law.whole;
-        streams = law.streams;
         story = law.story;
-        names = λ name. name_stays world next law.story.course.store law.story.course.store law.home name (λ any. refl) refl (law.names name);
-        serials = law.serials;
+        given = law.given;
+        many = same_murder (murder_of world law.master) (murder_of next law.master) law.given law.story.course.store refl (λ any. refl) refl law.many;
+        feeds = feeds_alike config world next law.master (λ any. refl) refl (λ any now there. record { was = now; at = there; same = refl }) law.feeds;
         is_told = law.is_told;
-        requests = requests_first config law.story heard conn node new.nobody_is law.requests;
+        requests = requests_first config law.story heard conn node first.nobody_is law.requests;
         connections = λ other. ⊎_elim
-            (λ (same : other ≡ conn). subst (λ c. ConnectionIs (setting_of config) law.home c next law.story (after_open config heard node conn c))
-            (sym same)
-            (subst (λ h. ConnectionIs (setting_of config) law.home conn next law.story h)
-            (sym (hears_first config conn (heard conn) node false new.nobody_is off))
-            (is_elsewhere node [] (value_at-with_entry nat_cmp numbers_apart world.clients conn (record { at = node; given = [] })) none new.untold)))
-            (λ (ne : other ≢ conn). subst (λ h. ConnectionIs (setting_of config) law.home other next law.story h)
-            (sym (other_after config heard node conn other ne))
-            (connection_stays (setting_of config) law.home other world next law.story law.story (heard other)
+            (λ (same : other ≡ conn). subst (λ c. ConnectionIs fixed c next law.story (after_open config heard node conn c)) (sym same)
+            (subst (λ h. ConnectionIs fixed conn next law.story h) (sym (hears_first config conn (heard conn) node false first.nobody_is off))
+            (is_elsewhere node [] (value_at-with_entry nat_cmp numbers_apart world.clients conn (record { at = node; given = [] })) none
+            (record {
+              told = (first.untold).told;
+              said = (first.untold).said;
+              session = (first.untold).session;
+              nothing = (stay conn).in_none (first.untold).nothing;
+            }))))
+            (λ (ne : other ≢ conn). subst (λ h. ConnectionIs fixed other next law.story h) (sym (other_after config heard node conn other ne))
+            (connection_stays fixed other world next law.story law.story (heard other)
             (record {
               fronts = λ any. same_front other (front_at world any) (front_at next any) refl;
               client = clients_other world node conn other ne;
-              places = λ here placed. placed;
+              in_place = fixed_places fixed other world next (stay other) replicas;
+              in_none = (stay other).in_none;
+              marks = λ command. refl;
               told = refl;
               said = refl;
               session = refl;
+              moving = refl;
             }) (law.connections other)))
             (cases_eq other conn);
       };
-      more = same_talk (told_of law.story);
+      more = same_talk (talk_told law.story);
       closed = λ other shut. refl;
+      moving = refl;
     }
 
-elsewhere_keeps : (config : Config) (heard : ℕ → Heard) (world : World) (node : List ℕ) (conn : ℕ) (law : KeepsLaw config heard world)
-    → front_at world node ≡ None → IsNew conn world law.story (heard conn)
-    → KeepsOn config (told_of law.story) (after_open config heard node conn) (comes (with_client world node conn) node (Opened conn))
-elsewhere_keeps config heard world node conn law none new =
-    let joined = joined_keeps config heard world node conn law none new in
+elsewhere_keeps : (config : Config) (heard : ℕ → Heard) (world : World) (node : List ℕ) (conn : ℕ) (law : KeepsLaw config heard world) → MasterServes config
+    → front_at world node ≡ None → IsNew (fixed_of config) conn world law.story (heard conn)
+    → KeepsOn config law.story (after_open config heard node conn) (comes (with_client world node conn) node (Opened conn))
+elsewhere_keeps config heard world node conn law serves none first =
+    let joined = joined_keeps config heard world node conn law none first in
     let after = after_open config heard node conn in
-    let put = still_kept config after after (with_client world node conn) (comes (with_client world node conn) node (Opened conn))
-    (opened_elsewhere (with_client world node conn) node conn [] (node_at world node) refl
-    (value_at-with_entry nat_cmp numbers_apart world.clients conn (record { at = node; given = [] })) none) (λ other. refl) joined.law in
+    let then = elsewhere_kept config after after (with_client world node conn) node conn (Opened conn) [] refl serves
+    (value_at-with_entry nat_cmp numbers_apart world.clients conn (record { at = node; given = [] })) none joined.law (λ other. refl) in
     record {
-      law = put.law;
-      more = talks_follow (told_of law.story) (told_of joined.law.story) (told_of put.law.story) joined.more put.more;
-      closed = λ other shut. put.closed other shut ∙ joined.closed other shut;
+      law = then.law;
+      more = talks_follow (talk_told law.story) (talk_told joined.law.story) (talk_told then.law.story) joined.more then.more;
+      closed = λ other shut. then.closed other shut ∙ joined.closed other shut;
+      moving = then.moving ∙ joined.moving;
     }
+
+-- ---- at a frontend
+
+abbrev with_new : Front → ℕ → Front
+with_new front conn = record front { connections = with_entry nat_cmp front.connections conn new_connection }
+
+abbrev greets_it : Front → ℕ → Stepped
+greets_it front conn = record { front = with_new front conn; outs = to_client conn greeting ∷ [] }
 
 abbrev greeted : World → List ℕ → ℕ → Front → World
 greeted world node conn front = record world {
-  nodes = with_value (slice_cmp nat_cmp) world.nodes node
-      (state.Front (record front { connections = with_entry nat_cmp front.connections conn new_connection }));
+  nodes = with_value (slice_cmp nat_cmp) world.nodes node (state.Front (with_new front conn));
   clients = with_value nat_cmp (with_entry nat_cmp world.clients conn (record { at = node; given = [] })) conn (record { at = node; given = [] ++ greeting });
 }
 
-greets : (world : World) (node : List ℕ) (conn : ℕ) (front : Front) → connection_at front conn ≡ None
-    → with_front (with_client world node conn) node (connect front conn) ≡ greeted world node conn front
-unfolding connect connect_at carry_all carry given_more
-greets world node conn front none =
-    ap (λ f. with_front (with_client world node conn) node (connect_at front conn f)) none
-    ∙ ap (given_more (with_state (with_client world node conn) node
-    (state.Front (record front { connections = with_entry nat_cmp front.connections conn new_connection }))) conn greeting)
+connects : (front : Front) (conn : ℕ) → connection_at front conn ≡ None → connect front conn ≡ greets_it front conn
+unfolding connect connect_at
+connects front conn none = ap (connect_at front conn) none
+
+greets : (world : World) (node : List ℕ) (conn : ℕ) (front : Front)
+    → with_front (with_client world node conn) node (greets_it front conn) ≡ greeted world node conn front
+unfolding carry_all carry given_more
+greets world node conn front =
+    ap (given_more (with_state (with_client world node conn) node (state.Front (with_new front conn))) conn greeting)
     (value_at-with_entry nat_cmp numbers_apart world.clients conn (record { at = node; given = [] }))
 
 greeting_alone : (setting : Setting) (told : List Answer) → told ≡ [] → greeting ≡ greeting ++ replies_to (inputs_in setting []) told
@@ -201,92 +228,102 @@ first_reader : (setting : Setting) → first_reading ≡ reading_of setting []
 unfolding before_next
 first_reader setting = ap (λ f. record { held = begun []; before = before_next setting at_first f }) frames-nil
 
--- a connection at a frontend is greeted
 front_keeps_open : (config : Config) (heard : ℕ → Heard) (world : World) (node : List ℕ) (conn : ℕ) (front : Front) (law : KeepsLaw config heard world)
-    → front_at world node ≡ Some front
-    → IsNew conn world law.story (heard conn)
-    → KeepsOn config (told_of law.story) (after_open config heard node conn) (with_front (with_client world node conn) node (connect front conn))
+    → front_at world node ≡ Some front → IsNew (fixed_of config) conn world law.story (heard conn)
+    → KeepsOn config law.story (after_open config heard node conn) (greeted world node conn front)
 unfolding new_connection
-front_keeps_open config heard world node conn front law at new =
+front_keeps_open config heard world node conn front law at first =
+    let fixed : Fixed = fixed_of config in
+    let joined : World = with_client world node conn in
     let next : World = greeted world node conn front in
-    let later : Front = record front { connections = with_entry nat_cmp front.connections conn new_connection } in
-    let first : Client = record { at = node; given = [] } in
-    let on : is_frontend config node ≡ true = sym (law.nodes.frontends node) ∙ ap is_some at in
-    subst (λ w. KeepsOn config (told_of law.story) (after_open config heard node conn) w) (sym (greets world node conn front (new.fronts node front at)))
-    (record {
+    let later : Front = with_new front conn in
+    let new_client : Client = record { at = node; given = [] } in
+    let on : is_frontend config node ≡ true = sym ((law.nodes).frontends node) ∙ ap is_some at in
+    let step : FrontMoved joined node later next =
+    subst (λ w. FrontMoved joined node later w) (greets world node conn front) (front_moved joined node front (greets_it front conn) at) in
+    let moved : FrontMoved world node later next = record { own = step.own; fronts = step.fronts; homes = step.homes; masters = step.masters } in
+    let stay : (other : ℕ) → PlacesStay fixed other world next = λ other. alike_stay fixed other world next moved.homes refl in
+    let nodes_then : AreNodesOf config joined law.master = same_nodes config world joined law.master refl law.nodes in
+    let many_then : ManyHold (murder_of joined law.master) law.given law.story.course.store =
+    same_murder (murder_of world law.master) (murder_of joined law.master) law.given law.story.course.store refl (λ any. refl) refl law.many in
+    record {
       law = record {
-        home = law.home;
-        backend = law.backend;
-        home_is = homes_beside world node front later at law.home ∙ law.home_is;
-        nodes = nodes_with_front config world next law.home node front later at refl refl refl law.nodes;
+        master = law.master;
+        nodes = front_cores config world next law.master law.nodes node front later at
+            (record { me = refl; master = refl; first = refl; setting = refl }) moved;
         whole = law.whole;
-        streams = streams_put world node (state.Front front) (state.Front later) (front_is (node_at world node) front at) (front_state later) law.streams;
         story = law.story;
-        names = λ name. name_stays world next law.story.course.store law.story.course.store law.home name
-            (λ any. ap (λ h. value_at (slice_cmp nat_cmp) (held_by h) name) (homes_beside world node front later at any)) refl (law.names name);
-        serials = law.serials;
+        given = law.given;
+        many = subst (λ w. ManyHold (murder_of w law.master) law.given law.story.course.store) (greets world node conn front)
+            (front_keeps_many config joined law.master law.given law.story.course.store nodes_then many_then node front (greets_it front conn) at);
+        feeds = feeds_alike config world next law.master moved.homes refl (fronts_were world next node front later at moved refl) law.feeds;
         is_told = law.is_told;
-        requests = requests_first config law.story heard conn node new.nobody_is law.requests;
+        requests = requests_first config law.story heard conn node first.nobody_is law.requests;
         connections = λ other. ⊎_elim
-            (λ (same : other ≡ conn). subst (λ c. ConnectionIs (setting_of config) law.home c next law.story (after_open config heard node conn c))
-            (sym same)
-            (subst (λ h. ConnectionIs (setting_of config) law.home conn next law.story h)
-            (sym (hears_first config conn (heard conn) node true new.nobody_is on))
+            (λ (same : other ≡ conn). subst (λ c. ConnectionIs fixed c next law.story (after_open config heard node conn c)) (sym same)
+            (subst (λ h. ConnectionIs fixed conn next law.story h) (sym (hears_first config conn (heard conn) node true first.nobody_is on))
             (is_open [] node later new_connection
+            (record { at = moved.own; has = value_at-with_entry nat_cmp numbers_apart front.connections conn new_connection })
+            (inr (first_reader (setting_of config)))
             (record {
-              at = front_here world node front later at;
-              has = value_at-with_entry nat_cmp numbers_apart front.connections conn new_connection;
-            }) (inr (first_reader (setting_of config)))
-            (record {
-              count = ap length (sym new.untold.told);
-              client = value_at-with_value nat_cmp numbers_apart (with_entry nat_cmp world.clients conn first) conn
-                  (record { at = node; given = [] ++ greeting }) first
-                  (value_at-with_entry nat_cmp numbers_apart world.clients conn first)
-                  ∙ ap (λ g. Some (record { at = node; given = g })) (greeting_alone (setting_of config) (law.story.told conn) new.untold.told);
-              place = nowhere;
-              placed = new.untold.nothing;
-              stands = reads refl refl (sym new.untold.session) (ap has_ended new.untold.session) (all_answered (setting_of config)
-                  (law.story.told conn) new.untold.told)
-                  (new.untold.said ∙ sym new.untold.told) refl;
+              count = ap length (sym (first.untold).told);
+              client = value_at-with_value nat_cmp numbers_apart (with_entry nat_cmp world.clients conn new_client) conn
+                  (record { at = node; given = [] ++ greeting }) new_client
+                  (value_at-with_entry nat_cmp numbers_apart world.clients conn new_client)
+                  ∙ ap (λ g. Some (record { at = node; given = g })) (greeting_alone (setting_of config) (law.story.told conn) (first.untold).told);
+              here = place.nowhere;
+              placed = in_nowhere fixed.master (home_at next) next.links node later.replica conn (length (law.story.told conn) + 1)
+                  ((stay conn).in_none (first.untold).nothing);
+              marked = tt;
+              stands = reads refl refl (sym (first.untold).session) (ap has_ended (first.untold).session) (all_answered (setting_of config)
+                  (law.story.told conn) (first.untold).told)
+                  ((first.untold).said ∙ sym (first.untold).told) refl;
             }))))
-            (λ (ne : other ≢ conn). subst (λ h. ConnectionIs (setting_of config) law.home other next law.story h)
-            (sym (other_after config heard node conn other ne))
-            (connection_stays (setting_of config) law.home other world next law.story law.story (heard other)
+            (λ (ne : other ≢ conn). subst (λ h. ConnectionIs fixed other next law.story h) (sym (other_after config heard node conn other ne))
+            (connection_stays fixed other world next law.story law.story (heard other)
             (record {
-              fronts = fronts_at_other world node front later other at
+              fronts = fronts_at_other world next node front later other at moved
                   (value_at-with_entry-other nat_cmp numbers_apart front.connections conn other new_connection ne);
-              client = value_at-with_value-other nat_cmp numbers_apart (with_entry nat_cmp world.clients conn first) conn other
+              client = value_at-with_value-other nat_cmp numbers_apart (with_entry nat_cmp world.clients conn new_client) conn other
                   (record { at = node; given = [] ++ greeting }) ne
                   ∙ clients_other world node conn other ne;
-              places = λ here placed. placed;
+              in_place = fixed_places fixed other world next (stay other) (replicas_stay world next node front later at moved refl);
+              in_none = (stay other).in_none;
+              marks = λ command. refl;
               told = refl;
               said = refl;
               session = refl;
+              moving = refl;
             }) (law.connections other)))
             (cases_eq other conn);
       };
-      more = same_talk (told_of law.story);
+      more = same_talk (talk_told law.story);
       closed = λ other shut. refl;
-    })
+      moving = refl;
+    }
+
+-- ---- the event
 
 open_by : (config : Config) (heard : ℕ → Heard) (world : World) (node : List ℕ) (conn : ℕ) (found : Option Front) → front_at world node ≡ found
-    → (law : KeepsLaw config heard world) → IsNew conn world law.story (heard conn)
-    → KeepsOn config (told_of law.story) (after_open config heard node conn) (comes (with_client world node conn) node (Opened conn))
-open_by config heard world node conn None at law new = elsewhere_keeps config heard world node conn law at new
-open_by config heard world node conn (Some front) at law new =
-    subst (λ w. KeepsOn config (told_of law.story) (after_open config heard node conn) w)
-    (sym (opened_comes (with_client world node conn) node conn front law.whole at))
-    (front_keeps_open config heard world node conn front law at new)
+    → (law : KeepsLaw config heard world) → MasterServes config → IsNew (fixed_of config) conn world law.story (heard conn)
+    → KeepsOn config law.story (after_open config heard node conn) (comes (with_client world node conn) node (Opened conn))
+open_by config heard world node conn None at law serves first = elsewhere_keeps config heard world node conn law serves at first
+open_by config heard world node conn (Some front) at law serves first =
+    subst (λ w. KeepsOn config law.story (after_open config heard node conn) w)
+    (sym (front_comes (with_client world node conn) node (Opened conn) front law.whole at
+    ∙ ap (with_front (with_client world node conn) node) (connects front conn (first.fronts node front at))
+    ∙ greets world node conn front))
+    (front_keeps_open config heard world node conn front law at first)
 
 pub open_keeps : (config : Config) (heard : ℕ → Heard) (world : World) (node : List ℕ) (conn : ℕ) (there : Option Client) → client_at world conn ≡ there
-    → (law : KeepsLaw config heard world)
-    → KeepsOn config (told_of law.story) (after_open config heard node conn) (opens world node conn there)
+    → (law : KeepsLaw config heard world) → MasterServes config
+    → KeepsOn config law.story (after_open config heard node conn) (opens world node conn there)
 unfolding opens
-open_keeps config heard world node conn None at law =
-    open_by config heard world node conn (front_at world node) refl law
-    (is_new (setting_of config) law.home conn world law.story (heard conn) at (law.connections conn))
-open_keeps config heard world node conn (Some there) at law =
-    still_kept config heard (after_open config heard node conn) world world (looks_same world)
+open_keeps config heard world node conn None at law serves =
+    open_by config heard world node conn (front_at world node) refl law serves
+    (is_new (fixed_of config) conn world law.story (heard conn) at (law.connections conn))
+open_keeps config heard world node conn (Some there) at law serves =
+    same_kept config heard (after_open config heard node conn) world
     (λ other. heard_before config other (heard other) node conn
-    (λ e. λ same. has_client (setting_of config) law.home conn world law.story (heard conn) there at (law.connections conn)
+    (λ e. λ same. has_client (fixed_of config) conn world law.story (heard conn) there at (law.connections conn)
     (sym (ap heard same) ∙ e))) law

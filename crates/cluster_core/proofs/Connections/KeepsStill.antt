@@ -1,77 +1,56 @@
--- A step that changes nothing which can be looked up keeps the law; and what a step of one frontend leaves of the others.
-use Rattle.std.proofs.Common.{◌≡◌, ◌≢◌, ℕ, List, [], ◌∷◌, Option, None, Some, refl, sym, ◌∙◌, ap, subst}
-use Rattle.std.specs.Prelude.{is_some}
+-- A step in which no connection of a frontend changes keeps the law: what was heard stays, every look-up of a connection or a client finds what it found, and
+-- each command is where it was. A client that is connected where no frontend is may be given more.
+use Rattle.std.proofs.Common.{◌≡◌, ℕ, ◌≤◌, List, [], Option, None, Some, refl, sym, ◌∙◌, ap, subst, arith}
 use Rattle.std.specs.Ordering.{nat_cmp}
 use Rattle.std.specs.Cmp.Lexicographic.{slice_cmp}
-use Rattle.std.proofs.Math.Logic.{⊎_elim}
-use Rattle.front_core.specs.declared.front.Front.{Front}
-use Rattle.front_core.specs.Front.{connection_at}
-use Rattle.link_msg.specs.declared.out.Out.{Out}
-use Rattle.link_msg.specs.declared.out.Out.TheVariants.{Client as to_client, Close, Link as to_node, Mark as mark, Told as tell}
-use Rattle.mur_base.specs.Map.{value_at, with_value}
-use Rattle.mur_base.proofs.MapLaws.{names_apart, same_or_other}
-use Rattle.mur_config.specs.declared.config.Config.{Config}
-use Rattle.mur_model.specs.declared.setting.Setting.{Setting}
-use Rattle.mur_model.proofs.HistoryGrows.{same_talk}
+use Rattle.std.proofs.lemmas.Map.Steps.{set_value_same}
+use Rattle.back_node.specs.declared.node.BackNode.{BackNode}
+use Rattle.cluster_core.specs.World.{master_of, setting_of, carry_all, client_at, comes, front_at, home_at, node_at, stepped, with_state}
 use Rattle.cluster_core.specs.declared.world.Client.{Client}
+use Rattle.front_core.specs.declared.front.Front.{Front}
+use Rattle.imap_talk.specs.Heard.{Heard, frames_heard}
+use Rattle.imap_talk.proofs.RequestsOf.{requests_of}
+use Rattle.many_links.specs.ManyHold.{ManyHold}
+use Rattle.mark_history.specs.Marked.{AreMarked, Tale, talk_told}
+use Rattle.mark_history.specs.Marked.AreMarked.{a_step}
+use Rattle.master_core.specs.declared.master.Master.{Master}
+use Rattle.mur_base.specs.Map.{value_at}
+use Rattle.std.specs.BTreeMap.{is_at}
+use Rattle.mur_config.specs.declared.config.Config.{Config}
+use Rattle.mur_model.proofs.HistoryGrows.{same_talk}
+use Rattle.node_step.specs.declared.input.NodeInput.{NodeInput}
+use Rattle.node_step.specs.declared.input.NodeInput.TheVariants.{Opened, Piece, Hung, From}
 use Rattle.node_step.specs.declared.node.NodeState.{NodeState}
 use Rattle.node_step.specs.declared.node.NodeState.TheVariants as state
-use Rattle.node_step.specs.NodeStep.{as_front}
+use Rattle.node_step.specs.NodeStep.{as_back, as_front, as_master}
 use Rattle.cluster_core.specs.declared.world.World.{World}
-use Rattle.imap_talk.specs.Heard.{Heard, frames_heard}
-use Rattle.cluster_core.specs.Shown.{held_by}
-use Rattle.cluster_core.specs.World.{client_at, front_at, setting_of, given_more, carry, carry_all, with_state}
-use Rattle.cluster_core.proofs.Connections.ConnectionLaw.{Story, told_of}
-use Rattle.cluster_core.proofs.Connections.Comes.{front_here, front_other}
-use Rattle.cluster_core.proofs.Connections.NameLaw.{name_stays}
-use Rattle.cluster_core.proofs.Connections.KeepsLaw.{ConnectionIs, AreNodesOf, KeepsLaw, KeepsOn, LooksAlike, SameFront, same_front, connection_stays}
-use Rattle.cluster_core.proofs.Connections.KeepsLaw.{ClientStays}
-use Rattle.cluster_core.proofs.Connections.KeepsLaw.ClientStays.{same_client, given_elsewhere}
+use Rattle.cluster_core.proofs.Commands.Place.{Place}
+use Rattle.cluster_core.proofs.Commands.Standing.{Fixed}
+use Rattle.cluster_core.proofs.Connections.ConnectionLaw.{IsInNoneOf, IsInPlaceOf, MarksStay, PlacesStay}
+use Rattle.cluster_core.proofs.Connections.KeepsLaw.{AreNodesOf, ConnectionIs, FeedsHold, KeepsLaw, KeepsOn, fixed_of, murder_of}
 use Rattle.cluster_core.proofs.Connections.KeepsLaw.ConnectionIs.{is_nobody, is_elsewhere, is_open, is_closed}
-use Rattle.cluster_core.proofs.Connections.KeepsLaw.SameFront.{both, both_none}
-use Rattle.cluster_core.proofs.Connections.KeepsLaw.{FrontStays}
-use Rattle.cluster_core.proofs.Connections.KeepsLaw.FrontStays.{no_front_there, front_there}
-use Rattle.imap_talk.proofs.RequestsOf.{requests_of}
-use Rattle.mark_history.proofs.Told.{IsTold, told_later}
+use Rattle.cluster_core.proofs.Connections.Stays.{SameFront, StaysInPlace, connection_stays, same_front}
+use Rattle.cluster_core.proofs.Connections.Stays.SameFront.{both_none, both}
+use Rattle.cluster_core.proofs.Connections.StillFed.{feeds_alike}
+use Rattle.cluster_core.proofs.Feeds.Many.{same_murder}
+use Rattle.cluster_core.proofs.Nodes.Comes.{home_comes, home_does, none_comes, with_home}
+use Rattle.cluster_core.proofs.Nodes.Stay.{same_nodes}
+use Rattle.cluster_core.proofs.Places.FrontWorlds.{SameHomes, alike_stay}
 
-pub nodes_alike : (config : Config) (world next : World) (home : List ℕ) → ((node : List ℕ) → front_at next node ≡ front_at world node)
-    → AreNodesOf config world home → AreNodesOf config next home
-nodes_alike config world next home fronts nodes = record {
-  home_no_front = fronts home ∙ nodes.home_no_front;
-  fronts = λ node front at. nodes.fronts node front (sym (fronts node) ∙ at);
-  frontends = λ node. ap is_some (fronts node) ∙ nodes.frontends node;
-  home_for = nodes.home_for;
-}
+-- a client is as it was, or it is connected where no frontend is, and was given more
+pub data ClientStays (conn : ℕ) (world next : World) : Type 0 where
+  same_client : client_at next conn ≡ client_at world conn → ClientStays conn world next
+  given_elsewhere : (node was now : List ℕ) → front_at world node ≡ None → client_at world conn ≡ Some (record { at = node; given = was })
+      → client_at next conn ≡ Some (record { at = node; given = now }) → ClientStays conn world next
 
-stays_known : (was now : Option Front) (front : Front) (setting : Setting) (home : List ℕ) → FrontStays was now → now ≡ Some front
-    → ((it : Front) → was ≡ Some it → (it.home ≡ home) × (it.setting ≡ setting)) → (front.home ≡ home) × (front.setting ≡ setting)
-stays_known was now front setting home no_front_there e known = cc
-stays_known was now front setting home (front_there one two connections same_home same_setting) e known =
-    let is : two ≡ front = cc in
-    let were = known one refl in
-    (ap (λ (f : Front). f.home) (sym is) ∙ same_home ∙ were.0, ap (λ (f : Front). f.setting) (sym is) ∙ same_setting ∙ were.1)
-
-pub stays_there : (was now : Option Front) → FrontStays was now → is_some now ≡ is_some was
-stays_there was now no_front_there = refl
-stays_there was now (front_there one two connections home setting) = refl
-
-pub stays_none : (was now : Option Front) → FrontStays was now → was ≡ None → now ≡ None
-stays_none was now no_front_there e = refl
-stays_none was now (front_there one two connections home setting) e = cc
-
-stays_at : (conn : ℕ) (was now : Option Front) → FrontStays was now → SameFront conn was now
-stays_at conn was now no_front_there = both_none
-stays_at conn was now (front_there one two connections home setting) = both one two (ap (λ c. value_at nat_cmp c conn) connections)
-
--- the nodes where each frontend has the connections that it had
-pub nodes_stay : (config : Config) (world next : World) (home : List ℕ) → ((node : List ℕ) → FrontStays (front_at world node) (front_at next node))
-    → AreNodesOf config world home → AreNodesOf config next home
-nodes_stay config world next home fronts nodes = record {
-  home_no_front = stays_none (front_at world home) (front_at next home) (fronts home) nodes.home_no_front;
-  fronts = λ node front at. stays_known (front_at world node) (front_at next node) front (setting_of config) home (fronts node) at (nodes.fronts node);
-  frontends = λ node. stays_there (front_at world node) (front_at next node) (fronts node) ∙ nodes.frontends node;
-  home_for = nodes.home_for;
-}
+pub record SeesAlike (fixed : Fixed) (world next : World) : Type 0 where
+  pub fronts : (conn : ℕ) (node : List ℕ) → SameFront conn (front_at world node) (front_at next node)
+  pub clients : (conn : ℕ) → ClientStays conn world next
+  pub in_place : (conn : ℕ) → StaysInPlace fixed conn world next
+  pub in_none : (conn : ℕ) → IsInNoneOf fixed world conn → IsInNoneOf fixed next conn
+  pub broken : next.broken ≡ world.broken
+  pub marks : next.marks ≡ world.marks
+  pub steps : world.steps ≤ next.steps
 
 -- a client at a frontend isn't one where no frontend is
 not_at_both : (world : World) (conn : ℕ) (node other : List ℕ) (front : Front) (client known : Client) → front_at world node ≡ Some front
@@ -82,118 +61,175 @@ not_at_both world conn node other front client known is none one two at known_at
     let no : Some front ≡ None = sym is ∙ ap (front_at world) nodes ∙ none in
     cc
 
-pub alike_stays : (setting : Setting) (home : List ℕ) (conn : ℕ) (world next : World) (story : Story) (heard : Heard) → LooksAlike world next
-    → ClientStays conn world next → ConnectionIs setting home conn world story heard → ConnectionIs setting home conn next story heard
-alike_stays setting home conn world next story heard alike (same_client same) is =
-    connection_stays setting home conn world next story story heard
+no_front_now : (conn : ℕ) (was now : Option Front) → SameFront conn was now → was ≡ None → now ≡ None
+no_front_now conn was now both_none e = refl
+no_front_now conn was now (both one two same) e = cc
+
+pub alike_stays : (fixed : Fixed) (conn : ℕ) (world next : World) (story : Tale) (heard : Heard) → SeesAlike fixed world next
+    → ClientStays conn world next → ConnectionIs fixed conn world story heard → ConnectionIs fixed conn next story heard
+alike_stays fixed conn world next story heard alike (same_client same) is =
+    connection_stays fixed conn world next story story heard
     (record {
-      fronts = λ node. stays_at conn (front_at world node) (front_at next node) (alike.fronts node);
+      fronts = alike.fronts conn;
       client = same;
-      places = alike.places conn;
+      in_place = alike.in_place conn;
+      in_none = alike.in_none conn;
+      marks = subst (MarksStay conn world.marks) (sym alike.marks) (λ command. refl);
       told = refl;
       said = refl;
       session = refl;
+      moving = refl;
     }) is
-alike_stays setting home conn world next story heard alike (given_elsewhere node was now none before after) (is_nobody nothing fronts untold) =
+alike_stays fixed conn world next story heard alike (given_elsewhere node was now none before after) (is_nobody nothing fronts untold) =
     absurd (let no : Some (record { at = node; given = was }) ≡ None = sym before ∙ nothing in cc)
-alike_stays setting home conn world next story heard alike (given_elsewhere node was now none before after) (is_elsewhere there given at no_front untold) =
-    is_elsewhere node now after (stays_none (front_at world node) (front_at next node) (alike.fronts node) none)
-    (record { told = untold.told; said = untold.said; session = untold.session; nothing = alike.places conn None untold.nothing })
-alike_stays setting home conn world next story heard alike (given_elsewhere node was now none before after)
+alike_stays fixed conn world next story heard alike (given_elsewhere node was now none before after) (is_elsewhere there given at no_front untold) =
+    is_elsewhere node now after (no_front_now conn (front_at world node) (front_at next node) (alike.fronts conn node) none)
+    (record { told = untold.told; said = untold.said; session = untold.session; nothing = alike.in_none conn untold.nothing })
+alike_stays fixed conn world next story heard alike (given_elsewhere node was now none before after)
     (is_open bytes there front connection at reader standing) =
     absurd (not_at_both world conn there node front _ _ at.at none standing.client before refl refl)
-alike_stays setting home conn world next story heard alike (given_elsewhere node was now none before after) (is_closed bytes there front connection at gone) =
+alike_stays fixed conn world next story heard alike (given_elsewhere node was now none before after) (is_closed bytes there front connection at gone) =
     absurd (not_at_both world conn there node front _ _ at.at none gone.client before refl refl)
 
-unfoldable pub still_kept : (config : Config) (heard after : ℕ → Heard) (world next : World) → LooksAlike world next → ((conn : ℕ) → after conn ≡ heard conn)
-    → (law : KeepsLaw config heard world) → KeepsOn config (told_of law.story) after next
-still_kept config heard after world next alike same law = record {
+-- the nodes, the names and the feeds in the next world are as they are told here
+unfoldable pub still_kept : (config : Config) (heard after : ℕ → Heard) (world next : World) (master : Master) → SeesAlike (fixed_of config) world next
+    → ((conn : ℕ) → after conn ≡ heard conn) → (law : KeepsLaw config heard world) → AreNodesOf config next master
+    → ManyHold (murder_of next master) law.given law.story.course.store → FeedsHold config next master
+    → KeepsOn config law.story after next
+still_kept config heard after world next master alike same law nodes many feeds = record {
   law = record {
-    home = law.home;
-    backend = law.backend;
-    home_is = alike.homes law.home ∙ law.home_is;
-    nodes = nodes_stay config world next law.home alike.fronts law.nodes;
+    master = master;
+    nodes = nodes;
     whole = alike.broken ∙ law.whole;
-    streams = alike.streams law.streams;
     story = law.story;
-    names = λ name. name_stays world next law.story.course.store law.story.course.store law.home name
-        (λ node. ap (λ h. value_at (slice_cmp nat_cmp) (held_by h) name) (alike.homes node)) refl (law.names name);
-    serials = law.serials;
-    is_told = subst (λ m. IsTold (setting_of config) next.steps m law.story.talk law.story.told law.story.course) (sym alike.marks)
-        (told_later (setting_of config) world.steps next.steps world.marks law.story.talk law.story.told law.story.course alike.steps law.is_told);
+    given = law.given;
+    many = many;
+    feeds = feeds;
+    is_told = subst (λ m. AreMarked (setting_of config) next.steps m law.story) (sym alike.marks)
+        (a_step world.steps next.steps world.marks law.story alike.steps law.is_told);
     requests = λ conn. law.requests conn ∙ ap (λ h. requests_of (setting_of config) (frames_heard h)) (sym (same conn));
-    connections = λ conn. subst (λ h. ConnectionIs (setting_of config) law.home conn next law.story h) (sym (same conn))
-        (alike_stays (setting_of config) law.home conn world next law.story (heard conn) alike (alike.clients conn) (law.connections conn));
+    connections = λ conn. subst (λ h. ConnectionIs (fixed_of config) conn next law.story h) (sym (same conn))
+        (alike_stays (fixed_of config) conn world next law.story (heard conn) alike (alike.clients conn) (law.connections conn));
   };
-  more = same_talk (told_of law.story);
+  more = same_talk (talk_told law.story);
   closed = λ conn shut. refl;
+  moving = refl;
 }
 
--- what the frontends are for another connection after a step of one connection at one of them
-pub fronts_at_other : (world : World) (node : List ℕ) (front next : Front) (other : ℕ) → front_at world node ≡ Some front
-    → connection_at next other ≡ connection_at front other
-    → (any : List ℕ) → SameFront other (front_at world any) (front_at (with_state world node (state.Front next)) any)
-fronts_at_other world node front next other at same any = ⊎_elim
-    (λ (e : any ≡ node). subst (λ n. SameFront other (front_at world n) (front_at (with_state world node (state.Front next)) n)) (sym e)
-    (subst (λ f. SameFront other f (front_at (with_state world node (state.Front next)) node)) (sym at)
-    (subst (λ f. SameFront other (Some front) f) (sym (front_here world node front next at)) (both front next same))))
-    (λ (ne : any ≢ node). same_front other (front_at world any) (front_at (with_state world node (state.Front next)) any)
-    (front_other world node any (state.Front next) ne))
-    (same_or_other (slice_cmp nat_cmp) names_apart any node)
+-- ---- a world in which nothing changed but perhaps the number of its last step
 
--- the nodes with another state of one frontend
-pub nodes_with_front : (config : Config) (world next : World) (asked : List ℕ) (node : List ℕ) (front later : Front) → front_at world node ≡ Some front
-    → next.nodes ≡ with_value (slice_cmp nat_cmp) world.nodes node (state.Front later)
-    → later.home ≡ front.home → later.setting ≡ front.setting → AreNodesOf config world asked → AreNodesOf config next asked
-nodes_with_front config world next asked node front later at changed home setting nodes =
-    let put : World = with_state world node (state.Front later) in
-    let here : (any : List ℕ) → front_at next any ≡ front_at put any = λ any. ap (λ n. as_front (value_at (slice_cmp nat_cmp) n any)) changed in
+just_front : {one other : Front} → Some one ≡ Some other → one ≡ other
+just_front e = cc
+
+abbrev IsThere : Fixed → World → List ℕ → Front → ℕ → ℕ → Place → Type 0
+IsThere fixed next node f conn command here = IsInPlaceOf fixed next node f.replica (record { conn = conn; command = command }) here
+
+pub alike_but_steps : (fixed : Fixed) (world next : World) → next.nodes ≡ world.nodes → next.clients ≡ world.clients → next.broken ≡ world.broken
+    → next.links ≡ world.links → next.marks ≡ world.marks → world.steps ≤ next.steps → SeesAlike fixed world next
+alike_but_steps fixed world next nodes clients broken links marks steps =
+    let fronts : (node : List ℕ) → front_at next node ≡ front_at world node = λ node. ap (λ n. as_front (value_at (slice_cmp nat_cmp) n node)) nodes in
+    let homes : SameHomes world next = λ node. ap (λ n. as_back (value_at (slice_cmp nat_cmp) n node)) nodes in
+    let stay : (conn : ℕ) → PlacesStay fixed conn world next = λ conn. alike_stay fixed conn world next homes links in
     record {
-      home_no_front = here asked ∙ front_other world node asked (state.Front later)
-          (λ e. some_none front (sym at ∙ ap (front_at world) (sym e) ∙ nodes.home_no_front)) ∙ nodes.home_no_front;
-      fronts = λ any found is. ⊎_elim
-          (λ (e : any ≡ node). let same : later ≡ found = just (sym (front_here world node front later at)
-          ∙ ap (front_at put) (sym e) ∙ sym (here any) ∙ is) in
-          let was = nodes.fronts node front at in
-          (ap (λ (f : Front). f.home) (sym same) ∙ home ∙ was.0, ap (λ (f : Front). f.setting) (sym same) ∙ setting ∙ was.1))
-          (λ (ne : any ≢ node). nodes.fronts any found (sym (front_other world node any (state.Front later) ne) ∙ sym (here any) ∙ is))
-          (same_or_other (slice_cmp nat_cmp) names_apart any node);
-      frontends = λ any. ap is_some (here any) ∙ ⊎_elim
-          (λ (e : any ≡ node). ap (λ n. is_some (front_at put n)) e ∙ ap is_some (front_here world node front later at) ∙ sym (ap is_some at)
-          ∙ ap (λ n. is_some (front_at world n)) (sym e))
-          (λ (ne : any ≢ node). ap is_some (front_other world node any (state.Front later) ne))
-          (same_or_other (slice_cmp nat_cmp) names_apart any node) ∙ nodes.frontends any;
-      home_for = nodes.home_for;
+      fronts = λ conn node. same_front conn (front_at world node) (front_at next node) (fronts node);
+      clients = λ conn. same_client (ap (λ c. value_at nat_cmp c conn) clients);
+      in_place = λ conn node was now before after command here is.
+          (let same : was ≡ now = just_front (sym before ∙ (sym (fronts node) ∙ after)) in
+          subst (λ (f : Front). IsThere fixed next node f conn command here) same ((stay conn).in_place node was.replica command here is));
+      in_none = λ conn. (stay conn).in_none;
+      broken = broken;
+      marks = marks;
+      steps = steps;
     }
-  where
-    some_none : (f : Front) → Some f ≡ None → ⊥
-    some_none f h = cc
 
-    just : {one other : Front} → Some one ≡ Some other → one ≡ other
-    just h = cc
+-- the law of such a world
+pub quiet_kept : (config : Config) (heard after : ℕ → Heard) (world next : World) → next.nodes ≡ world.nodes → next.clients ≡ world.clients
+    → next.broken ≡ world.broken → next.links ≡ world.links → next.marks ≡ world.marks → world.steps ≤ next.steps
+    → ((conn : ℕ) → after conn ≡ heard conn) → (law : KeepsLaw config heard world) → KeepsOn config law.story after next
+quiet_kept config heard after world next nodes clients broken links marks steps same law =
+    let homes : SameHomes world next = λ node. ap (λ n. as_back (value_at (slice_cmp nat_cmp) n node)) nodes in
+    still_kept config heard after world next law.master (alike_but_steps (fixed_of config) world next nodes clients broken links marks steps) same law
+    (same_nodes config world next law.master nodes law.nodes)
+    (same_murder (murder_of world law.master) (murder_of next law.master) law.given law.story.course.store refl homes links law.many)
+    (feeds_alike config world next law.master homes links
+    (λ node now there. record { was = now; at = sym (ap (λ n. as_front (value_at (slice_cmp nat_cmp) n node)) nodes) ∙ there; same = refl }) law.feeds)
 
--- outputs are carried out alike whatever the nodes are
-abbrev pub having_nodes : World → List (List ℕ × NodeState) → World
-having_nodes world nodes = record world { nodes = nodes }
+-- the number of the last step is one more
+pub stepped_kept : (config : Config) (heard : ℕ → Heard) (world : World) (law : KeepsLaw config heard world)
+    → KeepsOn config law.story heard (stepped world)
+stepped_kept config heard world law =
+    quiet_kept config heard heard world (stepped world) refl refl refl refl refl (omega arith) (λ conn. refl) law
 
-given_nodes : (world : World) (nodes : List (List ℕ × NodeState)) (conn : ℕ) (bytes : List ℕ) (found : Option Client)
-    → given_more (having_nodes world nodes) conn bytes found ≡ having_nodes (given_more world conn bytes found) nodes
-unfolding given_more
-given_nodes world nodes conn bytes None = refl
-given_nodes world nodes conn bytes (Some client) = refl
+-- with the same story
+pub record IsStepped (config : Config) (heard : ℕ → Heard) (world : World) (law : KeepsLaw config heard world) : Type 0 where
+  pub then : KeepsLaw config heard (stepped world)
+  pub same : then.story ≡ law.story
 
-carry_nodes : (node : List ℕ) (world : World) (nodes : List (List ℕ × NodeState)) (out : Out)
-    → carry node (having_nodes world nodes) out ≡ having_nodes (carry node world out) nodes
-unfolding carry
-carry_nodes node world nodes (to_client conn bytes) = given_nodes world nodes conn bytes (client_at world conn)
-carry_nodes node world nodes (Close conn) = refl
-carry_nodes node world nodes (to_node other message) = refl
-carry_nodes node world nodes (mark ask counts) = refl
-carry_nodes node world nodes (tell ask how) = refl
+pub stepped_law : (config : Config) (heard : ℕ → Heard) (world : World) (law : KeepsLaw config heard world) → IsStepped config heard world law
+unfolding still_kept quiet_kept stepped_kept
+stepped_law config heard world law = record { then = (stepped_kept config heard world law).law; same = refl }
 
-pub carry_all_nodes : (node : List ℕ) (world : World) (nodes : List (List ℕ × NodeState)) (outs : List Out)
-    → carry_all node (having_nodes world nodes) outs ≡ having_nodes (carry_all node world outs) nodes
+-- nothing at all changes
+pub same_kept : (config : Config) (heard after : ℕ → Heard) (world : World) → ((conn : ℕ) → after conn ≡ heard conn) → (law : KeepsLaw config heard world)
+    → KeepsOn config law.story after world
+same_kept config heard after world same law = quiet_kept config heard after world world refl refl refl refl refl (omega arith) same law
+
+-- ---- what a client does where no frontend is
+
+-- what is done is of this connection
+abbrev pub IsOfConnection : ℕ → NodeInput → Type 0
+IsOfConnection conn (Opened other) = other ≡ conn
+IsOfConnection conn (Piece other bytes) = other ≡ conn
+IsOfConnection conn (Hung other) = other ≡ conn
+IsOfConnection conn (From name message) = ⊥
+
+-- at the master (the others' part)
+abbrev pub MasterServes : Config → Type 0
+MasterServes config = (heard after : ℕ → Heard) (world : World) (conn : ℕ) (input : NodeInput) (given : List ℕ) → IsOfConnection conn input
+    → client_at world conn ≡ Some (record { at = master_of config; given = given }) → (law : KeepsLaw config heard world)
+    → ((other : ℕ) → after other ≡ heard other) → KeepsOn config law.story after (comes world (master_of config) input)
+
+home_idle : (home : BackNode) (conn : ℕ) (input : NodeInput) → IsOfConnection conn input
+    → home_does home input ≡ record { state = home; entry = None; outs = [] }
+home_idle home conn (Opened other) is = refl
+home_idle home conn (Piece other bytes) is = refl
+home_idle home conn (Hung other) is = refl
+home_idle home conn (From name message) is = absurd is
+
+-- a node put in its own place
+pub put_kept : (config : Config) (heard after : ℕ → Heard) (world : World) (node : List ℕ) (it : NodeState) → node_at world node ≡ Some it
+    → ((conn : ℕ) → after conn ≡ heard conn) → (law : KeepsLaw config heard world) → KeepsOn config law.story after (with_state world node it)
+put_kept config heard after world node it there same law =
+    quiet_kept config heard after world (with_state world node it) (set_value_same (is_at (slice_cmp nat_cmp node)) world.nodes it there)
+    refl refl refl refl (omega arith) same law
+
+home_put : (world : World) (node : List ℕ) (home : BackNode) (input : NodeInput) (conn : ℕ) → world.broken ≡ [] → home_at world node ≡ Some home
+    → IsOfConnection conn input → comes world node input ≡ with_state world node (state.Back home)
 unfolding carry_all
-carry_all_nodes node world nodes [] = refl
-carry_all_nodes node world nodes (out ∷ outs) = ap (λ w. carry_all node w outs) (carry_nodes node world nodes out)
-    ∙ carry_all_nodes node (carry node world out) nodes outs
+home_put world node home input conn whole at is =
+    home_comes world node input home whole at ∙ ap (with_home world node) (home_idle home conn input is)
+
+-- at a backend, at the master, or where no node is
+elsewhere_by : (config : Config) (heard after : ℕ → Heard) (world : World) (node : List ℕ) (conn : ℕ) (input : NodeInput) (given : List ℕ)
+    (found : Option NodeState) → node_at world node ≡ found → IsOfConnection conn input → MasterServes config
+    → client_at world conn ≡ Some (record { at = node; given = given }) → front_at world node ≡ None → (law : KeepsLaw config heard world)
+    → ((other : ℕ) → after other ≡ heard other) → KeepsOn config law.story after (comes world node input)
+unfolding as_front as_back as_master
+elsewhere_by config heard after world node conn input given None e is serves at none law same =
+    subst (λ w. KeepsOn config law.story after w) (sym (none_comes world node input e)) (same_kept config heard after world same law)
+elsewhere_by config heard after world node conn input given (Some (state.Front front)) e is serves at none law same =
+    absurd (let no : Some front ≡ None = sym (ap as_front e) ∙ none in cc)
+elsewhere_by config heard after world node conn input given (Some (state.Back home)) e is serves at none law same =
+    subst (λ w. KeepsOn config law.story after w) (sym (home_put world node home input conn law.whole (ap as_back e) is))
+    (put_kept config heard after world node (state.Back home) e same law)
+elsewhere_by config heard after world node conn input given (Some (state.Master master)) e is serves at none law same =
+    let its : node ≡ master_of config = law.nodes.only node master (ap as_master e) in
+    subst (λ n. KeepsOn config law.story after (comes world n input)) (sym its)
+    (serves heard after world conn input given is (at ∙ ap (λ n. Some (record { at = n; given = given })) its) law same)
+
+pub elsewhere_kept : (config : Config) (heard after : ℕ → Heard) (world : World) (node : List ℕ) (conn : ℕ) (input : NodeInput) (given : List ℕ)
+    → IsOfConnection conn input → MasterServes config
+    → client_at world conn ≡ Some (record { at = node; given = given }) → front_at world node ≡ None → (law : KeepsLaw config heard world)
+    → ((other : ℕ) → after other ≡ heard other) → KeepsOn config law.story after (comes world node input)
+elsewhere_kept config heard after world node conn input given is serves at none law same =
+    elsewhere_by config heard after world node conn input given (node_at world node) refl is serves at none law same

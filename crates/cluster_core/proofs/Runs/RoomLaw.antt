@@ -1,39 +1,40 @@
 -- No count of a run is above the steps and the bytes that its events bring.
 use Rattle.std.proofs.Math.Logic.{⊎_elim}
-use Rattle.std.proofs.Common.{◌≡◌, ◌≢◌, ℕ, ◌+◌, ◌<◌, ◌≤◌, ◌^◌, List, [], ◌∷◌, Option, None, Some, refl, sym, ◌∙◌, ap, subst, arith, ◌-◌, Result, Ok}
-use Rattle.std.proofs.Common.{Err, OnOk}
+use Rattle.std.proofs.Common.{◌≡◌, ◌≢◌, ℕ, ◌+◌, ◌<◌, ◌≤◌, ◌^◌, List, [], ◌∷◌, Option, None, Some, refl, sym, ◌∙◌, ap, subst, arith, ◌-◌, Result, Ok, Err, OnOk}
 use Rattle.std.specs.Option.{IfSome}
 use Rattle.std.specs.Ordering.{nat_cmp}
 use Rattle.std.specs.Cmp.Lexicographic.{slice_cmp}
 use Rattle.front_core.specs.declared.front.Front.{Front}
 use Rattle.front_core.specs.Front.{new_front}
-use Rattle.front_core.specs.Room.{HasCommands}
+use Rattle.front_core.specs.Room.{HasCommands, HasRoomFor}
 use Rattle.node_step.specs.declared.input.NodeInput.{NodeInput}
 use Rattle.node_step.specs.declared.input.NodeInput.TheVariants.{Opened, Piece, Hung, From}
 use Rattle.link_msg.specs.declared.message.LinkMsg.{LinkMsg}
+use Rattle.link_msg.specs.declared.message.LinkMsg.TheVariants.{Up}
 use Rattle.mur_base.specs.Map.{value_at}
 use Rattle.mur_base.proofs.MapLaws.{names_apart, same_or_other, value_at-with_entry, value_at-with_entry-other, value_at-with_value, value_at-with_value-other}
 use Rattle.mur_config.specs.declared.config.Config.{Config}
 use Rattle.mur_config.specs.declared.node.Kind.{Kind}
 use Rattle.mur_config.specs.declared.node.Kind.TheVariants.{Master, Frontend, Backend as backend_kind}
+use Rattle.mur_config.specs.declared.node.Link.{Link}
 use Rattle.mur_config.specs.declared.node.Node.{Node}
+use Rattle.mur_config.specs.Nodes.{links_of}
 use Rattle.mur_model.specs.declared.setting.Setting.{Setting}
 use Rattle.node_step.specs.declared.node.NodeState.{NodeState}
+use Rattle.node_step.specs.declared.node.NodeState.TheVariants as state
 use Rattle.node_step.specs.NodeStep.{as_front, takes as node_takes}
-use Rattle.node_step.specs.Room.{HasRoomToTake}
+use Rattle.node_step.specs.Room.{FrontHasRoom, HasRoomToTake}
 use Rattle.node_step.proofs.Counts.{HasCommandsAt, bytes_of, takes_counts, room_to_take, room_to_open, room_to_hang}
 use Rattle.schedule_text.specs.declared.event.Event.{Event}
 use Rattle.schedule_text.specs.declared.event.Event.TheVariants.{Open, Data, Hang, Deliver, Flow, Heal}
 use Rattle.schedule_text.specs.Brings.{steps_of, bytes_brought}
 use Rattle.cluster_core.specs.declared.world.Client.{Client}
 use Rattle.cluster_core.specs.declared.world.World.{World}
-use Rattle.cluster_core.specs.World.{not_lost, no_world, home_of, master_of, setting_of, start, first_state, with_node, with_nodes, client_at, node_at, front_at, with_state, acts, comes_to, with_client, opens}
-use Rattle.cluster_core.specs.World.{client_does, taken_from_link, deliver_first, takes, stepped, steps_by}
+use Rattle.cluster_core.specs.World.{not_lost, no_world, start, told_up, with_ups, first_state, with_node, with_nodes, client_at, node_at, front_at, with_state, acts, comes_to, with_client, opens, home_of, master_of, setting_of, client_does, taken_from_link, deliver_first, takes, stepped, steps_by}
 use Rattle.link_queue.specs.Links.{on_link}
 use Rattle.cluster_core.specs.Room.{HaveCommands, HasRoom}
-use Rattle.cluster_core.proofs.Histories.InTime.{takes_adds}
-use Rattle.cluster_core.proofs.Nodes.OneNodeLaw.{carry_all_sends}
-use Rattle.cluster_core.proofs.Runs.UpsLaw.{started}
+use Rattle.cluster_core.proofs.Runs.InTime.{comes_add, takes_adds}
+use Rattle.cluster_core.proofs.Runs.OneNodeLaw.{carry_all_sends}
 
 pub more_commands : (world : World) (m n : ℕ) → m ≤ n → HaveCommands world m → HaveCommands world n
 more_commands world m n h have q front is conn connection at = omega (arith, h, have q front is conn connection at)
@@ -60,7 +61,8 @@ unfolding comes_to
 comes_commands world node input n None there have = more_commands world n (n + bytes_of input) (omega arith) have
 comes_commands world node input n (Some it) there have =
     let acted = node_takes it input in
-    same_nodes (with_state world node acted.state) (acts world node acted) (n + bytes_of input) (carry_all_sends node _ (not_lost world.broken node acted.outs)).nodes
+    same_nodes (with_state world node acted.state) (acts world node acted) (n + bytes_of input) (carry_all_sends node _
+    (not_lost world.broken node acted.outs)).nodes
     (changed_commands world node it acted.state n (n + bytes_of input) there (omega arith) have
     (takes_counts it input n (at_node world node it n there have)))
 
@@ -132,17 +134,33 @@ nobody_yet : (q : List ℕ) (front : Front) → as_front None ≡ Some front →
 unfolding as_front
 nobody_yet q front is = cc
 
+-- a node that is told that a link to it is up counts nothing
+ups_commands : (world : World) (links : List Link) → HaveCommands world 0 → HaveCommands (with_ups world links) 0
+unfolding with_ups
+ups_commands world [] have = have
+ups_commands world (link ∷ links) have =
+    ups_commands (told_up world link) links
+    (more_commands (told_up world link) (0 + 0) 0 (omega arith) (comes_commands world link.to (From link.from Up) 0 (node_at world link.to) refl have))
+
 pub start_commands : (config : Config) → HaveCommands (start config) 0
-start_commands config = subst (λ w. HaveCommands w 0) (sym (started config))
-    (nodes_commands config no_world config.nodes nobody_yet)
+unfolding start
+start_commands config =
+    ups_commands (with_nodes config no_world config.nodes) (links_of config.nodes) (nodes_commands config no_world config.nodes nobody_yet)
 
 nodes_steps : (config : Config) (world : World) (nodes : List Node) → (with_nodes config world nodes).steps ≡ world.steps
 unfolding with_nodes
 nodes_steps config world [] = refl
 nodes_steps config world (node ∷ nodes) = nodes_steps config (with_node config world node) nodes
 
+ups_steps : (world : World) (links : List Link) → (with_ups world links).steps ≡ world.steps
+unfolding with_ups
+ups_steps world [] = refl
+ups_steps world (link ∷ links) =
+    ups_steps (told_up world link) links ∙ (comes_add world link.to (From link.from Up) (node_at world link.to)).same_step
+
 pub start_steps : (config : Config) → (start config).steps ≡ 0
-start_steps config = ap (λ (w : World). w.steps) (started config) ∙ nodes_steps config no_world config.nodes
+unfolding start
+start_steps config = ups_steps (with_nodes config no_world config.nodes) (links_of config.nodes) ∙ nodes_steps config no_world config.nodes
 
 -- what single events require, from the room for them
 pub one_step : (event : Event) → 1 ≤ steps_of event
@@ -211,3 +229,11 @@ pub later_room_by : {X E : Type 0} (result : Result X E) (world next : World) (f
 later_room_by (Err fault) world next from to left some room is = tt
 later_room_by (Ok done) world next from to left some room is =
     subst (λ w. HasRoom w (Flow (left - 1))) (sym is) (later_room world from to left some room)
+
+-- what comes up counts no command
+pub ups_have_room : (found : Option NodeState) (from : List ℕ) → IfSome found (λ it. HasRoomToTake it (From from Up))
+unfolding HasRoomToTake FrontHasRoom HasRoomFor
+ups_have_room None from = tt
+ups_have_room (Some (state.Front front)) from = tt
+ups_have_room (Some (state.Back home)) from = tt
+ups_have_room (Some (state.Master master)) from = tt

@@ -3,13 +3,14 @@ use Rattle.std.proofs.Common.{◌≡◌, ℕ, zero, suc, Bool, true, false, ◌+
 use Rattle.link_msg.specs.declared.message.LinkMsg.{LinkMsg}
 use Rattle.mur_config.specs.declared.config.Config.{Config}
 use Rattle.mur_config.specs.declared.node.Link.{Link}
+use Rattle.schedule_text.specs.ScheduleFits.{HasCountRoom}
 use Rattle.schedule_text.specs.declared.event.Event.{Event}
 use Rattle.schedule_text.specs.declared.event.Event.TheVariants.{Deliver, Flow}
 use Rattle.schedule_text.specs.Brings.{steps_of, bytes_brought, steps_of_all, bytes_of_all}
 use Rattle.cluster_core.specs.declared.layout.Layout.{Layout}
 use Rattle.cluster_core.specs.declared.world.World.{World}
 use Rattle.link_queue.specs.Links.{on_link}
-use Rattle.cluster_core.specs.World.{ClusterState, begun, layout_of, steps_by}
+use Rattle.cluster_core.specs.World.{ClusterState, begun, steps_by, layout_of}
 use Rattle.cluster_core.specs.Flow.{Flowing, turn_by, turn_of_link, round, rounds, rounds_by, flow, happens, run, run_of, ran}
 use Rattle.cluster_core.specs.Room.{HaveCommands, HasRoom}
 use Rattle.cluster_core.proofs.Runs.RoomLaw.{more_commands, step_commands, step_steps, one_step, start_commands, start_steps}
@@ -132,20 +133,20 @@ way_goes_on config events now after event before left b a way =
     rw a (goes_on config events now event left (subst (λ l. IsOnTheWay config events now l) b way))
 
 has_room_at : (config : Config) (events : List Event) (now : ClusterState) (event : Event) (left : List Event)
-    → steps_of_all events < 2 ^ 64 → bytes_of_all events < 2 ^ 32 → IsOnTheWay config events now (event ∷ left) → HasRoom now.world event
+    → HasCountRoom events → IsOnTheWay config events now (event ∷ left) → HasRoom now.world event
 unfolding bytes_of_all steps_of_all
-has_room_at config events now event left s b way = record {
+has_room_at config events now event left room way = record {
   most = way.taken;
   commands = way.counts.commands;
-  fits = omega (arith, way.bytes);
-  steps = omega (arith, way.steps, way.counts.steps);
+  fits = omega (arith, way.bytes, room.bytes);
+  steps = omega (arith, way.steps, way.counts.steps, room.steps);
 }
 
 pub way_has_room : (config : Config) (events : List Event) (now : ClusterState) (event : Event) (before left : List Event)
-    → steps_of_all events < 2 ^ 64 → bytes_of_all events < 2 ^ 32 → before ≡ event ∷ left → IsOnTheWay config events now before
+    → HasCountRoom events → before ≡ event ∷ left → IsOnTheWay config events now before
     → HasRoom now.world event
-way_has_room config events now event before left s h b way =
-    has_room_at config events now event left s h (subst (λ l. IsOnTheWay config events now l) b way)
+way_has_room config events now event before left room b way =
+    has_room_at config events now event left room (subst (λ l. IsOnTheWay config events now l) b way)
 
 ends_here : (config : Config) (events : List Event) (now : ClusterState) → IsOnTheWay config events now []
     → now ≡ ran config events

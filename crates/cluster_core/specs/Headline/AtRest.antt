@@ -10,6 +10,7 @@ use Rattle.schedule_text.specs.declared.event.Event.{Event}
 use Rattle.cluster_core.specs.declared.layout.Layout.{Layout}
 use Rattle.cluster_core.specs.declared.world.World.{World}
 use Rattle.cluster_core.specs.Flow.{run_steps, steps_of_event}
+use Rattle.cluster_core.specs.Numbers.{NumbersFitAll}
 use Rattle.cluster_core.specs.Heard.{heard}
 use Rattle.imap_talk.specs.Heard.{bytes_heard, frames_heard, has_closed}
 use Rattle.cluster_core.specs.LawSetting.{law_setting}
@@ -32,7 +33,8 @@ abbrev pub NothingWaits : Config → List Event → World → Type 0
 NothingWaits config steps world = AreEmpty world → (conn : ℕ) → is_guest (guest_of config conn steps) ≡ false
     → has_closed (heard config conn steps) ≡ false → IsAnswered config conn steps world
 
--- whatever steps led here, in whatever configuration: nothing waits behind this event
+-- whatever steps led here, in whatever configuration: as long as the numbers fit, nothing waits behind this event
 abbrev pub NothingWaitsBehind : Layout → World → Event → Type 0
 NothingWaitsBehind layout world event = (config : Config) (steps : List Event) → AreNodes config.nodes → world ≡ run_steps (start config) steps
+    → NumbersFitAll config (steps ++ steps_of_event layout world event)
     → NothingWaits config (steps ++ steps_of_event layout world event) (run_steps world (steps_of_event layout world event))

@@ -9,6 +9,7 @@ use Rattle.schedule_text.specs.declared.event.Event.TheVariants.{Deliver, Flow}
 use Rattle.cluster_core.specs.declared.layout.Layout.{Layout}
 use Rattle.cluster_core.specs.declared.world.World.{World}
 use Rattle.cluster_core.specs.Flow.{run_steps, steps_of_event}
+use Rattle.cluster_core.specs.Numbers.{NumbersFitAll}
 use Rattle.link_queue.specs.Links.{on_link}
 use Rattle.cluster_core.specs.Headline.OneStore.{AreEmpty}
 use Rattle.cluster_core.specs.World.{start, layout_of}
@@ -40,7 +41,8 @@ pub data AreStepsOfAll (links : List Link) : World → List Event → List Event
   an_event : (world : World) (event : Event) (events steps more : List Event) → AreStepsOf links world event steps
       → AreStepsOfAll links (run_steps world steps) events more → AreStepsOfAll links world (event ∷ events) (steps ++ more)
 
--- whatever steps led here, in whatever configuration: the steps of this event are so
+-- whatever steps led here, in whatever configuration: as long as the numbers fit, the steps of this event are so
 abbrev pub AreItsSteps : Layout → World → Event → Type 0
 AreItsSteps layout world event = (config : Config) (steps : List Event) → AreNodes config.nodes → layout ≡ layout_of config
-    → world ≡ run_steps (start config) steps → AreStepsOf (links_of config.nodes) world event (steps_of_event layout world event)
+    → world ≡ run_steps (start config) steps → NumbersFitAll config (steps ++ steps_of_event layout world event)
+    → AreStepsOf (links_of config.nodes) world event (steps_of_event layout world event)

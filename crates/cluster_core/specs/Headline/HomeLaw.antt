@@ -1,20 +1,16 @@
--- At most one writable home, and the causes of refusals.
-use Rattle.std.specs.Prelude.{◌≡◌, ℕ, ◌≤◌, Bool, ◌&&◌, List, ◌++◌, count_by, All, ⊤}
+-- At most one writable home.
+use Rattle.std.specs.Prelude.{◌≡◌, ℕ, ◌≤◌, Bool, ◌&&◌, List, ◌++◌, count_by}
 use Rattle.std.specs.Str.{bytes_eq}
 use Rattle.backend_core.specs.HomeLaws.{is_open}
-use Rattle.mur_base.specs.declared.point.Point.{Point}
-use Rattle.mur_base.specs.declared.point.What.{What}
-use Rattle.mur_base.specs.declared.point.What.TheVariants.{Reserved as reserved, Unreached as unreached}
 use Rattle.mur_config.specs.declared.config.Config.{Config}
 use Rattle.schedule_text.specs.declared.event.Event.{Event}
+use Rattle.cluster_core.specs.World.{layout_of, start}
 use Rattle.cluster_core.specs.declared.cluster.HomeRow.{HomeRow}
 use Rattle.cluster_core.specs.declared.layout.Layout.{Layout}
 use Rattle.cluster_core.specs.declared.world.World.{World}
 use Rattle.cluster_core.specs.Flow.{run_steps, steps_of_run}
-use Rattle.cluster_core.specs.History.{history_of}
 use Rattle.cluster_core.specs.Headline.OpenAt.{OpensAtOneNode}
 use Rattle.cluster_core.specs.Shown.{home_rows}
-use Rattle.cluster_core.specs.World.{start, layout_of}
 
 -- a writable home of a name is a node that has the name Open
 abbrev pub is_writable_home : List ℕ → HomeRow → Bool
@@ -28,17 +24,3 @@ abbrev pub KeepsOneHomeEach : Config → List Event → Type 0
 KeepsOneHomeEach config events =
     (before later : List Event) → steps_of_run config events ≡ before ++ later
     → HasOneHomeEach (layout_of config) (run_steps (start config) before) × OpensAtOneNode (run_steps (start config) before)
-
--- no name is reserved and no node is unreached yet, so there is no cause for a refusal of relocation
-abbrev pub HasRelocationCause : What → Type 0
-HasRelocationCause reserved = ⊥
-HasRelocationCause (unreached node) = ⊥
-HasRelocationCause _ = ⊤
-
--- a refusal of relocation comes only at a reserved name or an unreached node
-abbrev pub RefusesForCause : World → Type 0
-RefusesForCause world = All (λ (point : Point). HasRelocationCause point.what) (history_of world)
-
--- after each single step of a run
-abbrev pub RefusesForCauseEach : Config → List Event → Type 0
-RefusesForCauseEach config events = (before later : List Event) → steps_of_run config events ≡ before ++ later → RefusesForCause (run_steps (start config) before)

@@ -1,24 +1,27 @@
 -- The one-store law: what each client was given is what one mailbox store replies to the printed history, at every step.
-use Rattle.std.specs.Prelude.{◌≡◌, ◌⊎◌, ℕ, ◌≤◌, true, false, List, [], ◌∷◌, ◌++◌, length, Option, None, Some, IfSome, All, AllPairs}
+use Rattle.std.specs.Prelude.{◌≡◌, ◌⊎◌, ℕ, ◌≤◌, true, false, List, [], ◌++◌, length, Option, None, Some, IfSome, All, AllPairs}
 use Rattle.std.specs.List.{list_any}
-use Rattle.std.specs.Ordering.{nat_cmp}
-use Rattle.std.specs.Cmp.Lexicographic.{slice_cmp}
-use Rattle.backend_core.specs.OpenBox.{open_content}
 use Rattle.mail_store.specs.Kept.{AreUidsBelowNext}
 use Rattle.imap_talk.specs.Transcript.{transcript_of, ends}
 use Rattle.imap_talk.specs.TranscriptRead.{IsAllReadAsMeant}
 use Rattle.mail_message.specs.Boxes.{Content, IsRising}
 use Rattle.mark_history.specs.FirstCourse.{first_course}
-use Rattle.mur_base.specs.Map.{value_at}
+use Rattle.mur_base.specs.declared.home.Location.{Location}
+use Rattle.name_links.specs.Contents.{content_in}
+use Rattle.node_record.specs.Held.{held_at}
+use Rattle.node_record.specs.declared.table.Record.{Record}
+use Rattle.node_record.specs.declared.table.State.{State}
+use Rattle.node_record.specs.declared.table.State.TheVariants.{Bare, Kept, Active}
+use Rattle.node_record.specs.Table.{record_at}
 use Rattle.mur_base.specs.declared.point.Point.{Point}
 use Rattle.mur_config.specs.declared.config.Config.{Config}
 use Rattle.imap_types.specs.declared.request.Answer.{Answer}
 use Rattle.imap_types.specs.declared.request.Request.{Request}
+use Rattle.mur_model.specs.declared.store.Pair.{Pair}
 use Rattle.mur_model.specs.declared.store.Store.{Store}
 use Rattle.mur_model.specs.History.{Course, Talk, TalkGoesOn, IsLegal}
 use Rattle.mur_model.specs.Store.{box_at}
 use Rattle.schedule_text.specs.declared.event.Event.{Event}
-use Rattle.cluster_core.specs.declared.layout.Layout.{Layout}
 use Rattle.cluster_core.specs.declared.world.World.{World}
 use Rattle.store_law.specs.Begun.{BeginsAsRead}
 use Rattle.store_law.specs.Logins.{BeginsByLogin}
@@ -30,7 +33,8 @@ use Rattle.cluster_core.specs.Heard.{heard}
 use Rattle.imap_talk.specs.Heard.{bytes_heard, frames_heard, has_closed}
 use Rattle.cluster_core.specs.History.{history_of}
 use Rattle.cluster_core.specs.Headline.Homes.{ShowsBoxesOf}
-use Rattle.cluster_core.specs.Headline.Outside.{guest_of, is_guest}
+use Rattle.cluster_core.specs.Headline.Outside.{guest_of, is_guest, table_at}
+use Rattle.cluster_core.specs.Headline.Serials.{reserves_taken}
 use Rattle.cluster_core.specs.LawSetting.{law_setting}
 use Rattle.link_queue.specs.Links.{on_link}
 use Rattle.store_law.specs.Refusals.{HaveCauses}
@@ -41,28 +45,27 @@ use Rattle.store_law.specs.Lines.{SpeaksByNumbers}
 use Rattle.store_law.specs.Mirror.{ViewsAreTold}
 use Rattle.store_law.specs.NewsTold.{NewsAreTold}
 use Rattle.cluster_core.specs.Headline.Points.{AreMadeBy, LosesTheNext}
-use Rattle.cluster_core.specs.Headline.Routing.{AreRouted}
 use Rattle.imap_talk.specs.Requests.{AreRequests}
-use Rattle.store_law.specs.Serials.{GivesLowSerials}
 use Rattle.cluster_core.specs.Shown.{given_to, held_at_node}
-use Rattle.cluster_core.specs.World.{start, layout_of}
+use Rattle.cluster_core.specs.World.{master_of, start}
 
-abbrev pub or_else : Option Content → Option Content → Option Content
-or_else None other = other
-or_else (Some content) other = Some content
+-- what the server of a record has of the name, if the record has an access list: a name that was never active is no mailbox
+abbrev pub box_in : World → List ℕ → Location → State → Option Content
+box_in world name place (Bare serial) = None
+box_in world name place (Kept acl) = content_in (held_at (held_at_node world place.server) name)
+box_in world name place (Active acl) = content_in (held_at (held_at_node world place.server) name)
 
-unfoldable pub box_among : World → List ℕ → List (List ℕ) → Option Content
-box_among world name [] = None
-box_among world name (node ∷ nodes) =
-    or_else (open_content (value_at (slice_cmp nat_cmp) (held_at_node world node) name)) (box_among world name nodes)
+abbrev pub box_by : World → List ℕ → Option Record → Option Content
+box_by world name None = None
+box_by world name (Some it) = box_in world name it.place it.state
 
--- the mailbox of a name at its home, which is the node that has it open
-unfoldable pub box_of_home : Layout → World → List ℕ → Option Content
-box_of_home layout world name = box_among world name layout.backends
+-- the mailbox of a name, by the master's record of it
+abbrev pub box_of_name : Config → World → List ℕ → Option Content
+box_of_name config world name = box_by world name (record_at (table_at world (master_of config)) name)
 
--- one content: the store has of each name the mailbox that its home has, and none where no home has one
-abbrev pub HasBoxesOf : Layout → Store → World → Type 0
-HasBoxesOf layout store world = (name : List ℕ) → box_at store name ≡ box_of_home layout world name
+-- one content: the store has of each name the mailbox that the server of its record has, in whatever phase, and none where there is no such record
+abbrev pub HasBoxesOf : Config → Store → World → Type 0
+HasBoxesOf config store world = (name : List ℕ) → box_at store name ≡ box_of_name config world name
 
 -- no message is on its way
 abbrev pub AreEmpty : World → Type 0
@@ -95,7 +98,7 @@ pub record IsToldSoFar (config : Config) (talk : Talk) (points : List Point) (st
   pub last : Course
   pub legal : IsLegal (law_setting config) first_course so_far (history_of world) last
   pub refusals : HaveCauses so_far (history_of world)
-  pub one_content : HasBoxesOf (layout_of config) last.store world
+  pub one_content : HasBoxesOf config last.store world
   pub homes_shown : ShowsBoxesOf config last.store world
   -- each message has a UID of its own, below its mailbox's UIDNEXT (RFC 9051, 2.3.1.1), and no command, whoever sends it, loses one or
   -- its flags, but where it is for that
@@ -106,18 +109,17 @@ pub record IsToldSoFar (config : Config) (talk : Talk) (points : List Point) (st
   pub appended_there : KeepsAppended (law_setting config) last.store
   -- and what any other command was answered OK for is done
   pub done : DoesWhatItSays (law_setting config) last.store
-  pub low_serials : GivesLowSerials last.store
   -- whatever a client asks, its user learns nothing of a mailbox on which they have no rights, and changes nothing in it
   pub others_unseen : (conn : ℕ) → KeepsToItsOwn (law_setting config) last.store (last.sessions conn)
   -- what a client concludes of its mailbox from the lines that it is given is so of its session's view (RFC 9051, 2.3.1.2)
   pub views_told : ViewsAreTold so_far (history_of world) last
   -- and of its mailbox as it is then, once it is answered OK a NOOP or another command behind which it is told all (RFC 9051, 5.2 and 6.1.2)
   pub news_told : NewsAreTold (law_setting config) so_far (history_of world) last
+  -- UIDVALIDITYs are given one by one (RFC 9051, 2.3.1.1): none is above the number of RESERVEs that the master has taken
+  pub low_serials : All (λ (pair : Pair). pair.serial ≤ reserves_taken config steps) last.store.given
   -- which points there may be
   pub lost_next : LosesTheNext so_far (history_of world)
   pub made_by_now : AreMadeBy world.steps (history_of world)
-  -- and where they stand: a command that a home is asked for has its point where the home takes the ask
-  pub routed : AreRouted config so_far steps (history_of world)
   pub in_time : StandsInTime so_far world.steps points
   -- steps count from 1: the last one has the number of the steps made
   pub counted : world.steps ≡ length steps

@@ -14,7 +14,7 @@ use Rattle.schedule_text.specs.declared.event.Event.{Event}
 use Rattle.cluster_core.specs.declared.world.World.{World}
 use Rattle.cluster_core.specs.Headline.Outside.{table_at}
 use Rattle.cluster_core.specs.Flow.{run_steps, steps_of_run}
-use Rattle.cluster_core.specs.World.{front_at, master_of, start}
+use Rattle.cluster_core.specs.World.{front_at, start, master_of}
 
 -- the frontend's UPDATE is on its way to the master, its replica is empty, and no line on its way back tells it anything; or once it has
 -- taken what is on its way back, its replica is the table

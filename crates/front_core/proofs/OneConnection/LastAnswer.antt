@@ -7,14 +7,8 @@ use Rattle.imap_talk.specs.Transcript.{ends}
 use Rattle.imap_talk.specs.declared.inputs.Input.{Input}
 use Rattle.imap_talk.specs.declared.inputs.Input.TheVariants.{GoesOn, Asks, Faults}
 use Rattle.imap_talk.proofs.TranscriptGrows.{AreAnswered}
-use Rattle.front_core.specs.declared.connection.Connection.{Connection}
 use Rattle.imap_types.specs.declared.request.Answer.{Answer}
-use Rattle.mur_model.specs.declared.session.Sess.{Sess}
-use Rattle.mur_model.specs.declared.setting.Setting.{Setting}
 use Rattle.front_core.specs.Ending.{EndsOnlyLast}
-use Rattle.front_core.proofs.OneConnection.Places.{Place}
-use Rattle.front_core.proofs.OneConnection.Standing.{Stands}
-use Rattle.front_core.proofs.OneConnection.Standing.Stands.{reads, waits, faulted, finished}
 
 abbrev pub GoesOnBehind : Answer → Type 0
 GoesOnBehind answer = ends answer.reply ≡ false
@@ -41,11 +35,3 @@ ends_last (answer ∷ before) last all =
 
 pub none_given : (answers : List Answer) → answers ≡ [] → EndsOnlyLast answers
 none_given answers e = subst EndsOnlyLast (sym e) (λ i j d h k. absurd (omega arith))
-
-pub stands_last : (setting : Setting) (home : List ℕ) (conn : ℕ) (all : List Input) (held : Option (List ℕ)) (connection : Connection)
-    (told said : List Answer) (session : Sess) (place : Place) → Stands setting home conn all held connection told said session place → EndsOnlyLast told
-stands_last setting home conn all held connection told said session place (reads a b c d e f none) = all_go_on all told e
-stands_last setting home conn all held connection told said session place (waits waiting) = all_go_on waiting.passed told waiting.answered
-stands_last setting home conn all held connection told said session place (faulted a b c d e none) = e
-stands_last setting home conn all held connection told said session place (finished passed more request before last a b c d e f none) =
-    subst EndsOnlyLast (sym d) (ends_last before last (none_ends passed before c))

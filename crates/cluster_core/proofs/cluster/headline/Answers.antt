@@ -1,4 +1,4 @@
-use Rattle.cluster_core.proofs.OneServer.HeadlineLaw.{one_server}
+use Rattle.cluster_core.proofs.Whole.HeadlineLaw.{one_server}
 use Rattle.cluster_core.proofs.cluster.headline.Goals as goal
 
 pub returns : goal.returns

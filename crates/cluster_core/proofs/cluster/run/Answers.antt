@@ -1,5 +1,5 @@
 use Rattle.std.proofs.Common.{rules, sym, ◌∙◌}
-use Rattle.cluster_core.proofs.OneServer.HeadlineLaw.{one_server}
+use Rattle.cluster_core.proofs.Whole.HeadlineLaw.{one_server_by_room}
 use Rattle.cluster_core.proofs.Runs.CarryOn.{empty_by_length, shorter}
 use Rattle.cluster_core.proofs.Runs.RunRoom.{way_begins, way_goes_on, way_has_room, way_ends}
 use Rattle.cluster_core.proofs.cluster.run.Goals as goal
@@ -9,7 +9,7 @@ loop-event-init c = record { can_next = tt; is_finite = tt; count = search rules
 
 pub step-requires : goal.step-requires
 step-requires c =
-    way_has_room c.args.config.now c.args.events _ _ _ _ c.requires.steps c.requires.bytes c.in-Some.ensures.steps.0 c.loop-event.invariant.way
+    way_has_room c.args.config.now c.args.events _ _ _ _ c.requires c.in-Some.ensures.steps.0 c.loop-event.invariant.way
 
 pub loop-event-preserved : goal.loop-event-preserved
 loop-event-preserved c = record {
@@ -22,11 +22,11 @@ loop-event-preserved c = record {
 pub returns : goal.returns
 returns c = record {
   ran = way_ends _ _ _ _ (empty_by_length _ (sym c.loop-event.invariant.count ∙ c.in-None.ensures.steps.0)) c.loop-event.invariant.way;
-  one_server = one_server c.args.config.now c.args.events c.in_ok-cluster.ensures.nodes c.in_ok-cluster.ensures.date;
+  one_server = one_server_by_room c.args.config.now c.args.events c.in_ok-cluster.ensures.nodes c.in_ok-cluster.ensures.date c.requires;
 }
 
 pub returns-in_err-cluster-clause-one_server : goal.returns-in_err-cluster-clause-one_server
-returns-in_err-cluster-clause-one_server c = one_server c.args.config.now c.args.events c.in_err-cluster.ensures.nodes c.in_err-cluster.ensures.date
+returns-in_err-cluster-clause-one_server c = one_server_by_room c.args.config.now c.args.events c.in_err-cluster.ensures.nodes c.in_err-cluster.ensures.date c.requires
 
 pub returns-in_err-step-clause-one_server : goal.returns-in_err-step-clause-one_server
-returns-in_err-step-clause-one_server c = one_server c.args.config.now c.args.events c.in_ok-cluster.ensures.nodes c.in_ok-cluster.ensures.date
+returns-in_err-step-clause-one_server c = one_server_by_room c.args.config.now c.args.events c.in_ok-cluster.ensures.nodes c.in_ok-cluster.ensures.date c.requires

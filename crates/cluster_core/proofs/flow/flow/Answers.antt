@@ -1,5 +1,5 @@
 use Rattle.std.proofs.Common.{arith, ◌-◌}
-use Rattle.cluster_core.proofs.Flows.FlowMade.{flow_over, flow_over_now, flow_ends}
+use Rattle.cluster_core.proofs.Runs.FlowMade.{flow_over, flow_over_now, flow_ends}
 use Rattle.cluster_core.proofs.flow.flow.Goals as goal
 
 pub returns-then-left-before : goal.returns-then-left-before

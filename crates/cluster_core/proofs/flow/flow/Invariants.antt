@@ -2,7 +2,7 @@ use Rattle.std.proofs.Common.{◌≡◌, ◌-◌}
 use Rattle.schedule_text.specs.declared.event.Event.TheVariants.{Flow}
 use Rattle.cluster_core.specs.Flow.{flow, rounds}
 use Rattle.cluster_core.specs.Room.{HasRoom}
-use Rattle.cluster_core.proofs.Flows.FlowMade.{begun}
+use Rattle.cluster_core.proofs.Runs.FlowMade.{begun}
 use Rattle.cluster_core.proofs.flow.flow.Given as goal
 
 abbrev pub invariant-loop-round : goal.invariant-loop-round

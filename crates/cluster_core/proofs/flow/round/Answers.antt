@@ -1,5 +1,5 @@
 use Rattle.std.proofs.Common.{arith}
-use Rattle.cluster_core.proofs.Flows.FlowMade.{round_goes_on, item_at}
+use Rattle.cluster_core.proofs.Runs.FlowMade.{round_goes_on, item_at}
 use Rattle.cluster_core.proofs.flow.round.Goals as goal
 
 pub loop-link-preserved : goal.loop-link-preserved

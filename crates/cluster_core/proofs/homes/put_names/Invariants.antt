@@ -8,4 +8,4 @@ use Rattle.cluster_core.proofs.homes.put_names.Given as goal
 
 abbrev pub invariant-loop-name : goal.invariant-loop-name
 invariant-loop-name l =
-    fold (insert_key (slice_cmp nat_cmp)) l.names.keys (keys_of l.name-iterator) ≡ fold (insert_key (slice_cmp nat_cmp)) l.fn.names.keys (keys_of l.home.held)
+    fold (insert_key (slice_cmp nat_cmp)) l.names.keys (keys_of l.name-iterator) ≡ fold (insert_key (slice_cmp nat_cmp)) l.fn.names.keys (keys_of l.held)

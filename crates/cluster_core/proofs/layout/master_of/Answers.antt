@@ -1,8 +1,8 @@
 use Rattle.std.proofs.Common.{rules, ◌≢◌, ◌∙◌, arith}
 use Rattle.std.proofs.lemmas.List.{drop_all}
 use Rattle.mur_config.specs.declared.node.Kind.TheVariants.{Master}
-use Rattle.cluster_core.proofs.Flows.FlowMade.{item_at}
-use Rattle.cluster_core.proofs.Nodes.KindsOfNodes.{master_behind, some_nodes}
+use Rattle.cluster_core.proofs.Runs.FlowMade.{item_at}
+use Rattle.cluster_core.proofs.Starts.Kinds.{master_behind, some_nodes}
 use Rattle.cluster_core.proofs.layout.master_of.Goals as goal
 
 pub loop-node-preserved : goal.loop-node-preserved

@@ -1,5 +1,5 @@
 use Rattle.cluster_core.specs.World.{node_at}
-use Rattle.cluster_core.proofs.Runs.UpsLaw.{ups_have_room}
+use Rattle.cluster_core.proofs.Runs.RoomLaw.{ups_have_room}
 use Rattle.cluster_core.proofs.start.link_up.Goals as goal
 
 pub comes-requires : goal.comes-requires

@@ -1,6 +1,6 @@
 use Rattle.std.proofs.Common.{sym, subst, ◌<◌, length}
 use Rattle.cluster_core.specs.declared.layout.Layout.{Layout}
-use Rattle.cluster_core.proofs.Runs.FrontsOfStart.{some_backend}
+use Rattle.cluster_core.proofs.Starts.Kinds.{some_backend}
 use Rattle.cluster_core.proofs.start.start.Goals as goal
 
 pub add_nodes-requires-clause-backends : goal.add_nodes-requires-clause-backends

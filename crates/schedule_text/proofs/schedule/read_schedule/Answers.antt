@@ -47,4 +47,4 @@ unfolding schedule_of events_from
 returns-clause-room c =
     let read : schedule_of c.args.config.now c.args.bytes.now ≡ Ok c.loop-piece.so_far.events = grind (arith, common_steps) in
     let fit = schedule_fits c.args.config.now c.args.bytes.now c.loop-piece.so_far.events read in
-    record { steps = omega (arith, fit.steps); bytes = omega (arith, fit.bytes) }
+    record { steps = omega (arith, fit.steps); bytes = omega (arith, fit.bytes); conns = fit.conns }

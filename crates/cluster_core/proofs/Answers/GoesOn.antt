@@ -1,0 +1,176 @@
+-- What came of a command that waited makes its connection stand so: its client is told the store's reply or a refusal, or it waits on.
+use Rattle.std.proofs.Common.{◌≡◌, ℕ, ◌+◌, true, false, List, [], ◌∷◌, ◌++◌, length, Option, Some, refl, sym, ◌∙◌, ap, subst}
+use Rattle.asking_core.specs.Answered.{WentOn}
+use Rattle.asking_core.specs.declared.then.Then.{Then}
+use Rattle.feed_core.specs.declared.replica.Replica.{Replica}
+use Rattle.front_core.specs.declared.connection.Connection.{Connection}
+use Rattle.front_core.specs.Answered.{by_then, goes_on_by, need_behind}
+use Rattle.front_core.specs.Taken.{Turned}
+use Rattle.imap_talk.specs.Inputs.{requests_in}
+use Rattle.imap_talk.specs.SessionEnds.{TurnEnds, has_ended}
+use Rattle.imap_talk.specs.Transcript.{ends, is_bye}
+use Rattle.imap_talk.specs.declared.inputs.Input.{Input}
+use Rattle.imap_talk.specs.declared.inputs.Input.TheVariants.{Asks}
+use Rattle.imap_talk.proofs.AnswersEnd.{ended_by}
+use Rattle.imap_talk.proofs.InputLaws.{requests-append}
+use Rattle.imap_talk.proofs.RequestsOf.{answered_lengths, next_request}
+use Rattle.imap_types.specs.declared.command.Command.{Command}
+use Rattle.imap_types.specs.declared.command.Command.TheVariants.{Select, Examine}
+use Rattle.imap_types.specs.declared.reply.NoText.{NoText}
+use Rattle.imap_types.specs.declared.reply.NoText.TheVariants.{BeingMoved}
+use Rattle.imap_types.specs.declared.reply.Reply.{Reply}
+use Rattle.imap_types.specs.declared.request.Answer.{Answer}
+use Rattle.imap_types.specs.declared.request.Request.TheVariants.{Command as a_command}
+use Rattle.link_msg.specs.declared.how.How.{How}
+use Rattle.link_msg.specs.declared.how.How.TheVariants.{Behind, Reserved}
+use Rattle.mark_history.specs.Marked.{CanRefuse, Tale}
+use Rattle.mark_history.proofs.LastMarks.{last_kind}
+use Rattle.master_core.specs.Refusals.{is_reserved}
+use Rattle.node_record.specs.Table.{MailboxTable, record_at}
+use Rattle.cluster_core.proofs.Commands.Moving.{IsSeenBy}
+use Rattle.mur_model.specs.declared.session.Sess.{Sess}
+use Rattle.mur_model.specs.declared.session.Sess.TheVariants.{Off, In, Selected, Ended as session_ended}
+use Rattle.mur_model.specs.declared.session.Turn.{Turn}
+use Rattle.mur_model.specs.declared.setting.Setting.{Setting}
+use Rattle.mur_model.specs.Act.{need_of, session_after}
+use Rattle.mur_model.specs.History.{numbered}
+use Rattle.mur_model.specs.Needed.{Mailbox}
+use Rattle.mur_model.specs.Relocation.{NeedsMailbox, cause_text, refused_for}
+use Rattle.point_links.specs.Commands.{ClientCommand, WaitsOn, refused_turn, told_turn}
+use Rattle.route_links.specs.Answered.{IsNumbered}
+use Rattle.serve_law.specs.AsTheStore.{given_with}
+use Rattle.cluster_core.specs.declared.world.World.{World}
+use Rattle.cluster_core.specs.World.{carry_all, home_at}
+use Rattle.cluster_core.proofs.Commands.Place.{Place}
+use Rattle.cluster_core.proofs.Commands.Standing.{Fixed, next_id}
+use Rattle.cluster_core.proofs.Connections.ConnectionLaw.{StandsOn}
+use Rattle.cluster_core.proofs.Places.Stays.{IsFrontend}
+use Rattle.cluster_core.proofs.Connections.FrameLaw.{ways_for}
+use Rattle.cluster_core.proofs.Answers.Replied.{InputsCome, IsHeard, ended_stands, read_stands}
+use Rattle.cluster_core.proofs.Answers.Tells.{IsTold, behind_told, refusal_told}
+use Rattle.cluster_core.proofs.Answers.WaitsOn.{AsksBackend, waits_on_stands}
+
+-- a refusal ends no connection
+refused_ends : (session : Sess) (it : Command) (why : NoText) → ends (refused_for session it why).reply ≡ false
+unfolding refused_for ends is_bye
+refused_ends (Selected view) (Select text) why = refl
+refused_ends (Selected view) (Examine text) why = refl
+refused_ends session it why = refl
+
+refused_lasts : (session : Sess) (it : Command) (why : NoText) → has_ended session ≡ false
+    → has_ended (session_after session (refused_for session it why).session) ≡ false
+unfolding refused_for
+refused_lasts (Selected view) (Select text) why lasts = refl
+refused_lasts (Selected view) (Examine text) why lasts = refl
+refused_lasts session it why lasts = lasts
+
+-- the connection and what it let out, as the world has it
+abbrev pub StandsSo : Fixed → List ℕ → Replica → ℕ → List Input → Option (List ℕ) → World → Tale → Turned → Type 0
+StandsSo fixed front replica conn inputs held world story turned =
+    StandsOn fixed front replica conn inputs held turned.connection world story (carry_all front world turned.outs)
+
+-- what a frontend knows of itself, and of a command that it may send on
+pub record MaySend (fixed : Fixed) (front : List ℕ) (conn : ℕ) (world : World) (story : Tale) : Type 0 where
+  pub frontend : IsFrontend fixed.master (home_at world) front
+  pub is_numbered : IsNumbered (next_id conn (story.told conn))
+
+module _ (fixed : Fixed) (front : List ℕ) (replica : Replica) (conn : ℕ) (inputs : List Input) (held : Option (List ℕ)) (connection : Connection)
+    (world : World) (story : Tale) (here : Place) (heard : IsHeard fixed front replica conn inputs held connection world story here) where
+  abbrev c : ClientCommand
+  c = (heard.waiting).c
+
+  -- what comes of the command does this to its connection
+  abbrev pub turned_by : WentOn → Turned
+  turned_by next = goes_on_by fixed.setting (ways_for fixed replica) conn connection (heard.waiting).tag next
+
+  abbrev now : Sess → Connection
+  now session = record connection { session = session }
+
+  was_lasts : has_ended c.was ≡ false
+  was_lasts = ap has_ended ((heard.waiting).of).was_is ∙ (heard.waiting).lasts
+
+  -- ---- a reply
+
+  given_stands : (how : How) (reply : Reply) (session : Sess) → has_ended session ≡ ends reply
+      → IsTold fixed.setting world story conn how (record { tag = (heard.waiting).tag; reply = reply }) session
+      → InputsCome fixed front replica conn inputs held world story
+      → StandsSo fixed front replica conn inputs held world story
+      (need_behind fixed.setting (ways_for fixed replica) conn (now session) (heard.waiting).tag how (given_with reply session))
+  unfolding given_with
+  given_stands how reply Off same told come =
+      read_stands fixed front replica conn inputs held connection world story here heard how reply Off told refl (sym same) come
+  given_stands how reply (In user) same told come =
+      read_stands fixed front replica conn inputs held connection world story here heard how reply (In user) told refl (sym same) come
+  given_stands how reply (Selected view) same told come =
+      read_stands fixed front replica conn inputs held connection world story here heard how reply (Selected view) told refl (sym same) come
+  given_stands how reply session_ended same told come =
+      ended_stands fixed front replica conn inputs held connection world story here heard how reply session_ended told (sym same)
+
+  -- the store's
+  pub told_stands : InputsCome fixed front replica conn inputs held world story → (turn : Turn) (next : WentOn) → next ≡ told_turn c turn
+      → story.talk.answers conn ≡ story.told conn ++ (record { tag = (heard.waiting).tag; reply = turn.reply }) ∷ []
+      → story.course.sessions conn ≡ session_after c.was turn.session → TurnEnds turn
+      → StandsSo fixed front replica conn inputs held world story (turned_by next)
+  told_stands come turn next is said session both =
+      let answer : Answer = record { tag = (heard.waiting).tag; reply = turn.reply } in
+      subst (λ n. StandsSo fixed front replica conn inputs held world story (turned_by n)) (sym is)
+      (given_stands Behind turn.reply (session_after c.was turn.session) (ended_by c.was turn.session was_lasts ∙ sym both)
+      (subst (λ s. IsTold fixed.setting world story conn Behind answer s) session (behind_told fixed.setting world story conn answer heard.is_told said)) come)
+
+  -- a refusal
+
+  asked_so : story.talk.requests conn ≡ requests_in inputs
+      → numbered (story.talk.requests conn) (length (story.told conn) + 1) ≡ Some (a_command (heard.waiting).tag c.it)
+  unfolding requests_in
+  asked_so requests =
+      ap (λ r. numbered r (length (story.told conn) + 1))
+      (requests ∙ ap requests_in (heard.waiting).parts
+      ∙ requests-append (heard.waiting).passed (Asks (heard.waiting).request ∷ connection.waiting))
+      ∙ next_request (requests_in (heard.waiting).passed) (requests_in connection.waiting) (heard.waiting).request (length (story.told conn))
+      (answered_lengths (heard.waiting).passed (story.told conn) (heard.waiting).answered)
+      ∙ ap Some (heard.waiting).is
+
+  need_so : c.was ≡ story.course.sessions conn → need_of fixed.setting (story.course.sessions conn) c.it ≡ Mailbox c.name c.work
+  need_so was =
+      ap (λ (s : Setting). need_of s (story.course.sessions conn) c.it) (sym ((heard.waiting).of).setting_is)
+      ∙ ap (λ (s : Sess). need_of c.setting s c.it) (sym was) ∙ c.need
+
+  needs_one : c.was ≡ story.course.sessions conn → NeedsMailbox (need_of fixed.setting (story.course.sessions conn) c.it)
+  unfolding NeedsMailbox
+  needs_one was = subst NeedsMailbox (sym (need_so was)) tt
+
+  -- the step that saw it last had this table, in which its name is reserved
+  can_refuse : story.talk.requests conn ≡ requests_in inputs → story.talk.answers conn ≡ story.told conn → c.was ≡ story.course.sessions conn
+      → (table : MailboxTable) → IsSeenBy story.moving world.marks (next_id conn (story.told conn)) table
+      → is_reserved (record_at table c.name) ≡ true → CanRefuse fixed.setting world.marks story conn (heard.waiting).tag c.it
+  unfolding cause_text
+  can_refuse requests said was table seen moves = record {
+    unreplied = said;
+    refused = record { asked = asked_so requests; needs = needs_one was; cause = refl };
+    seen = last_kind (next_id conn (story.told conn)) world.marks _ seen.saw;
+    move = record { step = seen.step; saw = seen.saw; name = c.name; work = c.work; need = need_so was; moving = seen.moves c.name ∙ moves };
+  }
+
+  pub refused_stands : InputsCome fixed front replica conn inputs held world story → (next : WentOn)
+      → next ≡ refused_turn c (refused_for c.was c.it BeingMoved) → story.talk.requests conn ≡ requests_in inputs
+      → story.talk.answers conn ≡ story.told conn → c.was ≡ story.course.sessions conn
+      → (table : MailboxTable) → IsSeenBy story.moving world.marks (next_id conn (story.told conn)) table → is_reserved (record_at table c.name) ≡ true
+      → StandsSo fixed front replica conn inputs held world story (turned_by next)
+  refused_stands come next is requests said was table seen moves =
+      let turn : Turn = refused_for c.was c.it BeingMoved in
+      subst (λ n. StandsSo fixed front replica conn inputs held world story (turned_by n)) (sym is)
+      (read_stands fixed front replica conn inputs held connection world story here heard Reserved turn.reply (session_after c.was turn.session)
+      (subst (λ (s : Sess). IsTold fixed.setting world story conn Reserved (record { tag = (heard.waiting).tag; reply = (refused_for s c.it BeingMoved).reply })
+      (session_after s (refused_for s c.it BeingMoved).session)) (sym was)
+      (refusal_told fixed.setting world story conn (heard.waiting).tag c.it heard.is_told (can_refuse requests said was table seen moves)))
+      (refused_lasts c.was c.it BeingMoved was_lasts) (refused_ends c.was c.it BeingMoved) come)
+
+  -- ---- it waits on
+
+  pub on_stands : MaySend fixed front conn world story → (next : WentOn) → WaitsOn fixed.master c next → AsksBackend (home_at world) next.waiting.at
+      → story.talk.answers conn ≡ story.told conn → c.was ≡ story.course.sessions conn
+      → StandsSo fixed front replica conn inputs held world story (turned_by next)
+  on_stands may next on backend said was =
+      subst (λ (t : Then). StandsSo fixed front replica conn inputs held world story
+      (by_then fixed.setting (ways_for fixed replica) conn (now next.session) (heard.waiting).tag next.waiting t)) (sym on.sends)
+      (waits_on_stands fixed front replica conn inputs held connection world story here heard may.frontend may.is_numbered said was next on backend)

@@ -1,0 +1,103 @@
+-- A frontend takes the master's OK for which a command of an open connection waits.
+use Rattle.std.proofs.Common.{◌≡◌, ◌≢◌, ℕ, nat_eq, true, List, ◌∷◌, Option, Some, sym, ◌∙◌, ap, subst}
+use Rattle.std.specs.Cmp.Lexicographic.{pointwise}
+use Rattle.std.proofs.lemmas.Cmp.{nat_list_eq_equiv}
+use Rattle.ask_routes.specs.Barrier.{barrier_answered}
+use Rattle.front_core.specs.declared.connection.Connection.{Connection}
+use Rattle.front_core.specs.declared.front.Front.{Front}
+use Rattle.front_core.specs.Answered.{ok_comes}
+use Rattle.front_core.specs.Ended.{released}
+use Rattle.front_core.specs.Front.{connection_at, deliver, line_by, line_from, ok_at, ways_of, with_turned}
+use Rattle.front_core.specs.Taken.{Turned}
+use Rattle.imap_talk.specs.declared.inputs.Input.{Input}
+use Rattle.link_msg.specs.declared.message.LinkMsg.{LinkMsg}
+use Rattle.link_msg.specs.declared.message.LinkMsg.TheVariants.{Line}
+use Rattle.link_queue.specs.Links.{on_link}
+use Rattle.mark_history.specs.Marked.{Tale}
+use Rattle.mur_base.specs.declared.point.AskId.{AskId}
+use Rattle.mur_model.specs.declared.setting.Setting.{Setting}
+use Rattle.node_step.specs.declared.input.NodeInput.TheVariants.{From}
+use Rattle.node_record.specs.Table.{MailboxTable}
+use Rattle.point_links.specs.Commands.{ClientCommand}
+use Rattle.route_links.specs.Barriers.{Place as barrier}
+use Rattle.cluster_core.specs.declared.world.World.{World}
+use Rattle.cluster_core.specs.World.{comes, home_at, taken_from_link}
+use Rattle.cluster_core.proofs.Commands.Place.{Place, Place as place}
+use Rattle.cluster_core.proofs.Commands.Standing.{Fixed, next_id}
+use Rattle.cluster_core.proofs.Connections.ConnectionLaw.{IsMarkedAt, IsStanding}
+use Rattle.cluster_core.proofs.Connections.KeepsFront.{world_after}
+use Rattle.cluster_core.proofs.Nodes.Comes.{front_comes, with_front}
+use Rattle.cluster_core.proofs.Places.FrontTakes.{takes_ok}
+use Rattle.cluster_core.proofs.Places.FrontWorlds.{ok_stays}
+use Rattle.cluster_core.proofs.Connections.FrameLaw.{ways_for}
+use Rattle.cluster_core.proofs.Answers.Backends.{cleared_backend}
+use Rattle.cluster_core.proofs.Answers.OkComes.{ok_turns}
+use Rattle.cluster_core.proofs.Answers.GoesOn.{StandsSo}
+use Rattle.cluster_core.proofs.Answers.OpenSteps.{OpenStep, heard_so, turned_step}
+use Rattle.cluster_core.proofs.Answers.Readers.{ok_reader}
+use Rattle.cluster_core.proofs.Answers.Steps.{IsBefore, inputs_may_come, may_send}
+
+-- ---- the frontend takes the OK of the command
+
+module _ (fixed : Fixed) (front : Front) (conn : ℕ) (connection : Connection) (bytes : List ℕ) (id : AskId) (setting_is : front.setting ≡ fixed.setting)
+    (master_is : front.master ≡ fixed.master) (first_is : front.first ≡ fixed.first) (has : connection_at front conn ≡ Some connection)
+    (own : id.conn ≡ conn) (reads_so : barrier_answered bytes ≡ Some id) where
+  pub delivers_ok : deliver front fixed.master (Line bytes)
+      ≡ with_turned front conn (ok_comes fixed.setting (ways_for fixed front.replica) conn connection id)
+  unfolding deliver line_from ok_at
+  delivers_ok =
+      let from_master : pointwise nat_eq fixed.master front.master ≡ true =
+      ap (pointwise nat_eq fixed.master) master_is ∙ nat_list_eq_equiv.refl fixed.master in
+      ap (λ b. line_from b front bytes) from_master ∙ ap (line_by front bytes) reads_so
+      ∙ ap (ok_at front id) (ap (connection_at front) own ∙ has)
+      ∙ ap (λ c. with_turned front c (ok_comes front.setting (ways_of front) c connection id)) own
+      ∙ ap (λ (s : Setting). with_turned front conn (ok_comes s (ways_of front) conn connection id)) setting_is
+      ∙ ap (λ (m : List ℕ). with_turned front conn (ok_comes fixed.setting (record { recs = (front.replica).records; master = m; first = front.first }) conn
+      connection id)) master_is
+      ∙ ap (λ (f : List ℕ). with_turned front conn (ok_comes fixed.setting (record { recs = (front.replica).records; master = fixed.master; first = f }) conn
+      connection id)) first_is
+
+module _ (fixed : Fixed) (world : World) (story : Tale) (node : List ℕ) (front : Front) (conn : ℕ) (inputs : List Input) (held : Option (List ℕ))
+    (connection : Connection) (before : IsBefore fixed world story node front conn inputs connection)
+    (standing : IsStanding fixed node front.replica conn inputs held connection world story) where
+  not_nowhere : (table : MailboxTable) → place.is_barred (barrier.answered table) ≢ place.nowhere
+  not_nowhere table e = cc
+
+  ok_comes_so : (bytes : List ℕ) (turned : Turned) → deliver front fixed.master (Line bytes) ≡ with_turned front conn turned
+      → comes (taken_from_link world fixed.master node) node (From fixed.master (Line bytes))
+      ≡ world_after (taken_from_link world fixed.master node) node front conn (released turned.connection) turned.outs
+  ok_comes_so bytes turned is =
+      front_comes (taken_from_link world fixed.master node) node (From fixed.master (Line bytes)) front before.whole (before.at).at
+      ∙ ap (with_front (taken_from_link world fixed.master node) node) is
+
+  pub ok_step : (bytes : List ℕ) (id : AskId) (rest : List LinkMsg) → on_link world.links fixed.master node ≡ Line bytes ∷ rest
+      → barrier_answered bytes ≡ Some id → id.conn ≡ conn
+      → OpenStep fixed world story fixed.master node front conn inputs held connection
+      (comes (taken_from_link world fixed.master node) node (From fixed.master (Line bytes)))
+  ok_step bytes id rest first reads_so own =
+      let next : AskId = next_id conn (story.told conn) in
+      let frontend = (before.may).frontend in
+      let is = takes_ok fixed.master (home_at world) world.links node bytes id rest node front.replica next standing.here frontend first reads_so own
+      standing.placed in
+      let here : Place = place.is_barred (barrier.answered is.table) in
+      let turned : Turned = ok_comes fixed.setting (ways_for fixed front.replica) conn connection id in
+      let base : World = taken_from_link world fixed.master node in
+      let heard = heard_so fixed world story fixed.master node front conn inputs held connection before standing here (not_nowhere is.table) is.here_is
+      is.over in
+      let waiting = heard.waiting in
+      let c : ClientCommand = waiting.c in
+      subst (λ w. OpenStep fixed world story fixed.master node front conn inputs held connection w)
+      (sym (ok_comes_so bytes turned (delivers_ok fixed front conn connection bytes id before.setting_is before.master_is before.first_is (before.at).has own
+      reads_so)))
+      (turned_step fixed world story fixed.master node front conn inputs held connection before standing waiting.tag c.waiting turned waiting.stage
+      (subst (λ i. StandsSo fixed node front.replica conn inputs held base story (ok_comes fixed.setting (ways_for fixed front.replica) conn connection i))
+      ((waiting.of).its ∙ sym is.own)
+      (ok_turns fixed node front.replica conn inputs held connection base story is.table heard
+      (inputs_may_come fixed world story node front conn inputs held connection before fixed.master)
+      (may_send fixed world story node front conn inputs held connection before fixed.master (story.talk.answers conn) (story.course.sessions conn) here
+      waiting)
+      before.requests (subst (IsMarkedAt story.moving world.marks next) is.here_is standing.marked) is.has_all
+      (λ cause at. cleared_backend (home_at world) (front.replica).records (before.may).knows fixed.first (before.may).first fixed.master c.id c.was c.waiting
+      cause at)))
+      (ok_reader fixed.setting (ways_for fixed front.replica) conn connection id)
+      (λ other ne. ok_stays fixed world node bytes id rest other frontend first reads_so (λ e. ne (e ∙ own))))

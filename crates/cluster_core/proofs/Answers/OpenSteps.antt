@@ -1,0 +1,161 @@
+-- A frontend takes the answer, or the master's OK, for which a command of an open connection waits.
+use Rattle.std.proofs.Common.{◌≡◌, ◌≢◌, ℕ, true, List, ◌∷◌, Option, Some, inr, sym, ◌∙◌, ap, subst}
+use Rattle.std.proofs.Math.Logic.{⊎_elim}
+use Rattle.std.proofs.lemmas.Cmp.{nat_list_eq_equiv}
+use Rattle.asking_core.specs.declared.waiting.At.TheVariants.{Home}
+use Rattle.asking_core.specs.declared.waiting.Waiting.{Waiting as WaitingFor}
+use Rattle.front_core.specs.Reading.{Reading as Read}
+use Rattle.front_core.specs.declared.connection.Connection.{Connection}
+use Rattle.front_core.specs.declared.connection.Stage.TheVariants.{Waits, Ended}
+use Rattle.front_core.specs.declared.front.Front.{Front}
+use Rattle.front_core.specs.Answered.{answer_comes}
+use Rattle.front_core.specs.Ended.{released}
+use Rattle.front_core.specs.Front.{answer_at, answer_from, connection_at, deliver, waits_for, ways_of, with_turned}
+use Rattle.front_core.specs.Stages.{asks_at, has_asked}
+use Rattle.front_core.specs.Taken.{Turned}
+use Rattle.imap_talk.specs.declared.inputs.Input.{Input}
+use Rattle.imap_types.specs.declared.command.Tag.{Tag}
+use Rattle.imap_types.specs.declared.request.Answer.{Answer as AnswerOf}
+use Rattle.link_msg.specs.declared.answer.BackAnswer.{BackAnswer}
+use Rattle.link_msg.specs.declared.message.LinkMsg.{LinkMsg}
+use Rattle.link_msg.specs.declared.message.LinkMsg.TheVariants.{Answer}
+use Rattle.link_msg.specs.declared.out.Out.{Out}
+use Rattle.link_queue.specs.Links.{on_link}
+use Rattle.mark_history.specs.Marked.{Tale}
+use Rattle.mur_base.specs.declared.point.AskId.{AskId}
+use Rattle.mur_model.specs.declared.session.Sess.{Sess}
+use Rattle.mur_model.specs.declared.setting.Setting.{Setting}
+use Rattle.node_step.specs.declared.input.NodeInput.TheVariants.{From}
+use Rattle.cluster_core.specs.declared.world.World.{World}
+use Rattle.cluster_core.specs.World.{comes, home_at, taken_from_link}
+use Rattle.cluster_core.proofs.Commands.Place.{Place, Place as place}
+use Rattle.cluster_core.proofs.Commands.Released.{begun_released, released_count, stands_released}
+use Rattle.cluster_core.proofs.Commands.Standing.{Fixed, HasBegunSo, Stands, Waiting, next_id}
+use Rattle.cluster_core.proofs.Commands.Standing.Stands.{reads, waits, faulted, finished}
+use Rattle.cluster_core.proofs.Connections.ConnectionLaw.{IsInPlaceOf, IsStanding, PlacesStay}
+use Rattle.cluster_core.proofs.Connections.KeepsFront.{standing_after, world_after}
+use Rattle.cluster_core.proofs.Nodes.Comes.{front_comes, with_front}
+use Rattle.cluster_core.proofs.Places.FrontTakes.{takes_answer}
+use Rattle.cluster_core.proofs.Places.FrontWorlds.{answer_stays}
+use Rattle.cluster_core.proofs.Connections.FrameLaw.{ways_for}
+use Rattle.cluster_core.proofs.Answers.AnswerComes.{NamesBackend, answer_turns}
+use Rattle.cluster_core.proofs.Answers.GoesOn.{StandsSo}
+use Rattle.cluster_core.proofs.Answers.Readers.{KeepsReader, answer_reader}
+use Rattle.cluster_core.proofs.Answers.Replied.{IsHeard}
+use Rattle.cluster_core.proofs.Answers.Steps.{IsBefore, IsStep, inputs_may_come, may_send, step_is}
+
+-- THE STEP OF AN OPEN CONNECTION: it stands behind it
+pub record OpenStep (fixed : Fixed) (world : World) (story : Tale) (from node : List ℕ) (front : Front) (conn : ℕ) (inputs : List Input)
+    (held : Option (List ℕ)) (was : Connection) (next : World) : Type 0 where
+  pub connection : Connection
+  pub outs : List Out
+  pub later : Tale
+  pub step : IsStep fixed world story from node front conn connection outs next later
+  pub standing : IsStanding fixed node front.replica conn inputs held connection next later
+  pub begun : (reading : Read) → HasBegunSo was reading → HasBegunSo connection reading
+
+-- ---- a command that is somewhere waits
+
+waits_there : (fixed : Fixed) (front : List ℕ) (conn : ℕ) (inputs : List Input) (held : Option (List ℕ)) (connection : Connection)
+    (told said : List AnswerOf) (session : Sess) (here : Place) → here ≢ place.nowhere → Stands fixed front conn inputs held connection told said session here
+    → Waiting fixed front conn inputs held connection told said session here
+waits_there fixed front conn inputs held connection told said session here somewhere (reads a b c d e f none) = absurd (somewhere none)
+waits_there fixed front conn inputs held connection told said session here somewhere (waits waiting) = waiting
+waits_there fixed front conn inputs held connection told said session here somewhere (faulted a b c d e none) = absurd (somewhere none)
+waits_there fixed front conn inputs held connection told said session here somewhere (finished passed more request before last a b c d e f none) =
+    absurd (somewhere none)
+
+module _ (fixed : Fixed) (world : World) (story : Tale) (from node : List ℕ) (front : Front) (conn : ℕ) (inputs : List Input) (held : Option (List ℕ))
+    (connection : Connection) (before : IsBefore fixed world story node front conn inputs connection)
+    (standing : IsStanding fixed node front.replica conn inputs held connection world story) where
+  -- the message was taken, and the command is nowhere
+  pub heard_so : (here : Place) → here ≢ place.nowhere → standing.here ≡ here
+      → IsInPlaceOf fixed (taken_from_link world from node) node front.replica (next_id conn (story.told conn)) place.nowhere
+      → IsHeard fixed node front.replica conn inputs held connection (taken_from_link world from node) story here
+  heard_so here somewhere is over = record {
+    count = standing.count;
+    client = standing.client;
+    nothing = over;
+    is_told = before.is_told;
+    waiting = waits_there fixed node conn inputs held connection (story.told conn) (story.talk.answers conn) (story.course.sessions conn) here somewhere
+        (subst (λ h. Stands fixed node conn inputs held connection (story.told conn) (story.talk.answers conn) (story.course.sessions conn) h) is
+        standing.stands);
+  }
+
+  -- the frontend does this with the connection
+  pub turned_step : (tag : Tag) (it : WaitingFor) (turned : Turned) → connection.stage ≡ Waits tag it
+      → StandsSo fixed node front.replica conn inputs held (taken_from_link world from node) story turned
+      → KeepsReader connection turned
+      → ((other : ℕ) → other ≢ conn → PlacesStay fixed other world (taken_from_link world from node))
+      → OpenStep fixed world story from node front conn inputs held connection
+      (world_after (taken_from_link world from node) node front conn (released turned.connection) turned.outs)
+  turned_step tag it turned stage stands reader others = record {
+    connection = released turned.connection;
+    outs = turned.outs;
+    later = stands.story;
+    step = step_is fixed world story from node front conn connection (released turned.connection) before.at turned.outs stands.story stands.made others;
+    standing = standing_after fixed (taken_from_link world from node) node front conn (released turned.connection) turned.outs inputs held front.replica
+        stands.story (before.at).at ((stands.made).others).nodes
+        (record {
+          count = released_count turned.connection ∙ stands.standing.count;
+          client = stands.standing.client;
+          here = stands.standing.here;
+          placed = stands.standing.placed;
+          marked = stands.standing.marked;
+          stands = stands_released fixed node conn inputs held turned.connection (stands.story.told conn) (stands.story.talk.answers conn)
+              (stands.story.course.sessions conn) stands.standing.here stands.standing.stands;
+        });
+    begun = λ reading so. begun_released turned.connection reading
+        (⊎_elim (λ ended. absurd (let no : Waits tag it ≡ Ended = sym stage ∙ ended in cc)) (λ is. inr (reader ∙ is)) so);
+  }
+
+  -- ---- an answer
+
+  not_elsewhere : (server : List ℕ) (answer : BackAnswer) → place.is_answered server answer ≢ place.nowhere
+  not_elsewhere server answer e = cc
+
+  -- it counts, as it comes from the server that was asked
+  delivers_answer : (answer : BackAnswer) (tag : Tag) (it : WaitingFor) → (answer.id).conn ≡ conn → connection.stage ≡ Waits tag it → it.at ≡ Home from
+      → deliver front from (Answer answer) ≡ with_turned front conn (answer_comes fixed.setting (ways_for fixed front.replica) conn connection answer)
+  unfolding deliver answer_from answer_at waits_for has_asked
+  delivers_answer answer tag it own stage asked =
+      let there : connection_at front (answer.id).conn ≡ Some connection = ap (connection_at front) own ∙ (before.at).has in
+      let waits_so : waits_for (connection_at front (answer.id).conn) from ≡ true =
+      ap (λ c. waits_for c from) there ∙ ap (λ s. has_asked s from) stage ∙ ap (λ a. asks_at a from) asked ∙ nat_list_eq_equiv.refl from in
+      ap (λ b. answer_from b front answer) waits_so ∙ ap (answer_at front answer) there
+      ∙ ap (λ c. with_turned front c (answer_comes front.setting (ways_of front) c connection answer)) own
+      ∙ ap (λ (s : Setting). with_turned front conn (answer_comes s (ways_of front) conn connection answer)) before.setting_is
+      ∙ ap (λ (m : List ℕ). with_turned front conn (answer_comes fixed.setting (record { recs = (front.replica).records; master = m; first = front.first }) conn
+      connection answer)) before.master_is
+      ∙ ap (λ (f : List ℕ). with_turned front conn (answer_comes fixed.setting (record { recs = (front.replica).records; master = fixed.master; first = f })
+      conn connection answer)) before.first_is
+
+  answer_comes_so : (answer : BackAnswer) (turned : Turned) → deliver front from (Answer answer) ≡ with_turned front conn turned
+      → comes (taken_from_link world from node) node (From from (Answer answer))
+      ≡ world_after (taken_from_link world from node) node front conn (released turned.connection) turned.outs
+  answer_comes_so answer turned is =
+      front_comes (taken_from_link world from node) node (From from (Answer answer)) front before.whole (before.at).at
+      ∙ ap (with_front (taken_from_link world from node) node) is
+
+  pub answer_step : (answer : BackAnswer) (rest : List LinkMsg) → on_link world.links from node ≡ Answer answer ∷ rest → (answer.id).conn ≡ conn
+      → NamesBackend (home_at world) answer.body
+      → OpenStep fixed world story from node front conn inputs held connection (comes (taken_from_link world from node) node (From from (Answer answer)))
+  answer_step answer rest first own names =
+      let id : AskId = next_id conn (story.told conn) in
+      let frontend = (before.may).frontend in
+      let is = takes_answer fixed.master (home_at world) world.links from node answer rest node front.replica id standing.here frontend first own
+      standing.placed in
+      let turned : Turned = answer_comes fixed.setting (ways_for fixed front.replica) conn connection answer in
+      let base : World = taken_from_link world from node in
+      let here : Place = place.is_answered from answer in
+      let heard = heard_so here (not_elsewhere from answer) is.here_is is.over in
+      let waiting = heard.waiting in
+      subst (λ w. OpenStep fixed world story from node front conn inputs held connection w)
+      (sym (answer_comes_so answer turned (delivers_answer answer waiting.tag (waiting.c).waiting own waiting.stage waiting.at)))
+      (turned_step waiting.tag (waiting.c).waiting turned waiting.stage
+      (answer_turns fixed node front.replica conn inputs held connection base story from answer heard
+      (inputs_may_come fixed world story node front conn inputs held connection before from)
+      (may_send fixed world story node front conn inputs held connection before from (story.talk.answers conn) (story.course.sessions conn) here waiting)
+      names)
+      (answer_reader fixed.setting (ways_for fixed front.replica) conn connection answer)
+      (λ other ne. answer_stays fixed world from node answer rest other frontend first (λ e. ne (e ∙ own))))

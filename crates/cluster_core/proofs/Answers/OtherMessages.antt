@@ -1,0 +1,192 @@
+-- A frontend takes any other message than an answer or the OK to a command: a line of the master that tells of its table, or one that changes nothing.
+use Rattle.std.proofs.Common.{◌≡◌, ◌≢◌, ℕ, nat_eq, Bool, true, false, List, None, Some, refl, sym, ◌∙◌, ap, subst}
+use Rattle.std.specs.Cmp.Lexicographic.{pointwise}
+use Rattle.std.proofs.Math.Logic.{⊎_elim}
+use Rattle.std.proofs.lemmas.Cmp.{nat_list_eq_equiv}
+use Rattle.ask_routes.specs.Barrier.{barrier_answered}
+use Rattle.cluster_core.specs.World.{master_of, carry_all, front_at, home_at, taken_from_link}
+use Rattle.feed_core.specs.declared.replica.Replica.{Replica}
+use Rattle.feed_links.proofs.Names.{other_name}
+use Rattle.feed_links.specs.Replicas.{hears}
+use Rattle.front_core.specs.declared.front.Front.{Front}
+use Rattle.front_core.specs.Front.{deliver, hearing, line_by, line_from, still, up_from}
+use Rattle.imap_talk.specs.Heard.{Heard}
+use Rattle.link_msg.specs.declared.message.LinkMsg.{LinkMsg}
+use Rattle.link_msg.specs.declared.message.LinkMsg.TheVariants.{Up, End, Line, Ask, Answer}
+use Rattle.many_links.specs.ManyHold.{ManyHold}
+use Rattle.mark_history.specs.Marked.{talk_told}
+use Rattle.mur_base.specs.declared.point.AskId.{AskId}
+use Rattle.mur_config.specs.declared.config.Config.{Config}
+use Rattle.mur_model.proofs.HistoryGrows.{same_talk}
+use Rattle.node_step.specs.declared.input.NodeInput.TheVariants.{From}
+use Rattle.cluster_core.specs.declared.world.World.{World}
+use Rattle.cluster_core.proofs.Commands.Place.{Place}
+use Rattle.cluster_core.proofs.Commands.Standing.{Fixed}
+use Rattle.cluster_core.proofs.Connections.ConnectionLaw.{IsInPlaceOf}
+use Rattle.cluster_core.proofs.Connections.KeepsFront.{fronts_at_other}
+use Rattle.cluster_core.proofs.Connections.KeepsLaw.{FeedsHold, KeepsLaw, KeepsOn, fixed_of, murder_of}
+use Rattle.cluster_core.proofs.Connections.Stays.{StaysInPlace, connection_stays}
+use Rattle.cluster_core.proofs.Nodes.Comes.{FrontMoved, front_comes, front_moved, with_front}
+use Rattle.cluster_core.proofs.Nodes.Stay.{front_cores}
+use Rattle.cluster_core.proofs.Places.FrontFirst.{IsIdle}
+use Rattle.cluster_core.proofs.Places.FrontTakes.{idle_leaves_all, news_leave_others, none_stays, takes_news}
+use Rattle.cluster_core.proofs.Places.FrontWorlds.{in_none_alike, moves_with}
+use Rattle.cluster_core.proofs.Places.Stays.{same_name_or}
+use Rattle.cluster_core.proofs.Answers.Keeps.{IsTakenBy, frontend_of, taken_by}
+
+just_front : {one other : Front} → Some one ≡ Some other → one ≡ other
+just_front e = cc
+
+module _ (config : Config) (heard : ℕ → Heard) (world : World) (law : KeepsLaw config heard world) (from to : List ℕ) (front : Front) (message : LinkMsg)
+    (there : front_at world to ≡ Some front) (taken : IsTakenBy config heard world law from message to) where
+  abbrev fixed : Fixed
+  fixed = fixed_of config
+
+  -- the world in which the frontend has another replica, and nothing was let out
+  abbrev with_replica : Replica → World
+  with_replica replica = with_front (taken_from_link world from to) to (still (record front { replica = replica }))
+
+  moved_so : (replica : Replica) → FrontMoved world to (record front { replica = replica }) (with_replica replica)
+  moved_so replica =
+      let step = front_moved (taken_from_link world from to) to front (still (record front { replica = replica })) there in
+      record { own = step.own; fronts = step.fronts; homes = step.homes; masters = step.masters }
+
+  -- each connection is as it was, if its command is where it was
+  replica_keeps : (replica : Replica) → ((conn : ℕ) → StaysInPlace fixed conn world (with_replica replica))
+      → ManyHold (murder_of (with_replica replica) law.master) law.given law.story.course.store → FeedsHold config (with_replica replica) law.master
+      → KeepsOn config law.story heard (with_replica replica)
+  unfolding carry_all
+  replica_keeps replica stays many feeds =
+      let later : Front = record front { replica = replica } in
+      let next : World = with_replica replica in
+      record {
+        law = record {
+          master = law.master;
+          nodes = front_cores config world next law.master law.nodes to front later there (record { me = refl; master = refl; first = refl; setting = refl })
+              (moved_so replica);
+          whole = law.whole;
+          story = law.story;
+          given = law.given;
+          many = many;
+          feeds = feeds;
+          is_told = law.is_told;
+          requests = law.requests;
+          connections = λ conn. connection_stays fixed conn world next law.story law.story (heard conn)
+              (record {
+                fronts = fronts_at_other world next to front later conn there (moved_so replica) refl;
+                client = refl;
+                in_place = stays conn;
+                in_none = λ is. in_none_alike (home_at world) (home_at next) (moved_so replica).homes fixed.master next.links conn
+                    (none_stays fixed.master (home_at world) world.links from to message taken.rest conn (frontend_of config heard world law to front there)
+                    taken.first is);
+                marks = λ command. refl;
+                told = refl;
+                said = refl;
+                session = refl;
+                moving = refl;
+              })
+              (law.connections conn);
+        };
+        more = same_talk (talk_told law.story);
+        closed = λ conn shut. refl;
+        moving = refl;
+      }
+
+  -- its own connections with the new replica, those of others with theirs
+  stays_by : (replica : Replica) (conn : ℕ)
+      → ((command : ℕ) (here : Place) → IsInPlaceOf fixed world to front.replica (record { conn = conn; command = command }) here
+      → IsInPlaceOf fixed (taken_from_link world from to) to replica (record { conn = conn; command = command }) here)
+      → ((node : List ℕ) (other : Replica) (command : ℕ) (here : Place) → node ≢ to
+      → IsInPlaceOf fixed world node other (record { conn = conn; command = command }) here
+      → IsInPlaceOf fixed (taken_from_link world from to) node other (record { conn = conn; command = command }) here)
+      → StaysInPlace fixed conn world (with_replica replica)
+  unfolding carry_all
+  stays_by replica conn own others node was now before after command here is =
+      let next : World = with_replica replica in
+      let id : AskId = record { conn = conn; command = command } in
+      let moved = moved_so replica in
+      ⊎_elim
+      (λ (e : node ≡ to).
+      let one : was ≡ front = just_front (sym before ∙ (ap (front_at world) e ∙ there)) in
+      let two : record front { replica = replica } ≡ now = just_front (sym moved.own ∙ (ap (front_at next) (sym e) ∙ after)) in
+      subst (λ n. IsInPlaceOf fixed next n now.replica id here) (sym e)
+      (subst (λ (f : Front). IsInPlaceOf fixed next to f.replica id here) two
+      (moves_with fixed (taken_from_link world from to) next to replica id here moved.homes
+      (own command here (subst (λ n. IsInPlaceOf fixed world n front.replica id here) e
+      (subst (λ (f : Front). IsInPlaceOf fixed world node f.replica id here) one is))))))
+      (λ (ne : node ≢ to).
+      let same : was ≡ now = just_front (sym before ∙ (sym (moved.fronts node ne) ∙ after)) in
+      subst (λ (f : Front). IsInPlaceOf fixed next node f.replica id here) same
+      (moves_with fixed (taken_from_link world from to) next node was.replica id here moved.homes (others node was.replica command here ne is)))
+      (same_name_or node to)
+
+  -- what the frontend does is that alone
+  keeps_by : (replica : Replica) → deliver front from message ≡ still (record front { replica = replica })
+      → ((conn : ℕ) → StaysInPlace fixed conn world (with_replica replica))
+      → KeepsOn config law.story heard (taken_by config heard world law from message to)
+  keeps_by replica does stays =
+      let is : taken_by config heard world law from message to ≡ with_replica replica =
+      front_comes (taken_from_link world from to) to (From from message) front law.whole there ∙ ap (with_front (taken_from_link world from to) to) does in
+      subst (λ w. KeepsOn config law.story heard w) (sym is)
+      (replica_keeps replica stays (subst (λ w. ManyHold (murder_of w law.master) law.given law.story.course.store) is taken.many)
+      (subst (λ w. FeedsHold config w law.master) is taken.feeds))
+
+-- ---- a line of the master that is no OK
+
+hears_news : (front : Front) (from bytes : List ℕ) → from ≡ front.master → barrier_answered bytes ≡ None
+    → deliver front from (Line bytes) ≡ still (hearing front bytes)
+unfolding deliver line_from
+hears_news front from bytes e none =
+    let same : pointwise nat_eq from front.master ≡ true = ap (pointwise nat_eq from) (sym e) ∙ nat_list_eq_equiv.refl from in
+    ap (λ b. line_from b front bytes) same ∙ ap (line_by front bytes) none
+
+-- THE MASTER'S NEWS KEEP THE LAW
+pub news_stand : (config : Config) (heard : ℕ → Heard) (world : World) (law : KeepsLaw config heard world) (to : List ℕ) (front : Front) (bytes : List ℕ)
+    → front_at world to ≡ Some front → IsTakenBy config heard world law (master_of config) (Line bytes) to → barrier_answered bytes ≡ None
+    → KeepsOn config law.story heard (taken_by config heard world law (master_of config) (Line bytes) to)
+news_stand config heard world law to front bytes there taken none =
+    let me : List ℕ = master_of config in
+    let frontend = frontend_of config heard world law to front there in
+    let replica : Replica = hears front.replica (Line bytes) in
+    keeps_by config heard world law me to front (Line bytes) there taken replica
+    (hears_news front me bytes (sym ((law.nodes).fronts to front there).master_is) none)
+    (λ conn. stays_by config heard world law me to front (Line bytes) there taken replica conn
+    (λ command here is. takes_news me (home_at world) world.links to bytes taken.rest front.replica (record { conn = conn; command = command }) here frontend
+    taken.first none is)
+    (λ node other command here ne is. news_leave_others me (home_at world) world.links to bytes taken.rest node other
+    (record { conn = conn; command = command }) here frontend taken.first none ne is))
+
+-- ---- what changes nothing
+
+not_up : (front : Front) (same : Bool) → same ≡ false → up_from same front ≡ still front
+unfolding up_from
+not_up front false e = refl
+not_up front true e = cc
+
+not_line : (front : Front) (bytes : List ℕ) (same : Bool) → same ≡ false → line_from same front bytes ≡ still front
+unfolding line_from
+not_line front bytes false e = refl
+not_line front bytes true e = cc
+
+pub idles : (front : Front) (from : List ℕ) (message : LinkMsg) → from ≢ front.master → IsIdle front.master from message → deliver front from message ≡ still front
+unfolding deliver
+idles front from Up ne idle = not_up front (pointwise nat_eq from front.master) (other_name from front.master ne)
+idles front from End ne idle = refl
+idles front from (Ask ask) ne idle = refl
+idles front from (Line bytes) ne idle = not_line front bytes (pointwise nat_eq from front.master) (other_name from front.master ne)
+idles front from (Answer answer) ne idle = absurd idle
+
+-- ANY OTHER MESSAGE OF ANOTHER NODE KEEPS THE LAW
+pub idle_stands : (config : Config) (heard : ℕ → Heard) (world : World) (law : KeepsLaw config heard world) (from to : List ℕ) (front : Front)
+    (message : LinkMsg) → front_at world to ≡ Some front → IsTakenBy config heard world law from message to → from ≢ master_of config
+    → IsIdle (master_of config) from message → KeepsOn config law.story heard (taken_by config heard world law from message to)
+idle_stands config heard world law from to front message there taken ne idle =
+    let me : List ℕ = master_of config in
+    let frontend = frontend_of config heard world law to front there in
+    let master_is : front.master ≡ me = ((law.nodes).fronts to front there).master_is in
+    let all = λ (conn : ℕ). idle_leaves_all me (home_at world) world.links from to message taken.rest conn frontend taken.first idle in
+    keeps_by config heard world law from to front message there taken front.replica
+    (idles front from message (λ e. ne (e ∙ master_is)) (subst (λ m. IsIdle m from message) (sym master_is) idle))
+    (λ conn. stays_by config heard world law from to front message there taken front.replica conn
+    (λ command here is. (all conn).in_place to front.replica command here is)
+    (λ node other command here apart is. (all conn).in_place node other command here is))

@@ -1,3 +1,0 @@
--- A flow delivers in rounds, and ends.
-pub mod FlowMade
-pub mod FlowRests

@@ -1,2 +1,0 @@
--- The marks of each event.
-pub mod InTime

@@ -1,0 +1,211 @@
+-- WHAT COMES TO A FRONTEND KEEPS THE LAW, where a server that an answer names is a backend.
+use Rattle.std.proofs.Common.{◌≡◌, ◌≢◌, ℕ, ◌<◌, ◌^◌, Bool, true, false, is_some, List, ◌∷◌, length, Option, Some, refl, sym, ◌∙◌, ap, subst}
+use Rattle.std.proofs.Math.Logic.{⊎_elim}
+use Rattle.ask_routes.specs.Barrier.{barrier_answered}
+use Rattle.back_node.specs.declared.node.BackNode.{BackNode}
+use Rattle.cluster_core.specs.World.{master_of, comes, front_at, home_at, taken_from_link}
+use Rattle.feed_links.specs.Lines.{messages_to}
+use Rattle.feed_links.specs.OneFeed.{AreLines, AreNoops, IsLine}
+use Rattle.front_core.specs.declared.connection.Connection.{Connection}
+use Rattle.front_core.specs.declared.connection.Stage.TheVariants.{Ended}
+use Rattle.front_core.specs.declared.front.Front.{Front}
+use Rattle.front_core.specs.Front.{Stepped, connection_at, deliver, still, ways_of}
+use Rattle.imap_talk.specs.Heard.{Heard, client}
+use Rattle.link_msg.specs.declared.answer.AnswerBody.{AnswerBody}
+use Rattle.link_msg.specs.declared.answer.AnswerBody.TheVariants as answer
+use Rattle.link_msg.specs.declared.answer.BackAnswer.{BackAnswer}
+use Rattle.link_msg.specs.declared.ask.FrontAsk.{FrontAsk}
+use Rattle.link_msg.specs.declared.message.LinkMsg.{LinkMsg}
+use Rattle.link_msg.specs.declared.message.LinkMsg.TheVariants.{Up, End, Line, Ask, Answer}
+use Rattle.link_queue.specs.Links.{on_link}
+use Rattle.mur_base.specs.declared.point.AskId.{AskId}
+use Rattle.mur_config.specs.declared.config.Config.{Config}
+use Rattle.node_step.specs.declared.input.NodeInput.TheVariants.{From}
+use Rattle.cluster_core.specs.declared.world.World.{World}
+use Rattle.cluster_core.proofs.Commands.Standing.{Fixed, next_id}
+use Rattle.cluster_core.proofs.Connections.KeepsLaw.{ConnectionIs, IsAt, KeepsLaw, KeepsOn, fixed_of}
+use Rattle.cluster_core.proofs.Connections.KeepsLaw.ConnectionIs.{is_nobody, is_elsewhere, is_open, is_closed}
+use Rattle.cluster_core.proofs.Feeds.AnsweredNoops.{HasRoomAt, IsWellAnswer}
+use Rattle.cluster_core.proofs.Feeds.Apart.{backend_apart, servers_apart}
+use Rattle.cluster_core.proofs.Feeds.DeliveredNoops.{HasNumbers, answer_noops, line_noops}
+use Rattle.cluster_core.proofs.Feeds.Kept.{IsKept, front_answered_kept, front_hears_kept}
+use Rattle.cluster_core.proofs.Feeds.Noops.{AreApart}
+use Rattle.cluster_core.proofs.Places.FrontFirst.{about_ok, answer_tells, none_comes, ok_tells}
+use Rattle.cluster_core.proofs.Places.Stays.{same_name_or}
+use Rattle.cluster_core.proofs.Answers.AnswerComes.{NamesBackend}
+use Rattle.cluster_core.proofs.Answers.FrontTakes.{MessageNamesBackend, front_takes_keep}
+use Rattle.cluster_core.proofs.Answers.Keeps.{frontend_of}
+use Rattle.cluster_core.proofs.Answers.OtherMessages.{idles}
+use Rattle.cluster_core.proofs.Keeps.Numbers.{open_has_room}
+use Rattle.cluster_core.specs.Numbers.{HeardFits, NumbersFit}
+
+-- what the law says of the nodes, the names and the feeds
+pub law_kept : (config : Config) (heard : ℕ → Heard) (world : World) (law : KeepsLaw config heard world)
+    → IsKept config world law.master law.given law.story.course.store
+law_kept config heard world law = record { nodes = law.nodes; whole = law.whole; many = law.many; feeds = law.feeds }
+
+up_is_none : IsLine Up → ⊥
+up_is_none is = (let no : Up ≡ Line is.0 = is.1 in cc)
+
+end_is_none : IsLine End → ⊥
+end_is_none is = (let no : End ≡ Line is.0 = is.1 in cc)
+
+same_connection : {one other : Connection} → Some one ≡ Some other → one ≡ other
+same_connection e = cc
+
+same_front : {one other : Front} → Some one ≡ Some other → one ≡ other
+same_front e = cc
+
+module _ (config : Config) (heard : ℕ → Heard) (world : World) (law : KeepsLaw config heard world) (from to : List ℕ) (front : Front)
+    (rest : List LinkMsg) (there : front_at world to ≡ Some front) (fits : NumbersFit heard) where
+  abbrev fixed : Fixed
+  fixed = fixed_of config
+
+  abbrev me : List ℕ
+  me = master_of config
+
+  master_is : front.master ≡ me
+  master_is = (law.nodes.fronts to front there).master_is
+
+  apart : AreApart (ways_of front)
+  apart = servers_apart config world law.master law.nodes to front law.feeds there
+
+  -- ---- numbers
+
+  its_fits : (conn : ℕ) (bytes : List ℕ) (closed : Bool) → heard conn ≡ client bytes closed → (conn < 2 ^ 64) × (length bytes < 2 ^ 32)
+  its_fits conn bytes closed e = subst (HeardFits conn) e (fits conn)
+
+  -- the connection of a message of this frontend
+  room_of : (conn : ℕ) (node : List ℕ) (its : Front) (connection : Connection) → node ≡ to → IsAt world conn node its connection
+      → HasRoomAt connection connection.stage → (found : Connection) → connection_at front conn ≡ Some found → HasRoomAt found found.stage
+  room_of conn node its connection same at room found is =
+      let fronts : its ≡ front = same_front (sym at.at ∙ (ap (front_at world) same ∙ there)) in
+      let both : connection ≡ found = same_connection (sym at.has ∙ (ap (λ (f : Front). connection_at f conn) fronts ∙ is)) in
+      subst (λ (c : Connection). HasRoomAt c c.stage) both room
+
+  ended_room : (connection : Connection) → connection.stage ≡ Ended → HasRoomAt connection connection.stage
+  ended_room connection stage = subst (HasRoomAt connection) (sym stage) tt
+
+  answer_numbers : (it : BackAnswer) (was : Heard) → on_link world.links from to ≡ Answer it ∷ rest → heard (it.id).conn ≡ was
+      → ConnectionIs fixed (it.id).conn world law.story was → HasNumbers front (it.id).conn
+  answer_numbers it was first e (is_nobody none fronts untold) =
+      absurd (none_comes fixed.master (home_at world) world.links from to (Answer it) rest (it.id).conn first untold.nothing refl)
+  answer_numbers it was first e (is_elsewhere node given at none untold) =
+      absurd (none_comes fixed.master (home_at world) world.links from to (Answer it) rest (it.id).conn first untold.nothing refl)
+  answer_numbers it was first e (is_open bytes node its connection at reader standing) =
+      let conn : ℕ = (it.id).conn in
+      let tells = answer_tells fixed.master (home_at world) world.links from to it rest node its.replica (next_id conn (law.story.told conn))
+      standing.here (frontend_of config heard world law to front there) first refl standing.placed in
+      let its_numbers = its_fits conn bytes false e in
+      record {
+        fits = its_numbers.0;
+        room = room_of conn node its connection tells.0 at
+            (open_has_room fixed node conn bytes connection (law.story.told conn) (law.story.talk.answers conn) (law.story.course.sessions conn) standing.here
+            standing.count its_numbers.1 standing.stands);
+      }
+  answer_numbers it was first e (is_closed bytes node its connection at gone) =
+      let conn : ℕ = (it.id).conn in
+      let tells = answer_tells fixed.master (home_at world) world.links from to it rest node its.replica (next_id conn (law.story.told conn))
+      gone.here (frontend_of config heard world law to front there) first refl gone.placed in
+      record {
+        fits = (its_fits conn bytes true e).0;
+        room = room_of conn node its connection tells.0 at (ended_room connection gone.stage_is);
+      }
+
+  ok_numbers : (bytes : List ℕ) (id : AskId) (was : Heard) → on_link world.links me to ≡ Line bytes ∷ rest → barrier_answered bytes ≡ Some id
+      → heard id.conn ≡ was → ConnectionIs fixed id.conn world law.story was → HasNumbers front id.conn
+  ok_numbers bytes id was first is e (is_nobody none fronts untold) =
+      absurd (none_comes fixed.master (home_at world) world.links me to (Line bytes) rest id.conn first untold.nothing (about_ok bytes id is))
+  ok_numbers bytes id was first is e (is_elsewhere node given at none untold) =
+      absurd (none_comes fixed.master (home_at world) world.links me to (Line bytes) rest id.conn first untold.nothing (about_ok bytes id is))
+  ok_numbers bytes id was first is e (is_open text node its connection at reader standing) =
+      let conn : ℕ = id.conn in
+      let tells = ok_tells fixed.master (home_at world) world.links to bytes id rest node its.replica (next_id conn (law.story.told conn))
+      standing.here (frontend_of config heard world law to front there) first is refl standing.placed in
+      let its_numbers = its_fits conn text false e in
+      record {
+        fits = its_numbers.0;
+        room = room_of conn node its connection tells.at at
+            (open_has_room fixed node conn text connection (law.story.told conn) (law.story.talk.answers conn) (law.story.course.sessions conn) standing.here
+            standing.count its_numbers.1 standing.stands);
+      }
+  ok_numbers bytes id was first is e (is_closed text node its connection at gone) =
+      let conn : ℕ = id.conn in
+      let tells = ok_tells fixed.master (home_at world) world.links to bytes id rest node its.replica (next_id conn (law.story.told conn))
+      gone.here (frontend_of config heard world law to front there) first is refl gone.placed in
+      record {
+        fits = (its_fits conn text true e).0;
+        room = room_of conn node its connection tells.at at (ended_room connection gone.stage_is);
+      }
+
+  -- ---- what goes out of it to the master is NOOPs
+
+  abbrev Noops : LinkMsg → Type 0
+  Noops message = AreNoops (messages_to me (deliver front from message).outs)
+
+  well_answer : (body : AnswerBody) → NamesBackend (home_at world) body → IsWellAnswer front.master body
+  well_answer (answer.Moved server) names =
+      let found = names server refl in
+      (λ e. backend_apart config world law.master law.nodes server (ap (λ (n : Option BackNode). is_some n) found.1) (e ∙ master_is))
+  well_answer (answer.Done outcome seen) names = tt
+  well_answer (answer.Unreached node) names = tt
+  well_answer answer.Lost names = tt
+  well_answer answer.NotNow names = tt
+
+  still_noops : (message : LinkMsg) → from ≢ me → (e : from ≢ front.master → deliver front from message ≡ still front) → Noops message
+  still_noops message ne e = subst (λ (s : Stepped). AreNoops (messages_to me s.outs)) (sym (e (λ same. ne (same ∙ master_is)))) tt
+
+  ask_noops : (ask : FrontAsk) → Noops (Ask ask)
+  unfolding deliver
+  ask_noops ask = tt
+
+  noops_by : (message : LinkMsg) → on_link world.links from to ≡ message ∷ rest → MessageNamesBackend (home_at world) message → Noops message
+  noops_by (Answer it) first names =
+      subst (λ m. AreNoops (messages_to m (deliver front from (Answer it)).outs)) master_is
+      (answer_noops front apart from it (answer_numbers it (heard (it.id).conn) first refl (law.connections (it.id).conn)) (well_answer it.body names))
+  noops_by (Line bytes) first names = ⊎_elim
+      (λ (e : from ≡ me). subst (λ m. AreNoops (messages_to m (deliver front from (Line bytes)).outs)) master_is
+      (line_noops front apart from bytes
+      (λ id is. ok_numbers bytes id (heard id.conn) (ap (λ f. on_link world.links f to) (sym e) ∙ first) is refl (law.connections id.conn))))
+      (λ (ne : from ≢ me). still_noops (Line bytes) ne (λ other. idles front from (Line bytes) other other))
+      (same_name_or from me)
+  noops_by Up first names = ⊎_elim
+      (λ (e : from ≡ me). absurd (up_is_none (subst AreLines (ap (λ f. on_link world.links f to) (sym e) ∙ first) (law.feeds.each to front there).lines).0))
+      (λ (ne : from ≢ me). still_noops Up ne (λ other. idles front from Up other tt))
+      (same_name_or from me)
+  noops_by End first names = ⊎_elim
+      (λ (e : from ≡ me). absurd (end_is_none (subst AreLines (ap (λ f. on_link world.links f to) (sym e) ∙ first) (law.feeds.each to front there).lines).0))
+      (λ (ne : from ≢ me). still_noops End ne (λ other. idles front from End other tt))
+      (same_name_or from me)
+  noops_by (Ask ask) first names = ask_noops ask
+
+  kept_by : (message : LinkMsg) → on_link world.links from to ≡ message ∷ rest → MessageNamesBackend (home_at world) message
+      → IsKept config (comes (taken_from_link world from to) to (From from message)) law.master law.given law.story.course.store
+  kept_by message first names =
+      let noops = noops_by message first names in
+      ⊎_elim
+      (λ (e : from ≡ me). subst (λ f. IsKept config (comes (taken_from_link world f to) to (From f message)) law.master law.given law.story.course.store) (sym e)
+      (front_hears_kept config world law.master law.given law.story.course.store (law_kept config heard world law) to front message rest there
+      (ap (λ f. on_link world.links f to) (sym e) ∙ first)
+      (subst (λ f. AreNoops (messages_to me (deliver front f message).outs)) e noops)))
+      (λ (ne : from ≢ me).
+      front_answered_kept config world law.master law.given law.story.course.store (law_kept config heard world law) from to front message there ne noops)
+      (same_name_or from me)
+
+  keeps_by : (message : LinkMsg) → on_link world.links from to ≡ message ∷ rest → MessageNamesBackend (home_at world) message
+      → KeepsOn config law.story heard (comes (taken_from_link world from to) to (From from message))
+  keeps_by message first names =
+      let kept = kept_by message first names in
+      front_takes_keep config heard world law from to front message there (record { rest = rest; first = first; many = kept.many; feeds = kept.feeds })
+      names fits
+
+-- A MESSAGE IS DELIVERED TO A FRONTEND
+abbrev pub ToFrontKeeps : Type 0
+ToFrontKeeps = (config : Config) (heard : ℕ → Heard) (world : World) (law : KeepsLaw config heard world) (from to : List ℕ) (front : Front)
+    (message : LinkMsg) (rest : List LinkMsg) → front_at world to ≡ Some front → on_link world.links from to ≡ message ∷ rest
+    → MessageNamesBackend (home_at world) message → NumbersFit heard
+    → KeepsOn config law.story heard (comes (taken_from_link world from to) to (From from message))
+
+pub to_front_keeps : ToFrontKeeps
+to_front_keeps config heard world law from to front message rest there first names fits =
+    keeps_by config heard world law from to front rest there fits message first names

@@ -1,0 +1,91 @@
+-- WHAT COMES TO THE MASTER KEEPS THE LAW, where it comes from a frontend or a backend, and whom the master tells of changes is connected to it.
+use Rattle.std.proofs.Common.{◌≡◌, ◌⊎◌, inl, inr, ℕ, List, ◌∷◌, Some, refl, sym, ◌∙◌, ap, subst}
+use Rattle.back_node.specs.declared.node.BackNode.{BackNode}
+use Rattle.cluster_core.specs.World.{master_of, comes, front_at, home_at, taken_from_link}
+use Rattle.front_core.specs.declared.front.Front.{Front}
+use Rattle.imap_talk.specs.Heard.{Heard}
+use Rattle.imap_types.specs.declared.request.Answer.{Answer}
+use Rattle.imap_types.specs.declared.request.Request.{Request}
+use Rattle.link_msg.specs.declared.message.LinkMsg.{LinkMsg}
+use Rattle.link_queue.specs.Links.{on_link}
+use Rattle.master_core.specs.Linked.{node_says}
+use Rattle.master_core.specs.Outside.{Stepped}
+use Rattle.mur_config.specs.declared.config.Config.{Config}
+use Rattle.node_step.specs.declared.input.NodeInput.TheVariants.{From}
+use Rattle.node_step.specs.declared.node.NodeState.TheVariants as state
+use Rattle.cluster_core.specs.declared.world.World.{World}
+use Rattle.cluster_core.proofs.Commands.Moving.{MovesBy}
+use Rattle.cluster_core.proofs.Connections.KeepsLaw.{FeedsHold, KeepsLaw, KeepsOn}
+use Rattle.cluster_core.proofs.Feeds.AtMaster.{master_takes_feeds}
+use Rattle.cluster_core.proofs.Feeds.FrontAsks.{master_asked_feeds}
+use Rattle.cluster_core.proofs.Nodes.Carried.{is_made}
+use Rattle.cluster_core.proofs.Nodes.Comes.{master_comes, with_master}
+use Rattle.cluster_core.proofs.Nodes.Stay.{master_keeps_nodes, same_nodes}
+use Rattle.cluster_core.proofs.Points.MasterStep.{MasterKeeps, master_step_keeps}
+use Rattle.cluster_core.proofs.Points.Outside.{WatchersAreIts, master_gives_its_own}
+use Rattle.cluster_core.proofs.Keeps.Numbers.{asked_fit}
+use Rattle.cluster_core.specs.Numbers.{NumbersFit}
+
+-- a node that is a frontend or a backend
+abbrev pub IsOne : World → List ℕ → Type 0
+IsOne world node = ((front : Front) × (front_at world node ≡ Some front)) ⊎ ((home : BackNode) × (home_at world node ≡ Some home))
+
+module _ (config : Config) (heard : ℕ → Heard) (world : World) (law : KeepsLaw config heard world) (from : List ℕ) (message : LinkMsg)
+    (rest : List LinkMsg) (first : on_link world.links from (master_of config) ≡ message ∷ rest) (fits : NumbersFit heard)
+    (watchers : WatchersAreIts config world law.master)
+    (moves : MovesBy law.story.moving world.steps (node_says law.master from message).master.table) where
+  abbrev name : List ℕ
+  name = master_of config
+
+  abbrev took : World
+  took = taken_from_link world from name
+
+  abbrev says : Stepped
+  says = node_says law.master from message
+
+  abbrev next : World
+  next = with_master took name says
+
+  step : MasterKeeps config heard world law next says
+  step = master_step_keeps config heard world law from message rest (asked_fit config heard world law fits) moves first
+      (λ conn. master_gives_its_own config world law.master from message watchers conn)
+
+  feeds_by : IsOne world from → FeedsHold config next says.master
+  feeds_by (inl front) = master_asked_feeds config world law.master law.nodes law.feeds from front.0 front.1 message rest first
+  feeds_by (inr home) =
+      master_takes_feeds config world law.master law.nodes law.feeds law.given law.story.course.store law.many from home.0 home.1 message rest first
+
+  keeps : IsOne world from → KeepsOn config law.story heard next
+  keeps is = record {
+    law = record {
+      master = says.master;
+      nodes = master_keeps_nodes config took law.master (From from message) (same_nodes config world took law.master refl law.nodes);
+      whole = (is_made took name (state.Master says.master) says.outs).broken ∙ law.whole;
+      story = step.later;
+      given = step.given;
+      many = step.many;
+      feeds = feeds_by is;
+      is_told = step.is_told;
+      requests = λ conn. ap (λ (r : ℕ → List Request). r conn) step.requests ∙ law.requests conn;
+      connections = step.connections;
+    };
+    more = step.more;
+    closed = λ conn shut. ap (λ (t : ℕ → List Answer). t conn) step.told;
+    moving = step.moving;
+  }
+
+  comes_so : IsOne world from → KeepsOn config law.story heard (comes took name (From from message))
+  comes_so is =
+      subst (λ w. KeepsOn config law.story heard w) (sym (master_comes took name (From from message) law.master law.whole law.nodes.is_there))
+      (keeps is)
+
+-- A MESSAGE IS DELIVERED TO THE MASTER
+abbrev pub ToMasterKeeps : Type 0
+ToMasterKeeps = (config : Config) (heard : ℕ → Heard) (world : World) (law : KeepsLaw config heard world) (from : List ℕ) (message : LinkMsg)
+    (rest : List LinkMsg) → on_link world.links from (master_of config) ≡ message ∷ rest → NumbersFit heard → WatchersAreIts config world law.master
+    → MovesBy law.story.moving world.steps (node_says law.master from message).master.table → IsOne world from
+    → KeepsOn config law.story heard (comes (taken_from_link world from (master_of config)) (master_of config) (From from message))
+
+pub to_master_keeps : ToMasterKeeps
+to_master_keeps config heard world law from message rest first fits watchers moves is =
+    comes_so config heard world law from message rest first fits watchers moves is

@@ -1,0 +1,94 @@
+-- The law at each step of a run, where each step keeps it.
+use Rattle.std.proofs.Common.{◌≡◌, ℕ, List, [], ◌∷◌, ◌++◌, refl, sym, ◌∙◌, subst, append_assoc}
+use Rattle.std.proofs.lemmas.List.{append-nil}
+use Rattle.imap_talk.specs.Heard.{Heard, nobody}
+use Rattle.mark_history.specs.Marked.{talk_told}
+use Rattle.mur_config.specs.declared.config.Config.{Config}
+use Rattle.mur_model.specs.History.{Talk, TalkGoesOn}
+use Rattle.mur_model.proofs.HistoryGrows.{same_talk, talks_follow}
+use Rattle.schedule_text.specs.declared.event.Event.{Event}
+use Rattle.cluster_core.specs.Heard.{heard, heard_from, hears}
+use Rattle.cluster_core.specs.Flow.{run_steps}
+use Rattle.cluster_core.specs.World.{start}
+use Rattle.cluster_core.proofs.Connections.KeepsLaw.{KeepsLaw, KeepsOn}
+use Rattle.cluster_core.proofs.OneServer.MovingLaw.{moving_of}
+
+-- behind these steps of a run
+abbrev pub LawBehind : Config → List Event → Type 0
+LawBehind config steps = KeepsLaw config (λ conn. heard config conn steps) (run_steps (start config) steps)
+
+-- its tale has as moving what the master has reserved, behind each step of a run
+abbrev pub TellsMoves : (config : Config) (all before : List Event) → LawBehind config before → Type 0
+TellsMoves config all before law = law.story.moving ≡ moving_of config all
+
+-- the law holds at the start, and each of these steps keeps it
+pub record EachKeeps (config : Config) (steps : List Event) : Type 0 where
+  pub first : LawBehind config []
+  pub moves : TellsMoves config steps [] first
+  pub next : (before : List Event) (event : Event) (later : List Event) → steps ≡ before ++ event ∷ later → (law : LawBehind config before)
+      → TellsMoves config steps before law
+      → KeepsOn config law.story (λ conn. heard config conn (before ++ event ∷ [])) (run_steps (start config) (before ++ event ∷ []))
+
+-- the law behind some of the steps of a run in which this will have been said
+pub record IsKeptAt (config : Config) (all : List Event) (talk : Talk) (steps : List Event) : Type 0 where
+  pub law : LawBehind config steps
+  pub moves : TellsMoves config all steps law
+  pub more : TalkGoesOn (talk_told law.story) talk
+
+-- and behind each
+pub record KeepsAll (config : Config) (steps : List Event) : Type 0 where
+  pub talk : Talk
+  pub at : (before later : List Event) → steps ≡ before ++ later → IsKeptAt config steps talk before
+
+-- what holds behind these steps, and behind each that follows
+at_the_end : (P : List Event → Type 0) (before : List Event) → P before → (front back : List Event) → [] ≡ front ++ back → P (before ++ front)
+at_the_end P before is [] back e = subst P (sym (append-nil before)) is
+at_the_end P before is (event ∷ front) back e = cc
+
+at_an_event : (P : List Event → Type 0) (before : List Event) (event : Event) (rest : List Event) → P before
+    → ((front back : List Event) → rest ≡ front ++ back → P ((before ++ event ∷ []) ++ front))
+    → (front back : List Event) → event ∷ rest ≡ front ++ back → P (before ++ front)
+at_an_event P before event rest is later [] back e = subst P (sym (append-nil before)) is
+at_an_event P before event rest is later (first ∷ front) back e =
+    let same : event ≡ first = cc in
+    let behind : rest ≡ front ++ back = cc in
+    subst (λ (x : Event). P (before ++ x ∷ front)) same (subst P (append_assoc before (event ∷ []) front) (later front back behind))
+
+record KeepsFrom (config : Config) (steps : List Event) (said : Talk) (before rest : List Event) : Type 0 where
+  talk : Talk
+  more : TalkGoesOn said talk
+  at : (front back : List Event) → rest ≡ front ++ back → IsKeptAt config steps talk (before ++ front)
+
+kept_from : (config : Config) (steps before rest : List Event) → EachKeeps config steps → steps ≡ before ++ rest → (law : LawBehind config before)
+    → TellsMoves config steps before law → KeepsFrom config steps (talk_told law.story) before rest
+kept_from config steps before [] each e law moves = record {
+  talk = talk_told law.story;
+  more = same_talk (talk_told law.story);
+  at = at_the_end (IsKeptAt config steps (talk_told law.story)) before (record { law = law; moves = moves; more = same_talk (talk_told law.story) });
+}
+kept_from config steps before (event ∷ rest) each e law moves =
+    let one = each.next before event rest e law moves in
+    let all = kept_from config steps (before ++ event ∷ []) rest each (e ∙ sym (append_assoc before (event ∷ []) rest)) one.law (one.moving ∙ moves) in
+    let more = talks_follow (talk_told law.story) (talk_told one.law.story) all.talk one.more all.more in
+    record {
+      talk = all.talk;
+      more = more;
+      at = at_an_event (IsKeptAt config steps all.talk) before event rest (record { law = law; moves = moves; more = more }) all.at;
+    }
+
+pub kept_all : (config : Config) (steps : List Event) → EachKeeps config steps → KeepsAll config steps
+kept_all config steps each =
+    let all = kept_from config steps [] steps each refl each.first each.moves in record { talk = all.talk; at = all.at }
+
+-- ---- what was heard before and then
+
+pub heard_from-append : (config : Config) (conn : ℕ) (so_far : Heard) (front back : List Event)
+    → heard_from config conn so_far (front ++ back) ≡ heard_from config conn (heard_from config conn so_far front) back
+unfolding heard_from
+heard_from-append config conn so_far [] back = refl
+heard_from-append config conn so_far (event ∷ front) back = heard_from-append config conn (hears config conn so_far event) front back
+
+pub heard_next : (config : Config) (conn : ℕ) (before : List Event) (event : Event)
+    → heard config conn (before ++ event ∷ []) ≡ hears config conn (heard config conn before) event
+unfolding heard_from
+heard_next config conn before event = heard_from-append config conn nobody before (event ∷ [])

@@ -1,0 +1,158 @@
+-- What the law says of a connection: what its client was given, and that nothing waits on empty links.
+use Rattle.std.proofs.Common.{◌≡◌, ℕ, Bool, true, false, ◌||◌, List, [], ◌∷◌, ◌++◌, length, Option, None, Some, inl, inr, refl, sym, ap, subst, if◌then◌else◌}
+use Rattle.std.specs.List.{list_any}
+use Rattle.back_node.specs.declared.node.BackNode.{BackNode}
+use Rattle.feed_core.specs.declared.replica.Replica.{Replica}
+use Rattle.front_core.specs.Ending.{EndsOnlyLast}
+use Rattle.front_core.proofs.OneConnection.LastAnswer.{all_go_on, ends_last, none_ends, none_given}
+use Rattle.front_core.proofs.OneConnection.Places.{nowhere_on_empty, of_connection}
+use Rattle.front_core.proofs.OneConnection.Readings.{inputs_in}
+use Rattle.front_core.specs.declared.connection.Connection.{Connection}
+use Rattle.imap_talk.specs.Heard.{Heard, bytes_heard, elsewhere, frames_heard, has_closed}
+use Rattle.imap_talk.specs.Inputs.{inputs_of, requests_in}
+use Rattle.imap_talk.specs.Transcript.{all_told_till, ends, transcript_of}
+use Rattle.imap_talk.specs.declared.inputs.Input.{Input}
+use Rattle.imap_talk.proofs.RequestsOf.{answered_lengths, requests_of}
+use Rattle.imap_types.specs.declared.command.Tag.{Tag}
+use Rattle.imap_types.specs.declared.request.Answer.{Answer}
+use Rattle.link_queue.specs.Links.{on_link}
+use Rattle.mur_base.specs.declared.home.Location.{Location}
+use Rattle.mur_base.specs.declared.point.AskId.{AskId}
+use Rattle.mur_config.specs.declared.config.Config.{Config}
+use Rattle.mur_model.specs.declared.session.Sess.{Sess}
+use Rattle.mur_model.specs.declared.setting.Setting.{Setting}
+use Rattle.name_commands.specs.Places.{FlowsShow, NamePlace as name_at}
+use Rattle.name_commands.specs.Whose.{is_of_connection}
+use Rattle.name_flows.specs.declared.ask.NameAsk.{NameAsk}
+use Rattle.point_links.specs.Commands.{ClientCommand}
+use Rattle.route_links.specs.Barriers.{Place as barrier}
+use Rattle.cluster_core.specs.declared.world.Client.{Client}
+use Rattle.cluster_core.specs.Headline.OneNode.{node_of}
+use Rattle.cluster_core.specs.LawSetting.{law_setting}
+use Rattle.cluster_core.specs.declared.world.World.{World}
+use Rattle.cluster_core.specs.Headline.OneStore.{AreEmpty, IsAnsweredThrough}
+use Rattle.cluster_core.specs.Shown.{given_by, given_to}
+use Rattle.cluster_core.specs.World.{client_at, front_at, home_at}
+use Rattle.cluster_core.proofs.Commands.Knows.{Knows}
+use Rattle.cluster_core.proofs.Commands.Knows.Knows.{undecided, is_decided}
+use Rattle.cluster_core.proofs.Commands.Place.{Place, at_backend, its_message, Place as place}
+use Rattle.cluster_core.proofs.Commands.Standing.{Fixed, Stands, next_id}
+use Rattle.cluster_core.proofs.Commands.Standing.Stands.{reads, waits, faulted, finished}
+use Rattle.cluster_core.proofs.Connections.ConnectionLaw.{IsInPlaceOf, client_with}
+use Rattle.cluster_core.proofs.Connections.KeepsLaw.{ConnectionIs, KeepsLaw, fixed_of}
+use Rattle.cluster_core.proofs.Connections.KeepsLaw.ConnectionIs.{is_nobody, is_elsewhere, is_open, is_closed}
+use Rattle.cluster_core.proofs.OneServer.NamesHeld.{bytes_itself}
+use Rattle.cluster_core.proofs.OneServer.NoResync.{none_waits_there, rests}
+
+-- a client that is connected where no frontend is was given nothing
+abbrev pub IsSilent : World → ℕ → Type 0
+IsSilent world conn = (node : List ℕ) → node_of (client_at world conn) ≡ Some node → front_at world node ≡ None → given_to world conn ≡ []
+
+-- what can be said of a connection, whatever was heard of it
+pub record SaysOf (setting : Setting) (world : World) (conn : ℕ) (heard : Heard) (told : List Answer) : Type 0 where
+  pub given : (heard ≡ elsewhere → IsSilent world conn) → given_to world conn ≡ transcript_of setting (bytes_heard heard) told
+  pub lasts : EndsOnlyLast told
+  pub waits_not : AreEmpty world → has_closed heard ≡ false → IsAnsweredThrough (requests_of setting (frames_heard heard)) told
+
+given_at : (world : World) (conn : ℕ) (found : Option Client) → client_at world conn ≡ found → given_to world conn ≡ given_by found
+unfolding given_to
+given_at world conn found at = ap given_by at
+
+or_true : (one other : Bool) → other ≡ true → (one || other) ≡ true
+or_true true other e = refl
+or_true false other e = e
+
+last_ends : (before : List Answer) (last : Answer) → ends last.reply ≡ true
+    → list_any (λ (answer : Answer). ends answer.reply) (before ++ last ∷ []) ≡ true
+last_ends [] last e = ap (λ t. t || false) e
+last_ends (answer ∷ before) last e = or_true (ends answer.reply) _ (last_ends before last e)
+
+stands_last : (fixed : Fixed) (front : List ℕ) (conn : ℕ) (inputs : List Input) (held : Option (List ℕ)) (connection : Connection) (told said : List Answer)
+    (session : Sess) (here : Place) → Stands fixed front conn inputs held connection told said session here → EndsOnlyLast told
+stands_last fixed front conn inputs held connection told said session here (reads a b c d e f none) = all_go_on inputs told e
+stands_last fixed front conn inputs held connection told said session here (waits waiting) = all_go_on waiting.passed told waiting.answered
+stands_last fixed front conn inputs held connection told said session here (faulted a b c d e none) = e
+stands_last fixed front conn inputs held connection told said session here (finished passed more request before last a b c d e f none) =
+    subst EndsOnlyLast (sym d) (ends_last before last (none_ends passed before c))
+
+-- ---- where nothing is on the way
+
+-- no ask waits for the end of a resync
+module _ (config : Config) (heard : ℕ → Heard) (world : World) (law : KeepsLaw config heard world) (empty : AreEmpty world) where
+  resync_over : (server : List ℕ) (node : BackNode) → home_at world server ≡ Some node → node.flows.resync ≡ None
+  resync_over server node there =
+      rests law.master server node (on_link world.links server law.master.me) (on_link world.links law.master.me server) law.given
+      (law.many.each server node there).talk (empty server law.master.me) (empty law.master.me server)
+
+  none_at : (front : List ℕ) (replica : Replica) (id : AskId) (me : Location) (ask : NameAsk)
+      → IsInPlaceOf (fixed_of config) world front replica id (place.is_at me (name_at.waits ask)) → ⊥
+  none_at front replica id me ask placed =
+      let node : BackNode = placed.there.0 in
+      let there : home_at world me.server ≡ Some node = placed.there.1 in
+      let here : at_backend me.server (place.is_at me (name_at.waits ask)) ≡ name_at.waits ask =
+      ap (λ b. if b then name_at.waits ask else name_at.nowhere) (bytes_itself me.server) in
+      none_waits_there (is_of_connection id.conn) node ask
+      (subst (FlowsShow (is_of_connection id.conn) node.flows) here (placed.shows me.server node there).at) (resync_over me.server node there)
+
+  -- of a command's place nothing is known
+  none_knows : (front : List ℕ) (replica : Replica) (id : AskId) (here : Place) (c : ClientCommand) (tag : Tag) (told said : List Answer) (session : Sess)
+      → IsInPlaceOf (fixed_of config) world front replica id here → its_message (fixed_of config).master front id here ≡ None
+      → Knows (fixed_of config).master (fixed_of config).first front c tag told said session here → ⊥
+  none_knows front replica id place.nowhere c tag told said session placed none (undecided a b so) = so
+  none_knows front replica id place.nowhere c tag told said session placed none (is_decided turn a b d so) = so
+  none_knows front replica id (place.is_asked server ask) c tag told said session placed none knows = cc
+  none_knows front replica id (place.is_answered server answer) c tag told said session placed none knows = cc
+  none_knows front replica id (place.is_at me name_at.nowhere) c tag told said session placed none (undecided a b so) = so
+  none_knows front replica id (place.is_at me name_at.nowhere) c tag told said session placed none (is_decided turn a b d so) = so
+  none_knows front replica id (place.is_at me (name_at.waits ask)) c tag told said session placed none knows = none_at front replica id me ask placed
+  none_knows front replica id (place.is_at me (name_at.sends name flow)) c tag told said session placed none knows = cc
+  none_knows front replica id (place.is_at me (name_at.hears name flow it)) c tag told said session placed none knows = cc
+  none_knows front replica id (place.is_barred barrier.nowhere) c tag told said session placed none (undecided a b so) = so
+  none_knows front replica id (place.is_barred barrier.nowhere) c tag told said session placed none (is_decided turn a b d so) = so
+  none_knows front replica id (place.is_barred barrier.asked) c tag told said session placed none knows = cc
+  none_knows front replica id (place.is_barred (barrier.answered table)) c tag told said session placed none knows = cc
+
+  -- a client that hasn't closed its connection was answered in all, or its session has ended
+  none_waits : (front : List ℕ) (replica : Replica) (id : AskId) (conn : ℕ) (inputs : List Input) (held : Option (List ℕ)) (connection : Connection)
+      (told said : List Answer) (session : Sess) (here : Place) → IsInPlaceOf (fixed_of config) world front replica id here
+      → Stands (fixed_of config) front conn inputs held connection told said session here → IsAnsweredThrough (requests_in inputs) told
+  none_waits front replica id conn inputs held connection told said session here placed (reads a b c d e f at) =
+      inl (sym (answered_lengths inputs told e))
+  none_waits front replica id conn inputs held connection told said session here placed (waits waiting) =
+      absurd (none_knows front replica id here waiting.c waiting.tag told said session placed
+      (nowhere_on_empty world.links (of_connection id.conn) (its_message (fixed_of config).master front id here) empty placed.message) waiting.knows)
+  none_waits front replica id conn inputs held connection told said session here placed (faulted a b c d e at) = inl (sym c)
+  none_waits front replica id conn inputs held connection told said session here placed (finished passed more asking before last a b c d e f at) =
+      inr (subst (λ t. list_any (λ (answer : Answer). ends answer.reply) t ≡ true) (sym d) (last_ends before last e))
+
+-- ---- of any connection
+
+says_by : (config : Config) (all : ℕ → Heard) (world : World) (law : KeepsLaw config all world) (conn : ℕ) (heard : Heard)
+    → ConnectionIs (fixed_of config) conn world law.story heard → SaysOf (law_setting config) world conn heard (law.story.told conn)
+unfolding all_told_till bytes_heard frames_heard has_closed requests_in inputs_of
+says_by config all world law conn heard (is_nobody none fronts untold) = record {
+  given = λ silent. given_at world conn None none;
+  lasts = none_given (law.story.told conn) untold.told;
+  waits_not = λ empty stays. inl (ap length untold.told);
+}
+says_by config all world law conn heard (is_elsewhere node given at none untold) = record {
+  given = λ silent. silent refl node (ap node_of at) none;
+  lasts = none_given (law.story.told conn) untold.told;
+  waits_not = λ empty stays. inl (ap length untold.told);
+}
+says_by config all world law conn heard (is_open bytes node front connection at reader standing) = record {
+  given = λ silent. given_at world conn (Some (client_with node (inputs_in (law_setting config) bytes) (law.story.told conn))) standing.client;
+  lasts = stands_last (fixed_of config) node conn _ _ connection (law.story.told conn) (law.story.talk.answers conn)
+      (law.story.course.sessions conn) standing.here standing.stands;
+  waits_not = λ empty stays. none_waits config all world law empty node front.replica (next_id conn (law.story.told conn)) conn _ _ connection
+      (law.story.told conn) (law.story.talk.answers conn) (law.story.course.sessions conn) standing.here standing.placed standing.stands;
+}
+says_by config all world law conn heard (is_closed bytes node front connection at gone) = record {
+  given = λ silent. given_at world conn (Some (client_with node (inputs_in (law_setting config) bytes) (law.story.told conn))) gone.client;
+  lasts = gone.lasts;
+  waits_not = λ empty stays. cc;
+}
+
+pub says_of : (config : Config) (heard : ℕ → Heard) (world : World) (law : KeepsLaw config heard world) (conn : ℕ)
+    → SaysOf (law_setting config) world conn (heard conn) (law.story.told conn)
+says_of config heard world law conn = says_by config heard world law conn (heard conn) (law.connections conn)

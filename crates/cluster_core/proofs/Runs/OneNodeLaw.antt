@@ -1,0 +1,283 @@
+-- In a step one node works, and nothing else changes.
+use Rattle.std.proofs.Common.{◌≡◌, ◌≢◌, ℕ, Bool, true, false, cond, nat_eq, List, [], ◌∷◌, ◌++◌, drop, Option, None, Some, refl, sym, ◌∙◌, ap, subst, arith}
+use Rattle.std.specs.Ordering.{nat_cmp}
+use Rattle.std.specs.Cmp.Lexicographic.{slice_cmp}
+use Rattle.std.proofs.Math.Logic.{⊎_elim}
+use Rattle.std.proofs.lemmas.Bool.Decides.{nat_tests}
+use Rattle.std.proofs.lemmas.List.{append-nil, append_assoc}
+use Rattle.node_step.specs.declared.input.NodeInput.{NodeInput}
+use Rattle.node_step.specs.declared.input.NodeInput.TheVariants.{Opened, Piece, Hung, From}
+use Rattle.link_msg.specs.declared.message.LinkMsg.{LinkMsg}
+use Rattle.link_msg.specs.declared.out.Out.{Out}
+use Rattle.link_msg.specs.declared.out.Out.TheVariants.{Client as to_client, Close, Link as to_node, Mark as mark_out, Told as tell}
+use Rattle.mur_base.specs.Map.{value_at, with_value}
+use Rattle.mur_base.proofs.MapLaws.{names_apart, numbers_apart, not_equal, same_or_other, value_at-with_entry, value_at-with_entry-other, value_at-with_value, value_at-with_value-other}
+use Rattle.node_step.specs.declared.node.NodeState.{NodeState}
+use Rattle.node_step.specs.NodeStep.{takes as node_takes}
+use Rattle.schedule_text.specs.declared.event.Event.{Event}
+use Rattle.schedule_text.specs.declared.event.Event.TheVariants.{Open, Data, Hang, Deliver}
+use Rattle.cluster_core.specs.declared.world.Client.{Client}
+use Rattle.mur_base.specs.declared.point.AskId.{AskId}
+use Rattle.mark_history.specs.declared.mark.MarkKind.{MarkKind}
+use Rattle.mark_history.specs.declared.mark.MarkKind.TheVariants.{Home, Told}
+use Rattle.cluster_core.specs.declared.world.World.{World}
+use Rattle.cluster_core.specs.Flow.{run_steps}
+use Rattle.link_queue.specs.Links.{Links, same_link, on_link, without_first}
+use Rattle.cluster_core.specs.Headline.OneNode.{node_of, worker, connected, leaves_on, WasSent, OnlyWorks, WorksBy, OneNodeWorks, OneNodeWorksEach}
+use Rattle.cluster_core.specs.World.{not_lost, marked, client_at, node_at, given_more, carry, carry_all, with_state, comes_to, with_client, opens, client_does, taken_from_link, deliver_first, takes, stepped, steps_by}
+use Rattle.cluster_core.proofs.Runs.InTime.{takes_adds}
+use Rattle.link_queue.proofs.Wires.{same_names, on_link-sent, on_link-taken}
+
+-- what a node's outputs do: messages stand behind those on its links, clients are given bytes, and nothing else of nodes and links changes
+pub record Sends (node : List ℕ) (before after : World) : Type 0 where
+  pub nodes : after.nodes ≡ before.nodes
+  pub clients : (conn : ℕ) → node_of (client_at after conn) ≡ node_of (client_at before conn)
+  pub others : (from to : List ℕ) → from ≢ node → on_link after.links from to ≡ on_link before.links from to
+  goes : (to : List ℕ) → WasSent (on_link before.links node to) (on_link after.links node to)
+
+none_sent : (before after : List LinkMsg) → after ≡ before → WasSent before after
+none_sent before after same = record { more = []; behind = same ∙ sym (append-nil before) }
+
+sent_on : (one two three : List LinkMsg) → WasSent one two → WasSent two three → WasSent one three
+sent_on one two three first second = record {
+  more = first.more ++ second.more;
+  behind = second.behind ∙ ap (λ q. q ++ second.more) first.behind ∙ append_assoc one first.more second.more;
+}
+
+sends_nothing : (node : List ℕ) (world : World) → Sends node world world
+sends_nothing node world = record {
+  nodes = refl;
+  clients = λ conn. refl;
+  others = λ from to ne. refl;
+  goes = λ to. none_sent (on_link world.links node to) (on_link world.links node to) refl;
+}
+
+sends_more : (node : List ℕ) (one two three : World) → Sends node one two → Sends node two three → Sends node one three
+sends_more node one two three first second = record {
+  nodes = second.nodes ∙ first.nodes;
+  clients = λ conn. second.clients conn ∙ first.clients conn;
+  others = λ from to ne. second.others from to ne ∙ first.others from to ne;
+  goes = λ to. sent_on (on_link one.links node to) (on_link two.links node to) (on_link three.links node to) (first.goes to) (second.goes to);
+}
+
+elsewhere_none : (from node to other : List ℕ) (message : LinkMsg) → from ≢ node → cond (same_link from to node other) (message ∷ []) [] ≡ []
+elsewhere_none from node to other message ne = rw (not_equal (slice_cmp nat_cmp) names_apart from node ne) refl
+
+-- a client that is given bytes stays where it is
+stays_there : (world : World) (conn : ℕ) (was now : Client) → client_at world conn ≡ Some was → now.at ≡ was.at → (other : ℕ)
+    → node_of (client_at (record world { clients = with_value nat_cmp world.clients conn now }) other) ≡ node_of (client_at world other)
+stays_there world conn was now there at other = ⊎_elim
+    (λ (e : other ≡ conn).
+    subst (λ c. node_of (client_at (record world { clients = with_value nat_cmp world.clients conn now }) c) ≡ node_of (client_at world c)) (sym e)
+    (ap node_of (value_at-with_value nat_cmp numbers_apart world.clients conn now was there) ∙ ap (λ a. Some a) at ∙ sym (ap node_of there)))
+    (λ (ne : other ≢ conn). ap node_of (value_at-with_value-other nat_cmp numbers_apart world.clients conn other now ne))
+    (same_or_other nat_cmp numbers_apart other conn)
+
+given_sends : (node : List ℕ) (world : World) (conn : ℕ) (bytes : List ℕ) (found : Option Client) → client_at world conn ≡ found
+    → Sends node world (given_more world conn bytes found)
+unfolding given_more
+given_sends node world conn bytes None there = sends_nothing node world
+given_sends node world conn bytes (Some client) there = record {
+  nodes = refl;
+  clients = stays_there world conn client (record client { given = client.given ++ bytes }) there refl;
+  others = λ from to ne. refl;
+  goes = λ to. none_sent (on_link world.links node to) (on_link world.links node to) refl;
+}
+
+marked_sends : (node : List ℕ) (world : World) (ask : AskId) (kind : MarkKind) → Sends node world (marked world ask kind)
+marked_sends node world ask kind = record {
+  nodes = refl;
+  clients = λ conn. refl;
+  others = λ from to ne. refl;
+  goes = λ to. none_sent (on_link world.links node to) (on_link world.links node to) refl;
+}
+
+carry_sends : (node : List ℕ) (world : World) (out : Out) → Sends node world (carry node world out)
+unfolding carry
+carry_sends node world (to_client conn bytes) = given_sends node world conn bytes (client_at world conn) refl
+carry_sends node world (Close conn) = sends_nothing node world
+carry_sends node world (mark_out ask counts) = marked_sends node world ask (Home counts)
+carry_sends node world (tell ask how) = marked_sends node world ask (Told how)
+carry_sends node world (to_node other message) = record {
+  nodes = refl;
+  clients = λ conn. refl;
+  others = λ from to ne. on_link-sent world.links node other from to message
+      ∙ ap (λ m. on_link world.links from to ++ m) (elsewhere_none from node to other message ne) ∙ append-nil (on_link world.links from to);
+  goes = λ to. record { more = cond (same_link node to node other) (message ∷ []) []; behind = on_link-sent world.links node other node to message };
+}
+
+pub carry_all_sends : (node : List ℕ) (world : World) (outs : List Out) → Sends node world (carry_all node world outs)
+unfolding carry_all
+carry_all_sends node world [] = sends_nothing node world
+carry_all_sends node world (out ∷ outs) =
+    sends_more node world (carry node world out) _ (carry_sends node world out) (carry_all_sends node (carry node world out) outs)
+
+-- a node that works, and then sends
+works_and_sends : (event : Event) (node : List ℕ) (one two three : World) → OnlyWorks event node one two → Sends node two three
+    → OnlyWorks event node one three
+works_and_sends event node one two three works out = record {
+  nodes = λ other ne. ap (λ n. value_at (slice_cmp nat_cmp) n other) out.nodes ∙ works.nodes other ne;
+  clients = λ conn. out.clients conn ∙ works.clients conn;
+  stays = λ from to ne. out.others from to ne ∙ works.stays from to ne;
+  sends = λ to. sent_on (leaves_on event node to (on_link one.links node to)) (on_link two.links node to) (on_link three.links node to) (works.sends to)
+      (out.goes to);
+}
+
+-- an event that takes no message
+abbrev TakesNone : Event → Type 0
+TakesNone event = (from to : List ℕ) (queue : List LinkMsg) → leaves_on event from to queue ≡ queue
+
+-- where nothing changes but clients
+idle : (event : Event) (node : List ℕ) (world : World) (clients : List (ℕ × Client)) → TakesNone event
+    → ((conn : ℕ) → node_of (value_at nat_cmp clients conn) ≡ connected event conn (node_of (client_at world conn)))
+    → OnlyWorks event node world (record world { clients = clients })
+idle event node world clients none there = record {
+  nodes = λ other ne. refl;
+  clients = there;
+  stays = λ from to ne. sym (none from to (on_link world.links from to));
+  sends = λ to. none_sent (leaves_on event node to (on_link world.links node to)) (on_link world.links node to)
+      (sym (none node to (on_link world.links node to)));
+}
+
+-- a message is taken at the node that it goes to
+takes_first : (from to : List ℕ) (world : World) → OnlyWorks (Deliver from to) to world (taken_from_link world from to)
+takes_first from to world = record {
+  nodes = λ other ne. refl;
+  clients = λ conn. refl;
+  stays = λ one other ne. on_link-taken world.links from to one other;
+  sends = λ other. none_sent (leaves_on (Deliver from to) to other (on_link world.links to other))
+      (on_link (without_first world.links from to) to other) (on_link-taken world.links from to to other);
+}
+
+nothing_first : (links : Links LinkMsg) (from to one other : List ℕ) (same : Bool) → same_link one other from to ≡ same → on_link links from to ≡ []
+    → on_link links one other ≡ cond same (drop 1 (on_link links one other)) (on_link links one other)
+nothing_first links from to one other true h none =
+    let is = same_names one other from to h in
+    let empty : on_link links one other ≡ [] = ap (λ x. on_link links x other) is.0 ∙ ap (λ x. on_link links from x) is.1 ∙ none in
+    empty ∙ sym (ap (λ q. drop 1 q) empty)
+nothing_first links from to one other false h none = refl
+
+takes_nothing : (from to : List ℕ) (world : World) → on_link world.links from to ≡ [] → OnlyWorks (Deliver from to) to world world
+takes_nothing from to world none = record {
+  nodes = λ other ne. refl;
+  clients = λ conn. refl;
+  stays = λ one other ne. nothing_first world.links from to one other (same_link one other from to) refl none;
+  sends = λ other. none_sent (leaves_on (Deliver from to) to other (on_link world.links to other)) (on_link world.links to other)
+      (nothing_first world.links from to to other (same_link to other from to) refl none);
+}
+
+-- what a node does itself
+state_changes : (event : Event) (node : List ℕ) (before world : World) (it : NodeState) → OnlyWorks event node before world
+    → OnlyWorks event node before (with_state world node it)
+state_changes event node before world it works = record {
+  nodes = λ other ne. value_at-with_value-other (slice_cmp nat_cmp) names_apart world.nodes node other it ne ∙ works.nodes other ne;
+  clients = works.clients;
+  stays = works.stays;
+  sends = works.sends;
+}
+
+comes_works : (event : Event) (node : List ℕ) (before world : World) (input : NodeInput) (found : Option NodeState) → OnlyWorks event node before world
+    → OnlyWorks event node before (comes_to world node input found)
+unfolding comes_to
+comes_works event node before world input None works = works
+comes_works event node before world input (Some it) works =
+    works_and_sends event node before _ _ (state_changes event node before world (node_takes it input).state works)
+    (carry_all_sends node _ (not_lost world.broken node (node_takes it input).outs))
+
+-- a client that is connected stays where it is
+joined_before : (node : List ℕ) (conn other : ℕ) (at : Option (List ℕ)) → (at ≡ None → other ≢ conn) → at ≡ connected (Open node conn) other at
+joined_before node conn other (Some there) ne = refl
+joined_before node conn other None ne =
+    let apart : nat_eq other conn ≡ false = by (ne refl) in
+    sym (ap (λ s. cond s (Some node) None) apart)
+  where
+    by : other ≢ conn → nat_eq other conn ≡ false
+    by k = grind (arith, nat_tests)
+
+-- a connection is opened
+joins : (world : World) (node : List ℕ) (conn : ℕ) → client_at world conn ≡ None → (other : ℕ)
+    → node_of (client_at (with_client world node conn) other) ≡ connected (Open node conn) other (node_of (client_at world other))
+joins world node conn none other = ⊎_elim
+    (λ (e : other ≡ conn).
+    let same : nat_eq conn conn ≡ true = grind (arith, nat_tests) in
+    subst (λ c. node_of (client_at (with_client world node conn) c) ≡ connected (Open node conn) c (node_of (client_at world c))) (sym e)
+    (ap node_of (value_at-with_entry nat_cmp numbers_apart world.clients conn (record { at = node; given = [] }))
+    ∙ sym (ap (λ found. connected (Open node conn) conn (node_of found)) none ∙ ap (λ s. cond s (Some node) None) same)))
+    (λ (ne : other ≢ conn). ap node_of (value_at-with_entry-other nat_cmp numbers_apart world.clients conn other (record { at = node; given = [] }) ne)
+    ∙ joined_before node conn other (node_of (client_at world other)) (λ _. ne))
+    (same_or_other nat_cmp numbers_apart other conn)
+
+is_there : (world : World) (conn other : ℕ) (client : Client) → client_at world conn ≡ Some client → node_of (client_at world other) ≡ None → other ≢ conn
+is_there world conn other client there none e =
+    let no : Some client.at ≡ None = sym (ap node_of there) ∙ ap (λ c. node_of (client_at world c)) (sym e) ∙ none in
+    cc
+
+opens_work : (world : World) (node : List ℕ) (conn : ℕ) (found : Option Client) → client_at world conn ≡ found
+    → OnlyWorks (Open node conn) node world (opens world node conn found)
+unfolding opens
+opens_work world node conn (Some client) there =
+    idle (Open node conn) node world world.clients (λ from to queue. refl)
+    (λ other. joined_before node conn other (node_of (client_at world other)) (is_there world conn other client there))
+opens_work world node conn None there =
+    comes_works (Open node conn) node world (with_client world node conn) (Opened conn) (node_at world node)
+    (idle (Open node conn) node world (with_client world node conn).clients (λ from to queue. refl) (joins world node conn there))
+
+-- bytes come, or a client closes its connection
+client_works : (event : Event) (world : World) (input : NodeInput) (found : Option Client) → TakesNone event
+    → ((conn : ℕ) → connected event conn (node_of (client_at world conn)) ≡ node_of (client_at world conn))
+    → WorksBy event (node_of found) world (client_does world input found)
+unfolding client_does
+client_works event world input None none stays = refl
+client_works event world input (Some client) none stays =
+    comes_works event client.at world world input (node_at world client.at)
+    (idle event client.at world world.clients none (λ conn. sym (stays conn)))
+
+deliver_works : (world : World) (from to : List ℕ) (queue : List LinkMsg) → on_link world.links from to ≡ queue
+    → OnlyWorks (Deliver from to) to world (deliver_first world from to queue)
+unfolding deliver_first
+deliver_works world from to [] first = takes_nothing from to world first
+deliver_works world from to (message ∷ rest) first =
+    comes_works (Deliver from to) to world (taken_from_link world from to) (From from message) (node_at world to) (takes_first from to world)
+
+takes_works : (world : World) (event : Event) → WorksBy event (worker world event) world (takes world event)
+unfolding takes
+takes_works world (Open node conn) = opens_work world node conn (client_at world conn) refl
+takes_works world (Data conn bytes) =
+    client_works (Data conn bytes) world (Piece conn bytes) (client_at world conn) (λ from to queue. refl) (λ other. refl)
+takes_works world (Hang conn) = client_works (Hang conn) world (Hung conn) (client_at world conn) (λ from to queue. refl) (λ other. refl)
+takes_works world (Deliver from to) = deliver_works world from to (on_link world.links from to) refl
+takes_works world event = refl
+
+same_worker : (world : World) (event : Event) → worker (stepped world) event ≡ worker world event
+same_worker world (Open node conn) = refl
+same_worker world (Data conn bytes) = refl
+same_worker world (Hang conn) = refl
+same_worker world (Deliver from to) = refl
+same_worker world event = refl
+
+-- the count of steps is nothing that works
+before_counting : (event : Event) (at : Option (List ℕ)) (world after : World) → WorksBy event at (stepped world) after → WorksBy event at world after
+before_counting event None world after works = works
+before_counting event (Some node) world after works = record {
+  nodes = works.nodes;
+  clients = works.clients;
+  stays = works.stays;
+  sends = works.sends;
+}
+
+one_node_works : (world : World) (event : Event) → OneNodeWorks event world (steps_by world event)
+one_node_works world event = record {
+  counted = (takes_adds (stepped world) event).same_step;
+  works = before_counting event (worker world event) world (steps_by world event)
+      (subst (λ at. WorksBy event at (stepped world) (steps_by world event)) (same_worker world event) (takes_works (stepped world) event));
+}
+
+pub one_more_step : (world : World) (before : List Event) (event : Event) → run_steps world (before ++ event ∷ []) ≡ steps_by (run_steps world before) event
+unfolding run_steps
+one_more_step world [] event = refl
+one_more_step world (first ∷ before) event = one_more_step (steps_by world first) before event
+
+-- in each of these steps one node works
+pub one_node_each : (world : World) (steps : List Event) → OneNodeWorksEach world steps
+one_node_each world steps before event later parts =
+    subst (λ w. OneNodeWorks event (run_steps world before) w) (sym (one_more_step world before event)) (one_node_works (run_steps world before) event)

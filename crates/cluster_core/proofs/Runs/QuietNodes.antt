@@ -1,0 +1,408 @@
+-- No node of a run answers that a mailbox has moved.
+use Rattle.std.proofs.Common.{◌≡◌, ℕ, Bool, true, false, cond, List, [], ◌∷◌, map, Option, None, Some, refl, sym, ◌∙◌, subst}
+use Rattle.std.specs.Prelude.{⊤, All}
+use Rattle.std.specs.Option.{IfSome}
+use Rattle.std.specs.List.{AllByRecursion}
+use Rattle.std.specs.BTreeMap.{is_at as has_key}
+use Rattle.std.specs.Ordering.{nat_cmp}
+use Rattle.std.specs.Cmp.Lexicographic.{slice_cmp}
+use Rattle.std.proofs.lemmas.List.Elements.{All-append, All-nil}
+use Rattle.std.proofs.lemmas.Map.Views.{IfSome-lookup_from_All}
+use Rattle.back_node.specs.declared.node.BackNode.{BackNode}
+use Rattle.back_node.specs.Acted.{BackActed, acted, home_with}
+use Rattle.back_node.specs.Node.{is_my_master}
+use Rattle.back_node.specs.Takes.{UpToEntry, answer_out, ask_by, line_by, line_out, name_ask, name_kind, node_takes, only_entry, passed_over, serves, talks, taken_up}
+use Rattle.back_node.proofs.OnlyEntry.{IsOfOpen, message_entries}
+use Rattle.backend_core.specs.declared.backend.Backend.{Backend}
+use Rattle.backend_core.specs.declared.input.BackInput.TheVariants.{FromFront}
+use Rattle.backend_core.specs.declared.op_plan.OpPlan.{OpPlan}
+use Rattle.backend_core.specs.declared.op_plan.Telling.{Telling}
+use Rattle.backend_core.specs.declared.op_plan.Telling.TheVariants as telling
+use Rattle.backend_core.specs.declared.response.Response.{Response}
+use Rattle.backend_core.specs.Append.{adds_within_limits, append_plan}
+use Rattle.backend_core.specs.AskPlan.{ask_plan, op_plan}
+use Rattle.backend_core.specs.Expunge.{expunge_plan}
+use Rattle.backend_core.specs.Flags.{flags_plan, relabels_unless}
+use Rattle.backend_core.specs.Look.{look_plan}
+use Rattle.backend_core.specs.OpPlan.{looked, plans, plans_unless, told_after}
+use Rattle.backend_core.specs.Plan.{answer_outs, back_plan, owed_outs, owes}
+use Rattle.backend_core.specs.Read.{read_plan}
+use Rattle.backend_core.specs.Refusal.{is_other, refusal, refusal_in}
+use Rattle.backend_core.specs.Summaries.{summaries_plan}
+use Rattle.front_core.specs.declared.front.Front.{Front}
+use Rattle.front_core.specs.Front.{ways_of}
+use Rattle.front_core.proofs.OwnOuts.{AreLetOut, HasConnections, MayAsk, MovesBy, both_let, bytes_own, connect_own, message_own}
+use Rattle.imap_types.specs.declared.op.Op.{Op}
+use Rattle.imap_types.specs.declared.op.Op.TheVariants as op
+use Rattle.link_msg.specs.declared.ask.FrontAsk.{FrontAsk}
+use Rattle.link_msg.specs.declared.message.LinkMsg.{LinkMsg}
+use Rattle.link_msg.specs.declared.message.LinkMsg.TheVariants.{Up, End, Line, Ask, Answer}
+use Rattle.link_msg.specs.declared.out.Out.{Out}
+use Rattle.mail_message.specs.Boxes.{Content}
+use Rattle.mail_store.specs.Store.{has_too_many_flags, rows_stored}
+use Rattle.mail_store.specs.Append.{append_fault}
+use Rattle.mail_message.specs.declared.message.Message.{Message}
+use Rattle.master_core.specs.declared.master.Master.{Master}
+use Rattle.mupdate_codec.specs.declared.command.MResponse.{MResponse}
+use Rattle.mupdate_codec.specs.declared.tag.Tag.{Tag}
+use Rattle.mupdate_codec.specs.Whole.{response_in}
+use Rattle.mur_base.specs.declared.home.Phase.{Phase}
+use Rattle.mur_base.specs.declared.home.Phase.TheVariants.{Creating, Open, Closing, Receiving, Ready, Pointer}
+use Rattle.mur_base.specs.declared.point.AskId.{AskId}
+use Rattle.node_step.specs.declared.input.NodeInput.{NodeInput}
+use Rattle.node_step.specs.declared.input.NodeInput.TheVariants.{Opened, Piece, Hung, From}
+use Rattle.node_step.specs.declared.node.NodeState.{NodeState}
+use Rattle.node_step.specs.declared.node.NodeState.TheVariants as state
+use Rattle.node_step.specs.NodeStep.{back_takes, front_takes, master_takes, takes as node_step}
+use Rattle.node_step.proofs.MasterOuts.{SaysFrom, TellsOwn, bytes_let, connect_let, says_let}
+use Rattle.node_step.proofs.OwnOuts.{MayMark}
+use Rattle.name_flows.specs.declared.ask.AskKind.{AskKind}
+use Rattle.name_flows.specs.declared.ask.Told.{Told}
+use Rattle.name_flows.specs.Listing.{up_step}
+use Rattle.name_flows.specs.Steps.{FlowStep, handed, held_with}
+use Rattle.node_record.specs.Held.{Names, held_at}
+use Rattle.node_record.specs.declared.backend.BackendRecord.{BackendRecord}
+use Rattle.node_record.specs.declared.backend.BackendRecord.TheVariants as entry
+use Rattle.node_record.specs.declared.held.Held.{Held}
+use Rattle.cluster_core.proofs.Runs.QuietFlows.{AreHere, IsHeldHere, IsHere, IsNotMoved, IsQuietStep, IsQuietTalk, LooksForNone, MovesNone, MovesNoneIf, TellsNoServer, after_here, asked_quiet, heard_quiet, up_quiet}
+
+-- ---- messages
+
+-- no answer tells of a server to which a mailbox has moved; and no link goes up or down
+abbrev pub IsQuiet : LinkMsg → Type 0
+IsQuiet Up = ⊥
+IsQuiet End = ⊥
+IsQuiet (Line bytes) = Unit {0}
+IsQuiet (Ask ask) = Unit {0}
+IsQuiet (Answer answer) = TellsNoServer answer.body
+
+abbrev pub AnyClient : ℕ → Type 0
+AnyClient conn = ⊤
+
+abbrev pub QuietTo : List ℕ → LinkMsg → Type 0
+QuietTo node message = IsQuiet message
+
+abbrev pub AreQuietOuts : Type 0 → List Out → Type 0
+AreQuietOuts marks outs = AreLetOut AnyClient QuietTo marks outs
+
+-- ---- a backend's talk with the master
+
+pub record BackIsQuiet (it : BackActed) : Type 0 where
+  pub talk : IsQuietTalk it.state.home.held it.state.flows
+  pub outs : AreQuietOuts ⊤ it.outs
+
+abbrev done_by : UpToEntry → BackActed
+done_by it = acted it.node it.rest
+
+same_held : (home : Backend) (change : Option BackendRecord) → (home_with home change).held ≡ held_with home.held change
+same_held home None = refl
+same_held home (Some it) = refl
+
+here_with : (held : Names) (change : Option BackendRecord) → MovesNoneIf change → AreHere held → AreHere (held_with held change)
+here_with held None moves here = here
+here_with held (Some it) moves here = after_here held it moves here
+
+lines_quiet : (master : List ℕ) (lines : List (List ℕ)) → AreQuietOuts ⊤ (map (line_out master) lines)
+lines_quiet master [] = tt
+lines_quiet master (line ∷ lines) = (tt, lines_quiet master lines)
+
+answers_quiet : (answers : List Told) → AllByRecursion IsNotMoved answers → AreQuietOuts ⊤ (map answer_out answers)
+answers_quiet [] all = tt
+answers_quiet (told ∷ answers) all = (all.0, answers_quiet answers all.1)
+
+talk_quiet : (node : BackNode) (step : FlowStep) → IsQuietTalk node.home.held node.flows → IsQuietStep node.home.held step
+    → BackIsQuiet (done_by (talks node step))
+talk_quiet node step quiet is = record {
+  talk = record {
+    here = subst AreHere (sym (same_held node.home step.entry)) (here_with node.home.held step.entry is.moves quiet.here);
+    lines = All-append LooksForNone step.flows.sent step.sends is.kept is.sends;
+    resyncs = λ it e. (let was = is.resyncs it e in (same_held node.home step.entry ∙ was.0, was.1));
+  };
+  outs = both_let AnyClient QuietTo ⊤ _ _ (lines_quiet step.flows.master (handed node.home.held step).step.lines) (answers_quiet step.answers is.answers);
+}
+
+passed_quiet : (node : BackNode) → IsQuietTalk node.home.held node.flows → BackIsQuiet (done_by (passed_over node))
+passed_quiet node quiet = record { talk = record { here = quiet.here; lines = quiet.lines; resyncs = quiet.resyncs }; outs = tt }
+
+-- ---- an ask for messages
+
+abbrev TellingQuiet : Telling → Type 0
+TellingQuiet (telling.Now response) = TellsNoServer response.body
+TellingQuiet (telling.Look name outcome) = Unit {0}
+
+told_quiet : (home : Backend) (it : Telling) → TellingQuiet it → TellsNoServer (told_after home it).body
+unfolding told_after looked
+told_quiet home (telling.Now response) is = is
+told_quiet home (telling.Look name outcome) is = by_found (held_at home.held name)
+  where
+    by_found : (found : Option Held) → TellsNoServer (looked outcome found).body
+    by_found None = tt
+    by_found (Some held) = tt
+
+RefusalQuiet : Option Response → Type 0
+RefusalQuiet None = Unit {0}
+RefusalQuiet (Some response) = TellsNoServer response.body
+
+phase_quiet : (phase : Phase) (other : Bool) → IsHere phase → RefusalQuiet (refusal_in phase other)
+unfolding refusal_in RefusalQuiet
+phase_quiet Open true is = tt
+phase_quiet Open false is = tt
+phase_quiet (Pointer server) other is = absurd is
+phase_quiet Creating other is = tt
+phase_quiet Closing other is = tt
+phase_quiet Receiving other is = tt
+phase_quiet Ready other is = tt
+
+unless_quiet : (plan : OpPlan) (response : Option Response) → RefusalQuiet response → TellingQuiet plan.telling
+    → TellingQuiet (plans_unless plan response).telling
+unfolding plans_unless RefusalQuiet
+unless_quiet plan None is tells = tells
+unless_quiet plan (Some response) is tells = is
+
+plans_quiet : (selected : Option ℕ) (plan : Content → OpPlan) (found : Option Held) → IfSome found IsHeldHere
+    → ((content : Content) → TellingQuiet (plan content).telling) → TellingQuiet (plans selected plan found).telling
+unfolding plans refusal
+plans_quiet selected plan None is tells = tt
+plans_quiet selected plan (Some held) is tells =
+    unless_quiet (plan held.content) (refusal_in held.phase (is_other selected held.content)) (phase_quiet held.phase (is_other selected held.content) is)
+    (tells held.content)
+
+adds_quiet : (name : List ℕ) (content : Content) (messages : List Message) (fault : _) → TellingQuiet (adds_within_limits name content messages fault).telling
+unfolding adds_within_limits
+adds_quiet name content messages (Some fault) = tt
+adds_quiet name content messages None = tt
+
+relabels_quiet : (name : List ℕ) (content : Content) (uids : List ℕ) (mode : _) (flags : _) (many : Bool)
+    → TellingQuiet (relabels_unless name content uids mode flags many).telling
+unfolding relabels_unless
+relabels_quiet name content uids mode flags true = tt
+relabels_quiet name content uids mode flags false = tt
+
+PlanQuiet : Option OpPlan → Type 0
+PlanQuiet None = Unit {0}
+PlanQuiet (Some plan) = TellingQuiet plan.telling
+
+op_quiet : (home : Backend) (ask : FrontAsk) (it : Op) → name_kind it ≡ None → IfSome (held_at home.held ask.name) IsHeldHere → PlanQuiet (op_plan home ask it)
+unfolding op_plan append_plan look_plan read_plan summaries_plan flags_plan expunge_plan PlanQuiet
+op_quiet home ask (op.Append messages) none here =
+    plans_quiet ask.selected _ (held_at home.held ask.name) here (λ content. adds_quiet ask.name content messages (append_fault content messages))
+op_quiet home ask (op.Read uids sees) none here = plans_quiet ask.selected _ (held_at home.held ask.name) here (λ content. tt)
+op_quiet home ask (op.Flags uids mode flags) none here =
+    plans_quiet ask.selected _ (held_at home.held ask.name) here
+    (λ content. relabels_quiet ask.name content uids mode flags (has_too_many_flags (rows_stored content uids mode flags)))
+op_quiet home ask (op.Expunge only) none here = plans_quiet ask.selected _ (held_at home.held ask.name) here (λ content. tt)
+op_quiet home ask op.Look none here = plans_quiet ask.selected _ (held_at home.held ask.name) here (λ content. tt)
+op_quiet home ask (op.Summaries uids) none here = plans_quiet ask.selected _ (held_at home.held ask.name) here (λ content. tt)
+op_quiet home ask op.Create none here = cc
+op_quiet home ask op.Delete none here = cc
+op_quiet home ask (op.Xfer server partition) none here = tt
+
+answer_quiet : (from : List ℕ) (id : AskId) (response : Response) → TellsNoServer response.body
+    → AreQuietOuts ⊤ (answer_outs from id response.counts (Some response.body))
+unfolding answer_outs
+answer_quiet from id response is = (is, (tt, tt))
+
+owed_quiet : (home : Backend) (from : List ℕ) (id : AskId) (plan : Option OpPlan) → PlanQuiet plan → AreQuietOuts ⊤ (owed_outs home (owes from id plan).owed)
+unfolding PlanQuiet
+owed_quiet home from id None is = tt
+owed_quiet home from id (Some plan) is = answer_quiet from id (told_after home plan.telling) (told_quiet home plan.telling is)
+
+moves_none : (held : Names) (it : BackendRecord) → IsOfOpen held it → MovesNone it
+moves_none held (entry.Added name messages) is = tt
+moves_none held (entry.Flagged name rows) is = tt
+moves_none held (entry.Gone name uids) is = tt
+moves_none held (entry.Make name serial acl) is = absurd is
+moves_none held (entry.Opened name) is = absurd is
+moves_none held (entry.Closing name) is = absurd is
+moves_none held (entry.Forget names) is = absurd is
+moves_none held (entry.Begun name giver serial acl) is = absurd is
+moves_none held (entry.Took name changes) is = absurd is
+moves_none held (entry.Ready name count) is = absurd is
+moves_none held (entry.Pointer name server) is = absurd is
+
+not_in_none : (it : BackendRecord) → IsOfOpen [] it → ⊥
+not_in_none (entry.Added name messages) is = absurd is
+not_in_none (entry.Flagged name rows) is = absurd is
+not_in_none (entry.Gone name uids) is = absurd is
+not_in_none (entry.Make name serial acl) is = absurd is
+not_in_none (entry.Opened name) is = absurd is
+not_in_none (entry.Closing name) is = absurd is
+not_in_none (entry.Forget names) is = absurd is
+not_in_none (entry.Begun name giver serial acl) is = absurd is
+not_in_none (entry.Took name changes) is = absurd is
+not_in_none (entry.Ready name count) is = absurd is
+not_in_none (entry.Pointer name server) is = absurd is
+
+only_moves : (held : Names) (entries : List BackendRecord) → AllByRecursion (IsOfOpen held) entries → MovesNoneIf (only_entry entries)
+only_moves held [] all = tt
+only_moves held (it ∷ entries) all = moves_none held it all.0
+
+only_none : (held : Names) (entries : List BackendRecord) → held ≡ [] → AllByRecursion (IsOfOpen held) entries → held_with held (only_entry entries) ≡ []
+only_none held [] none all = none
+only_none held (it ∷ entries) none all = absurd (not_in_none it (subst (λ h. IsOfOpen h it) none all.0))
+
+serves_quiet : (node : BackNode) (from : List ℕ) (ask : FrontAsk) → name_kind ask.op ≡ None → IsQuietTalk node.home.held node.flows
+    → BackIsQuiet (done_by (serves node (back_plan node.home (FromFront from ask))))
+unfolding ask_plan
+serves_quiet node from ask none quiet =
+    let plan = op_plan node.home ask ask.op in
+    let change = only_entry (owes from ask.id plan).entries in
+    let opened = (message_entries node.home from ask none).opened in
+    record {
+      talk = record {
+        here = subst AreHere (sym (same_held node.home change))
+            (here_with node.home.held change (only_moves node.home.held (owes from ask.id plan).entries opened) quiet.here);
+        lines = quiet.lines;
+        resyncs = λ it e. (let was = quiet.resyncs it e in
+            (same_held node.home change ∙ only_none node.home.held (owes from ask.id plan).entries was.0 opened, was.1));
+      };
+      outs = owed_quiet (home_with node.home change) from ask.id plan
+          (op_quiet node.home ask ask.op none (IfSome-lookup_from_All IsHeldHere (has_key (slice_cmp nat_cmp ask.name)) node.home.held quiet.here));
+    }
+
+-- ---- whatever comes to a backend
+
+asks_quiet : (node : BackNode) (from : List ℕ) (ask : FrontAsk) (kind : Option AskKind) → name_kind ask.op ≡ kind → IsQuietTalk node.home.held node.flows
+    → BackIsQuiet (done_by (ask_by node from ask kind))
+asks_quiet node from ask (Some kind) is quiet = talk_quiet node _ quiet (asked_quiet node.home.held node.flows (name_ask from ask kind) quiet)
+asks_quiet node from ask None is quiet = serves_quiet node from ask is quiet
+
+line_quiet : (node : BackNode) (read : Option (Tag × MResponse)) → IsQuietTalk node.home.held node.flows → BackIsQuiet (done_by (line_by node read))
+line_quiet node None quiet = passed_quiet node quiet
+line_quiet node (Some it) quiet = talk_quiet node _ quiet (heard_quiet node.home.held node.flows quiet it.0 it.1)
+
+either_quiet : (test : Bool) (one other : UpToEntry) → BackIsQuiet (done_by one) → BackIsQuiet (done_by other) → BackIsQuiet (done_by (cond test one other))
+either_quiet true one other a c = a
+either_quiet false one other a c = c
+
+home_quiet : (node : BackNode) (from : List ℕ) (message : LinkMsg) → IsQuiet message → IsQuietTalk node.home.held node.flows
+    → BackIsQuiet (node_takes node from message)
+unfolding taken_up
+home_quiet node from Up is quiet = absurd is
+home_quiet node from End is quiet = absurd is
+home_quiet node from (Line line) is quiet =
+    either_quiet (is_my_master node from) (line_by node (response_in line)) (passed_over node) (line_quiet node (response_in line) quiet)
+    (passed_quiet node quiet)
+home_quiet node from (Ask ask) is quiet = asks_quiet node from ask (name_kind ask.op) refl quiet
+home_quiet node from (Answer answer) is quiet = passed_quiet node quiet
+
+-- ---- whatever comes to a node
+
+abbrev pub NodeIsQuiet : NodeState → Type 0
+NodeIsQuiet (state.Front front) = Unit {0}
+NodeIsQuiet (state.Back home) = IsQuietTalk home.home.held home.flows
+NodeIsQuiet (state.Master master) = Unit {0}
+
+abbrev pub InputIsQuiet : NodeInput → Type 0
+InputIsQuiet (From name message) = IsQuiet message
+InputIsQuiet input = Unit {0}
+
+asks_any : (front : Front) → MayAsk QuietTo (ways_of front)
+asks_any front = record { master = λ bytes. tt; first = λ ask. tt; named = λ name server e ask. tt }
+
+moves_any : (message : LinkMsg) → MovesBy QuietTo message
+moves_any (Answer answer) = λ server e ask. tt
+moves_any Up = tt
+moves_any End = tt
+moves_any (Line line) = tt
+moves_any (Ask ask) = tt
+
+any_connections : (front : Front) → HasConnections AnyClient front
+any_connections front conn connection at = tt
+
+front_quiet : (front : Front) (input : NodeInput) → AreQuietOuts ⊥ (front_takes front input).outs
+unfolding front_takes
+front_quiet front (Opened conn) = (connect_own AnyClient QuietTo front (any_connections front) conn tt).outs
+front_quiet front (Piece conn bytes) = (bytes_own AnyClient QuietTo front (any_connections front) (asks_any front) conn bytes).outs
+front_quiet front (Hung conn) = tt
+front_quiet front (From name message) =
+    (message_own AnyClient QuietTo front (any_connections front) (asks_any front) name message (moves_any message)).outs
+
+any_watchers : (watchers : List (ℕ × Tag)) → AllByRecursion (λ (e : ℕ × Tag). AnyClient e.0) watchers
+any_watchers [] = tt
+any_watchers (e ∷ watchers) = (tt, any_watchers watchers)
+
+any_streams : (streams : List (List ℕ × Tag)) → AllByRecursion (λ (e : List ℕ × Tag). (bytes : List ℕ) → QuietTo e.0 (Line bytes)) streams
+any_streams [] = tt
+any_streams (e ∷ streams) = (λ bytes. tt, any_streams streams)
+
+tells_any : (master : Master) → TellsOwn AnyClient QuietTo master
+tells_any master = record { watchers = any_watchers master.watchers; streams = any_streams master.streams }
+
+says_any : (name : List ℕ) (message : LinkMsg) → SaysFrom QuietTo name message
+says_any name (Line line) = λ bytes. tt
+says_any name Up = tt
+says_any name End = tt
+says_any name (Ask ask) = tt
+says_any name (Answer answer) = tt
+
+master_quiet : (master : Master) (input : NodeInput) → AreQuietOuts ⊤ (master_takes master input).outs
+unfolding master_takes
+master_quiet master (Opened conn) = (connect_let AnyClient QuietTo master (tells_any master) conn tt).outs
+master_quiet master (Piece conn bytes) = (bytes_let AnyClient QuietTo master (tells_any master) conn bytes tt).outs
+master_quiet master (Hung conn) = tt
+master_quiet master (From name message) = (says_let AnyClient QuietTo master (tells_any master) name message (says_any name message)).outs
+
+pub outs_quiet : (it : NodeState) (input : NodeInput) → NodeIsQuiet it → InputIsQuiet input → AreQuietOuts (MayMark it) (node_step it input).outs
+unfolding node_step back_takes
+outs_quiet (state.Front front) input quiet is = front_quiet front input
+outs_quiet (state.Back home) (Opened conn) quiet is = tt
+outs_quiet (state.Back home) (Piece conn bytes) quiet is = tt
+outs_quiet (state.Back home) (Hung conn) quiet is = tt
+outs_quiet (state.Back home) (From name message) quiet is = (home_quiet home name message is quiet).outs
+outs_quiet (state.Master master) input quiet is = master_quiet master input
+
+pub stays_quiet : (it : NodeState) (input : NodeInput) → NodeIsQuiet it → InputIsQuiet input → NodeIsQuiet (node_step it input).state
+unfolding node_step front_takes back_takes master_takes
+stays_quiet (state.Front front) (Opened conn) quiet is = tt
+stays_quiet (state.Front front) (Piece conn bytes) quiet is = tt
+stays_quiet (state.Front front) (Hung conn) quiet is = tt
+stays_quiet (state.Front front) (From name message) quiet is = tt
+stays_quiet (state.Back home) (Opened conn) quiet is = quiet
+stays_quiet (state.Back home) (Piece conn bytes) quiet is = quiet
+stays_quiet (state.Back home) (Hung conn) quiet is = quiet
+stays_quiet (state.Back home) (From name message) quiet is = (home_quiet home name message is quiet).talk
+stays_quiet (state.Master master) (Opened conn) quiet is = tt
+stays_quiet (state.Master master) (Piece conn bytes) quiet is = tt
+stays_quiet (state.Master master) (Hung conn) quiet is = tt
+stays_quiet (state.Master master) (From name message) quiet is = tt
+
+-- ---- a node that is told that a link to it is up, before anything else came to it
+
+-- nothing is there, and nothing is under way
+abbrev pub NodeIsFresh : NodeState → Type 0
+NodeIsFresh (state.Front front) = Unit {0}
+NodeIsFresh (state.Back home) = (home.home.held ≡ []) × ((home.flows.running ≡ []) × All LooksForNone home.flows.sent)
+NodeIsFresh (state.Master master) = Unit {0}
+
+none_here : (held : Names) → held ≡ [] → AreHere held
+none_here held none = subst AreHere (sym none) (All-nil IsHeldHere)
+
+pub fresh_is_quiet : (it : NodeState) → NodeIsFresh it → NodeIsQuiet it
+fresh_is_quiet (state.Front front) fresh = tt
+fresh_is_quiet (state.Back home) fresh =
+    record { here = none_here home.home.held fresh.0; lines = fresh.1.1; resyncs = λ it e. (fresh.0, fresh.1.0) }
+fresh_is_quiet (state.Master master) fresh = tt
+
+up_by_quiet : (home : BackNode) (test : Bool) → NodeIsFresh (state.Back home)
+    → BackIsQuiet (done_by (cond test (talks home (up_step home.flows)) (passed_over home)))
+up_by_quiet home true fresh =
+    let quiet = fresh_is_quiet (state.Back home) fresh in talk_quiet home _ quiet (up_quiet home.home.held home.flows quiet fresh.0 fresh.1.0)
+up_by_quiet home false fresh = passed_quiet home (fresh_is_quiet (state.Back home) fresh)
+
+up_by_fresh : (home : BackNode) (test : Bool) → NodeIsFresh (state.Back home)
+    → NodeIsFresh (state.Back (done_by (cond test (talks home (up_step home.flows)) (passed_over home))).state)
+up_by_fresh home true fresh = (fresh.0, (fresh.1.0, (up_by_quiet home true fresh).talk.lines))
+up_by_fresh home false fresh = fresh
+
+pub ups_outs : (it : NodeState) (from : List ℕ) → NodeIsFresh it → AreQuietOuts (MayMark it) (node_step it (From from Up)).outs
+unfolding node_step back_takes taken_up
+ups_outs (state.Front front) from fresh = front_quiet front (From from Up)
+ups_outs (state.Back home) from fresh = (up_by_quiet home (is_my_master home from) fresh).outs
+ups_outs (state.Master master) from fresh = master_quiet master (From from Up)
+
+pub ups_fresh : (it : NodeState) (from : List ℕ) → NodeIsFresh it → NodeIsFresh (node_step it (From from Up)).state
+unfolding node_step front_takes back_takes master_takes taken_up
+ups_fresh (state.Front front) from fresh = tt
+ups_fresh (state.Back home) from fresh = up_by_fresh home (is_my_master home from) fresh
+ups_fresh (state.Master master) from fresh = tt

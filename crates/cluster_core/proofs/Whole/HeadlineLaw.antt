@@ -1,0 +1,80 @@
+-- What holds of a run each step of which keeps the law.
+use Rattle.std.proofs.Common.{◌≡◌, ℕ, List, ◌++◌, subst, sym, ap}
+use Rattle.feed_core.specs.declared.replica.Replica.{Replica}
+use Rattle.feed_links.specs.OneFeed.{IsFed, asks, is_told}
+use Rattle.feed_links.specs.Replicas.{hears_all, replica_of}
+use Rattle.imap_command.specs.Ruled.{IsDate}
+use Rattle.imap_talk.specs.Heard.{Heard}
+use Rattle.link_queue.specs.Links.{on_link}
+use Rattle.master_core.specs.declared.master.Master.{Master}
+use Rattle.mur_config.specs.declared.config.Config.{Config}
+use Rattle.mur_config.specs.Nodes.{AreNodes}
+use Rattle.node_record.specs.Table.{MailboxTable}
+use Rattle.schedule_text.specs.declared.event.Event.{Event}
+use Rattle.cluster_core.specs.Heard.{heard}
+use Rattle.cluster_core.specs.Headline.Outside.{table_by, table_at}
+use Rattle.cluster_core.specs.World.{layout_of, master_of, start}
+use Rattle.cluster_core.specs.declared.world.World.{World}
+use Rattle.cluster_core.specs.Flow.{run_steps, steps_of_run}
+use Rattle.cluster_core.specs.Headline.{IsOneServer}
+use Rattle.cluster_core.specs.Headline.Replicas.{Follows, ReplicasFollow, Follows as follows}
+use Rattle.cluster_core.specs.Numbers.{NumbersFitAll}
+use Rattle.schedule_text.specs.ScheduleFits.{HasCountRoom}
+use Rattle.cluster_core.proofs.Runs.FlowRests.{are_steps_of_all}
+use Rattle.cluster_core.proofs.Runs.NumbersLaw.{numbers_fit}
+use Rattle.cluster_core.proofs.Runs.OneNodeLaw.{one_node_each}
+use Rattle.cluster_core.proofs.Runs.OnPairs.{goes_over_links, know_by_law}
+use Rattle.cluster_core.proofs.Runs.OwnClientsLaw.{serves_its_own_each}
+use Rattle.cluster_core.proofs.Runs.Unrolled.{by_steps}
+use Rattle.cluster_core.proofs.Connections.KeepsLaw.{KeepsLaw}
+use Rattle.cluster_core.proofs.Guests.GuestsServed.{serves_guests}
+use Rattle.cluster_core.proofs.Keeps.AnyStep.{law_of_run}
+use Rattle.cluster_core.proofs.OneServer.AnyStep.{keeps_one_home_each}
+use Rattle.cluster_core.proofs.OneServer.ClosedLaw.{gives_no_more}
+use Rattle.cluster_core.proofs.OneServer.EachStep.{EachKeeps, kept_all}
+use Rattle.cluster_core.proofs.OneServer.OneStoreLaw.{one_store_tells}
+use Rattle.cluster_core.proofs.OneServer.RefusalsLaw.{refuses_for_cause_each}
+
+-- a frontend's feed by the table of the world
+followed : (master : Master) (table : MailboxTable) (world : World) (name node : List ℕ) (replica : Replica) → table ≡ master.table
+    → IsFed master node (on_link world.links node name) (on_link world.links name node) replica → Follows world.links table name node replica
+followed master table world name node replica e (asks before behind parts noops later news empty none) = follows.asks before behind parts news empty
+followed master table world name node replica e (is_told noops told stream) =
+    follows.is_told (subst (λ (t : MailboxTable). hears_all replica (on_link world.links name node) ≡ replica_of t) (sym e) told)
+
+replicas_follow : (config : Config) (came : ℕ → Heard) (world : World) → KeepsLaw config came world → ReplicasFollow config world
+replicas_follow config came world law node front at =
+    followed law.master (table_at world (master_of config)) world (master_of config) node front.replica (ap table_by (law.nodes).is_there)
+    (((law.feeds).each node front at).fed)
+
+one_mail_server : (config : Config) (events : List Event) → AreNodes config.nodes → IsDate config.date → EachKeeps config (steps_of_run config events)
+    → IsOneServer config events
+one_mail_server config events are dated each =
+    let law_at = λ (before later : List Event) (parts : steps_of_run config events ≡ before ++ later).
+    ((kept_all config (steps_of_run config events) each).at before later parts).law in
+    let known = λ (before later : List Event) (parts : steps_of_run config events ≡ before ++ later).
+    know_by_law config (λ conn. heard config conn before) (run_steps (start config) before) (law_at before later parts) in
+    record {
+      by_steps = by_steps (layout_of config) (start config) events;
+      its_steps = are_steps_of_all config events are known;
+      one_node = one_node_each (start config) (steps_of_run config events);
+      own_clients = serves_its_own_each config (steps_of_run config events);
+      over_links = goes_over_links config events are known;
+      one_store = one_store_tells config events are dated each;
+      closed = gives_no_more config events each;
+      guests = serves_guests config events are each;
+      replicas = λ before later parts.
+          replicas_follow config (λ conn. heard config conn before) (run_steps (start config) before) (law_at before later parts);
+      one_home = keeps_one_home_each config events are each;
+      refusals = refuses_for_cause_each config events are each;
+    }
+
+-- THE HEADLINE
+pub one_server : (config : Config) (events : List Event) → AreNodes config.nodes → IsDate config.date → NumbersFitAll config (steps_of_run config events)
+    → IsOneServer config events
+one_server config events are dated fit = one_mail_server config events are dated (law_of_run config (steps_of_run config events) are fit)
+
+-- of events whose counts have room
+pub one_server_by_room : (config : Config) (events : List Event) → AreNodes config.nodes → IsDate config.date → HasCountRoom events → IsOneServer config events
+one_server_by_room config events are dated room =
+    one_server config events are dated (numbers_fit config (layout_of config) (start config) events room.conns room.bytes)

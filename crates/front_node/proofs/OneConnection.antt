@@ -1,2 +1,0 @@
--- The law of one connection, by its client.
-pub mod FrontAnswers

@@ -1,9 +1,0 @@
-pub mod Taken
-pub mod Answered
-pub mod Behind
-pub mod Begun
-pub mod Ended
-pub mod Slots
-pub mod Front
-pub mod Room
-pub mod Stages

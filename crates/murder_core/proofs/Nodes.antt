@@ -1,5 +1,0 @@
--- What comes to a node is one step of it, and the nodes stay what they are.
-pub mod Carried
-pub mod Comes
-pub mod Known
-pub mod Stay

@@ -1,2 +1,0 @@
--- What holds of whole runs.
-pub mod HeadlineLaw

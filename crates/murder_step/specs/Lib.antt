@@ -1,2 +1,0 @@
-pub mod NodeStep
-pub mod Room
