@@ -8,6 +8,7 @@ pub mod Steps
 pub mod Answers
 pub mod Points
 pub mod Runs
+pub mod Routing
 pub mod OneServer
 pub mod Guests
 pub mod Keeps

@@ -5,6 +5,7 @@ pub mod Refusals
 pub mod OpenAt
 pub mod HomeLaw
 pub mod Homes
+pub mod Routing
 pub mod OneStore
 pub mod Closed
 pub mod OneNode

@@ -40,7 +40,7 @@ counts_alike (Told Here) one other same = refl
 counts_alike (Told Behind) one other same = refl
 counts_alike (Told Reserved) one other same = refl
 
-counts_not : (next : Option MarkKind) (replied : Bool) → only_saw next replied ≡ true → counts_as (Home IfAnswered) next ≡ None
+pub counts_not : (next : Option MarkKind) (replied : Bool) → only_saw next replied ≡ true → counts_as (Home IfAnswered) next ≡ None
 unfolding only_saw counts_as untold_as acts
 counts_not None replied saw = refl
 counts_not (Some (Home counts)) replied saw = refl

@@ -21,3 +21,4 @@ pub mod MovedLaw
 pub mod EachMark
 pub mod Tellings
 pub mod MomentLaw
+pub mod Counted

@@ -6,12 +6,14 @@ use Rattle.mur_config.specs.Nodes.{AreNodes}
 use Rattle.schedule_text.specs.declared.event.Event.{Event}
 use Rattle.cluster_core.specs.Flow.{steps_of_run}
 use Rattle.cluster_core.specs.Headline.OneStore.{IsToldByOneStore}
+use Rattle.cluster_core.specs.Numbers.{NumbersFitAll}
 use Rattle.cluster_core.proofs.Guests.GuestsServed.{others_silent}
 use Rattle.cluster_core.proofs.OneServer.EachStep.{EachKeeps}
 use Rattle.cluster_core.proofs.OneServer.ToldSoFar.{told_by_one_store}
 
 abbrev pub OneStoreWhereKept : Config → List Event → Type 0
-OneStoreWhereKept config events = AreNodes config.nodes → IsDate config.date → EachKeeps config (steps_of_run config events) → IsToldByOneStore config events
+OneStoreWhereKept config events = AreNodes config.nodes → IsDate config.date → NumbersFitAll config (steps_of_run config events)
+    → EachKeeps config (steps_of_run config events) → IsToldByOneStore config events
 
 pub one_store_tells : (config : Config) (events : List Event) → OneStoreWhereKept config events
-one_store_tells config events are date_is each = told_by_one_store config events are date_is each (others_silent config events are each)
+one_store_tells config events are date_is fits each = told_by_one_store config events are date_is fits each (others_silent config events are each)

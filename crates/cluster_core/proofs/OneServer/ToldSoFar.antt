@@ -1,5 +1,5 @@
 -- What is told at every step of a run.
-use Rattle.std.proofs.Common.{◌≡◌, ℕ, ◌≤◌, false, List, [], ◌++◌, refl, sym, subst}
+use Rattle.std.proofs.Common.{◌≡◌, ℕ, ◌≤◌, false, List, [], ◌++◌, refl, sym, ◌∙◌, ap, subst, append_assoc}
 use Rattle.std.specs.Prelude.{All, IfSome}
 use Rattle.std.proofs.lemmas.List.{append-nil}
 use Rattle.imap_command.specs.Ruled.{IsDate}
@@ -41,6 +41,7 @@ use Rattle.cluster_core.specs.Headline.OneStore.{HasBoxesOf, IsAnsweredThrough, 
 use Rattle.cluster_core.specs.Headline.Outside.{guest_of, is_guest}
 use Rattle.cluster_core.specs.Headline.Serials.{reserves_taken}
 use Rattle.cluster_core.specs.History.{history_of}
+use Rattle.cluster_core.specs.Numbers.{NumbersFitAll}
 use Rattle.cluster_core.specs.Shown.{given_to}
 use Rattle.cluster_core.specs.World.{start}
 use Rattle.cluster_core.proofs.OneServer.Boxes.{has_boxes}
@@ -51,16 +52,22 @@ use Rattle.cluster_core.proofs.OneServer.SaysOf.{IsSilent, SaysOf, says_of}
 use Rattle.cluster_core.proofs.OneServer.SerialsRise.{serials_are_low}
 use Rattle.cluster_core.proofs.OneServer.ShownHomes.{shows_boxes}
 use Rattle.cluster_core.proofs.OneServer.UidsBelow.{some_below}
+use Rattle.cluster_core.proofs.Routing.RoutedLaw.{are_routed}
 
 -- a client that is connected where no frontend is, and doesn't talk with the master, was given nothing
 abbrev pub OthersAreSilent : Config → List Event → Type 0
 OthersAreSilent config steps = (conn : ℕ) → is_guest (guest_of config conn steps) ≡ false → IsSilent (run_steps (start config) steps) conn
 
+-- the law held behind each front of these steps
+abbrev KeepsEarlier : Config → List Event → Type 0
+KeepsEarlier config steps = (before later : List Event) → steps ≡ before ++ later → LawBehind config before
+
 -- behind some steps of a run that ends so
 told_so_far : (config : Config) (steps : List Event) (talk : Talk) (before later : List Event) → AreNodes config.nodes → IsDate config.date
-    → OthersAreSilent config before → IsKeptAt config steps talk before → LawBehind config (before ++ later)
+    → OthersAreSilent config before → KeepsEarlier config before → NumbersFitAll config before → IsKeptAt config steps talk before
+    → LawBehind config (before ++ later)
     → IsToldSoFar config talk (history_of (run_steps (start config) (before ++ later))) before (run_steps (start config) before)
-told_so_far config steps talk before later are date_is silent now last =
+told_so_far config steps talk before later are date_is silent earlier fits now last =
     let law = now.law in
     let world : World = run_steps (start config) before in
     let whole : World = run_steps (start config) (before ++ later) in
@@ -108,25 +115,31 @@ told_so_far config steps talk before later are date_is silent now last =
       lost_next = history.lost_next;
       made_by_now = history.made_by_now;
       in_time = stands_in_time config came all world whole law last on;
+      routed = are_routed config are before earlier law fits;
       counted = steps_made config before;
       nothing_waits = λ empty conn stays.
           subst (λ r. IsAnsweredThrough r (law.story.told conn)) (sym (law.requests conn)) ((says conn).waits_not empty stays);
     }
 
 told_at : (config : Config) (talk : Talk) (steps before later : List Event) → steps ≡ before ++ later → AreNodes config.nodes → IsDate config.date
-    → OthersAreSilent config before → IsKeptAt config steps talk before → LawBehind config steps
+    → OthersAreSilent config before → KeepsEarlier config steps → NumbersFitAll config steps → IsKeptAt config steps talk before → LawBehind config steps
     → IsToldSoFar config talk (history_of (run_steps (start config) steps)) before (run_steps (start config) before)
-told_at config talk steps before later e are date_is silent now last =
+told_at config talk steps before later e are date_is silent earlier fits now last =
     subst (λ s. IsToldSoFar config talk (history_of (run_steps (start config) s)) before (run_steps (start config) before)) (sym e)
-    (told_so_far config steps talk before later are date_is silent now (subst (LawBehind config) e last))
+    (told_so_far config steps talk before later are date_is silent (λ front back parts. earlier front (back ++ later) (front_of front back parts))
+    (λ front back parts. fits front (back ++ later) (front_of front back parts)) now (subst (LawBehind config) e last))
+  where
+    front_of : (front back : List Event) → before ≡ front ++ back → steps ≡ front ++ (back ++ later)
+    front_of front back parts = e ∙ ap (λ l. l ++ later) parts ∙ append_assoc front back later
 
 -- so it is where each step keeps the law
 abbrev pub IsToldWhereKept : Config → List Event → Type 0
-IsToldWhereKept config events = AreNodes config.nodes → IsDate config.date → EachKeeps config (steps_of_run config events)
+IsToldWhereKept config events = AreNodes config.nodes → IsDate config.date → NumbersFitAll config (steps_of_run config events)
+    → EachKeeps config (steps_of_run config events)
     → ((before later : List Event) → steps_of_run config events ≡ before ++ later → OthersAreSilent config before) → IsToldByOneStore config events
 
 pub told_by_one_store : (config : Config) (events : List Event) → IsToldWhereKept config events
-told_by_one_store config events are date_is each silent =
+told_by_one_store config events are date_is fits each silent =
     let steps : List Event = steps_of_run config events in
     let all = kept_all config steps each in
     let last = (all.at steps [] (sym (append-nil steps))).law in
@@ -136,6 +149,7 @@ told_by_one_store config events are date_is each silent =
       speaks_by_numbers = speaks_by_numbers (law_setting config);
       begins_by_login = begins_by_login (law_setting config);
       talk = all.talk;
-      at_each_step = λ before later e. told_at config all.talk steps before later e are date_is (silent before later e) (all.at before later e) last;
+      at_each_step = λ before later e. told_at config all.talk steps before later e are date_is (silent before later e)
+          (λ front back parts. (all.at front back parts).law) fits (all.at before later e) last;
       steps_rise = (history_is config (λ conn. heard config conn steps) (run_steps (start config) steps) last).steps_rise;
     }

@@ -47,9 +47,9 @@ replicas_follow config came world law node front at =
     followed law.master (table_at world (master_of config)) world (master_of config) node front.replica (ap table_by (law.nodes).is_there)
     (((law.feeds).each node front at).fed)
 
-one_mail_server : (config : Config) (events : List Event) → AreNodes config.nodes → IsDate config.date → EachKeeps config (steps_of_run config events)
-    → IsOneServer config events
-one_mail_server config events are dated each =
+one_mail_server : (config : Config) (events : List Event) → AreNodes config.nodes → IsDate config.date → NumbersFitAll config (steps_of_run config events)
+    → EachKeeps config (steps_of_run config events) → IsOneServer config events
+one_mail_server config events are dated fit each =
     let law_at = λ (before later : List Event) (parts : steps_of_run config events ≡ before ++ later).
     ((kept_all config (steps_of_run config events) each).at before later parts).law in
     let known = λ (before later : List Event) (parts : steps_of_run config events ≡ before ++ later).
@@ -60,7 +60,7 @@ one_mail_server config events are dated each =
       one_node = one_node_each (start config) (steps_of_run config events);
       own_clients = serves_its_own_each config (steps_of_run config events);
       over_links = goes_over_links config events are known;
-      one_store = one_store_tells config events are dated each;
+      one_store = one_store_tells config events are dated fit each;
       closed = gives_no_more config events each;
       guests = serves_guests config events are each;
       replicas = λ before later parts.
@@ -72,7 +72,7 @@ one_mail_server config events are dated each =
 -- THE HEADLINE
 pub one_server : (config : Config) (events : List Event) → AreNodes config.nodes → IsDate config.date → NumbersFitAll config (steps_of_run config events)
     → IsOneServer config events
-one_server config events are dated fit = one_mail_server config events are dated (law_of_run config (steps_of_run config events) are fit)
+one_server config events are dated fit = one_mail_server config events are dated fit (law_of_run config (steps_of_run config events) are fit)
 
 -- of events whose counts have room
 pub one_server_by_room : (config : Config) (events : List Event) → AreNodes config.nodes → IsDate config.date → HasCountRoom events → IsOneServer config events

@@ -34,6 +34,7 @@ use Rattle.imap_talk.specs.Heard.{bytes_heard, frames_heard, has_closed}
 use Rattle.cluster_core.specs.History.{history_of}
 use Rattle.cluster_core.specs.Headline.Homes.{ShowsBoxesOf}
 use Rattle.cluster_core.specs.Headline.Outside.{guest_of, is_guest, table_at}
+use Rattle.cluster_core.specs.Headline.Routing.{AreRouted}
 use Rattle.cluster_core.specs.Headline.Serials.{reserves_taken}
 use Rattle.cluster_core.specs.LawSetting.{law_setting}
 use Rattle.link_queue.specs.Links.{on_link}
@@ -121,6 +122,8 @@ pub record IsToldSoFar (config : Config) (talk : Talk) (points : List Point) (st
   pub lost_next : LosesTheNext so_far (history_of world)
   pub made_by_now : AreMadeBy world.steps (history_of world)
   pub in_time : StandsInTime so_far world.steps points
+  -- and at which steps they stand
+  pub routed : AreRouted config so_far steps (history_of world)
   -- steps count from 1: the last one has the number of the steps made
   pub counted : world.steps ≡ length steps
   -- nothing waits on empty links: then each whole command of a client that hasn't closed its connection was answered, up to an

@@ -1,0 +1,232 @@
+-- A message of a command is taken: the command waits at its client's frontend, and an ask is the one for it, at a backend.
+use Rattle.std.proofs.Common.{◌≡◌, ◌||◌, ℕ, ◌+◌, nat_eq, Bool, true, false, is_some, List, [], ◌∷◌, length, Some, refl, sym, ◌∙◌, ap, subst, arith}
+use Rattle.std.specs.Prelude.{All}
+use Rattle.std.specs.List.{list_any}
+use Rattle.std.specs.Cmp.Lexicographic.{pointwise}
+use Rattle.std.proofs.lemmas.List.Elements.{All-head, All-tail}
+use Rattle.ask_routes.specs.Barrier.{noop_line}
+use Rattle.back_node.specs.declared.node.BackNode.{BackNode}
+use Rattle.cluster_core.specs.Headline.Backends.{IsBackend}
+use Rattle.cluster_core.specs.World.{backends_of, master_of, client_at, front_at, home_at, node_at}
+use Rattle.front_core.proofs.OneConnection.Places.{about, about_command, of_connection}
+use Rattle.front_core.specs.declared.connection.Connection.{Connection}
+use Rattle.front_core.specs.declared.front.Front.{Front}
+use Rattle.front_core.specs.Front.{connection_at}
+use Rattle.imap_talk.specs.Heard.{Heard}
+use Rattle.imap_types.specs.declared.command.Tag.{Tag}
+use Rattle.link_msg.specs.declared.ask.FrontAsk.{FrontAsk}
+use Rattle.link_msg.specs.declared.message.LinkMsg.{LinkMsg}
+use Rattle.link_msg.specs.declared.message.LinkMsg.TheVariants.{Line, Ask, Answer}
+use Rattle.link_queue.specs.Links.{on_link}
+use Rattle.mark_history.specs.Marked.{Tale}
+use Rattle.mupdate_codec.specs.Asks.{ask_id_of, line_ask, tag_of}
+use Rattle.mupdate_codec.proofs.AsksLaw.{ask_again}
+use Rattle.mupdate_codec.proofs.LineAsks.{own_command}
+use Rattle.mur_base.specs.declared.point.AskId.{AskId}
+use Rattle.mur_config.specs.declared.config.Config.{Config}
+use Rattle.mur_config.specs.Nodes.{AreNodes}
+use Rattle.node_step.proofs.NodeKinds.{front_is}
+use Rattle.name_commands.specs.Places.{IsNumbered, flow_message, stage_command, NamePlace as name_at}
+use Rattle.name_commands.specs.Whose.{its_command}
+use Rattle.name_flows.specs.declared.flow.Flow.{Flow}
+use Rattle.point_links.specs.AtHome.{its_ask}
+use Rattle.point_links.specs.Commands.{ClientCommand}
+use Rattle.route_links.proofs.Tags.{noop_tells}
+use Rattle.mur_base.specs.declared.home.Location.{Location}
+use Rattle.cluster_core.specs.declared.world.World.{World}
+use Rattle.cluster_core.specs.Headline.OneNode.{node_of}
+use Rattle.cluster_core.specs.Numbers.{NumbersFit}
+use Rattle.cluster_core.proofs.Commands.InPlace.{IsThere}
+use Rattle.cluster_core.proofs.Commands.Knows.{IsFlowOf, undecided, is_decided}
+use Rattle.cluster_core.proofs.Commands.Place.{Place, Place as place}
+use Rattle.cluster_core.proofs.Commands.Standing.{Fixed, next_id}
+use Rattle.cluster_core.proofs.Connections.KeepsLaw.{IsFrontOf, KeepsLaw, fixed_of}
+use Rattle.cluster_core.proofs.Keeps.Numbers.{asked_fit}
+use Rattle.cluster_core.proofs.OneServer.BackendsLaw.{are_backends}
+use Rattle.cluster_core.proofs.OneServer.NamesHeld.{same_bytes}
+use Rattle.cluster_core.proofs.Points.Acts.{KnowsOf}
+use Rattle.cluster_core.proofs.Points.Found.{IsFoundIn, found_in, in_answer, in_ask, in_line, in_noop, in_ok, in_response}
+use Rattle.cluster_core.proofs.Points.Waits.{TellsPlace, WhoWaits, closed_waits, first_tells, open_waits, waits_fit}
+use Rattle.cluster_core.proofs.Routing.Begun.{IsBegun}
+use Rattle.cluster_core.proofs.Routing.FrontTells.{begun_at}
+
+-- ---- a backend is one of the configuration
+
+listed_by : (P : List ℕ → Type 0) (name first : List ℕ) (names : List (List ℕ)) (same : Bool) → pointwise nat_eq name first ≡ same
+    → list_any (pointwise nat_eq name) (first ∷ names) ≡ true → All P (first ∷ names)
+    → (list_any (pointwise nat_eq name) names ≡ true → All P names → P name) → P name
+listed_by P name first names true is e all rest = subst P (sym (same_bytes name first is)) (All-head P first names all)
+listed_by P name first names false is e all rest =
+    rest (sym (ap (λ b. b || list_any (pointwise nat_eq name) names) is) ∙ e) (All-tail P first names all)
+
+listed : (P : List ℕ → Type 0) (name : List ℕ) (names : List (List ℕ)) → list_any (pointwise nat_eq name) names ≡ true → All P names → P name
+listed P name [] e all = cc
+listed P name (first ∷ names) e all = listed_by P name first names (pointwise nat_eq name first) refl e all (listed P name names)
+
+pub backend_is : (config : Config) (heard : ℕ → Heard) (world : World) → AreNodes config.nodes → KeepsLaw config heard world → (node : List ℕ) (home : BackNode)
+    → home_at world node ≡ Some home → IsBackend config node
+backend_is config heard world are law node home there =
+    listed (IsBackend config) node (backends_of config.nodes)
+    (subst (λ (names : List (List ℕ)). list_any (pointwise nat_eq node) names ≡ true) law.nodes.backends (sym (law.nodes.homes node) ∙ ap is_some there))
+    (are_backends config are)
+
+-- ---- a command that waits
+
+record WaitsSo (fixed : Fixed) (conn : ℕ) (node : List ℕ) (connection : Connection) (world : World) (story : Tale) (here : Place) : Type 0 where
+  tag : Tag
+  c : ClientCommand
+  its : c.id ≡ next_id conn (story.told conn)
+  knows : KnowsOf fixed node conn tag c story here
+  begun : begun_at connection.stage ≡ 1
+  client : node_of (client_at world conn) ≡ Some node
+
+waits_so : (fixed : Fixed) (conn : ℕ) (node : List ℕ) (connection : Connection) (world : World) (story : Tale) (heard : Heard) (here : Place)
+    → WhoWaits fixed conn node connection world story heard here → WaitsSo fixed conn node connection world story here
+waits_so fixed conn node connection world story heard here (open_waits bytes e reader given waiting) = record {
+  tag = waiting.tag;
+  c = waiting.c;
+  its = waiting.of.its;
+  knows = waiting.knows;
+  begun = ap begun_at waiting.stage;
+  client = ap node_of given;
+}
+waits_so fixed conn node connection world story heard here (closed_waits bytes e stage lasts given waiting) = record {
+  tag = waiting.tag;
+  c = waiting.c;
+  its = waiting.of.its;
+  knows = waiting.knows;
+  begun = ap begun_at stage;
+  client = ap node_of given;
+}
+
+-- what its place tells, where nothing is decided there
+module _ (fixed : Fixed) (front : List ℕ) (conn : ℕ) (tag : Tag) (c : ClientCommand) (story : Tale) where
+  asked_of : (server : List ℕ) (ask : FrontAsk) → KnowsOf fixed front conn tag c story (place.is_asked server ask) → ask ≡ its_ask c
+  asked_of server ask (undecided said was tells) = tells
+  asked_of server ask (is_decided turn said session ends brings) = absurd brings
+
+  sent_of : (me : Location) (name : List ℕ) (flow : Flow) → KnowsOf fixed front conn tag c story (place.is_at me (name_at.sends name flow))
+      → IsFlowOf front c name flow
+  sent_of me name flow (undecided said was tells) = tells
+  sent_of me name flow (is_decided turn said session ends brings) = absurd brings
+
+same_ask : {one other : FrontAsk} → Ask one ≡ Ask other → one ≡ other
+same_ask e = cc
+
+same_line : {one other : List ℕ} → Line one ≡ Line other → one ≡ other
+same_line e = cc
+
+same_id : {one other : AskId} → Some one ≡ Some other → one ≡ other
+same_id e = cc
+
+no_line : (bytes : List ℕ) (ask : FrontAsk) → Line bytes ≡ Ask ask → ⊥
+no_line bytes ask e = cc
+
+-- ---- a message of it is taken
+
+module _ (config : Config) (heard : ℕ → Heard) (world : World) (law : KeepsLaw config heard world) where
+  -- the command has begun at its frontend, and is the first of which its client wasn't told
+  pub record IsUnderWay (id : AskId) : Type 0 where
+    pub begun : IsBegun world id
+    pub last : id.command ≡ length (law.story.told id.conn) + 1
+
+  -- the ask of a command of this frontend, at a backend
+  pub record AskTells (from to : List ℕ) (ask : FrontAsk) : Type 0 where
+    pub c : ClientCommand
+    pub ask_is : ask ≡ its_ask c
+    pub front : Front
+    pub at : front_at world from ≡ Some front
+    pub home : BackNode
+    pub there : home_at world to ≡ Some home
+    pub under_way : IsUnderWay ask.id
+
+  module _ (from to : List ℕ) (message : LinkMsg) (rest : List LinkMsg) (first : on_link world.links from to ≡ message ∷ rest) (conn : ℕ)
+      (own : about message ≡ of_connection conn) where
+    tells : TellsPlace (fixed_of config) conn world law.story (heard conn) from to message
+    tells = first_tells (fixed_of config) conn world law.story (heard conn) from to message rest first own (law.connections conn)
+
+    waits : WaitsSo (fixed_of config) conn tells.node tells.connection world law.story tells.here
+    waits = waits_so (fixed_of config) conn tells.node tells.connection world law.story (heard conn) tells.here tells.who
+
+    abbrev open_id : AskId
+    open_id = next_id conn (law.story.told conn)
+
+    found : IsFoundIn (master_of config) tells.node open_id from to message tells.here
+    found = found_in (master_of config) tells.node open_id from to message tells.here tells.is_found
+
+    its_front : IsFrontOf config world law.master tells.node tells.front
+    its_front = law.nodes.fronts tells.node tells.front (tells.at).at
+
+    begun_so : (id : AskId) → id ≡ open_id → IsUnderWay id
+    begun_so id e =
+        let same : id.conn ≡ conn = ap (λ (i : AskId). i.conn) e in
+        let last : id.command ≡ length (law.story.told conn) + 1 = ap (λ (i : AskId). i.command) e in
+        record {
+          begun = record {
+            node = tells.node;
+            front = tells.front;
+            at = front_is (node_at world tells.node) tells.front (tells.at).at;
+            client = ap (λ k. node_of (client_at world k)) same ∙ waits.client;
+            has = record {
+              connection = tells.connection;
+              at = ap (connection_at tells.front) same ∙ (tells.at).has;
+              most = omega (arith, last, tells.count, waits.begun);
+            };
+          };
+          last = last ∙ ap (λ k. length (law.story.told k) + 1) (sym same);
+        }
+
+    ask_by : (ask : FrontAsk) → message ≡ Ask ask → (here : Place) → IsFoundIn (master_of config) tells.node open_id from to message here
+        → KnowsOf (fixed_of config) tells.node conn waits.tag waits.c law.story here → IsThere (home_at world) here → AskTells from to ask
+    ask_by ask is _ (in_ask server asked e1 e2 e3) knows there =
+        let same : ask ≡ asked = same_ask (sym is ∙ sym e3) in
+        let its : ask ≡ its_ask waits.c = same ∙ asked_of (fixed_of config) tells.node conn waits.tag waits.c law.story server asked knows in
+        record {
+          c = waits.c;
+          ask_is = its;
+          front = tells.front;
+          at = ap (front_at world) (sym e1) ∙ (tells.at).at;
+          home = there.0;
+          there = ap (home_at world) (sym e2) ∙ there.1;
+          under_way = begun_so ask.id (ap (λ (a : FrontAsk). a.id) its ∙ waits.its);
+        }
+    ask_by ask is _ (in_answer server answer e1 e2 e3) knows there = absurd (let no : Answer answer ≡ Ask ask = e3 ∙ is in cc)
+    ask_by ask is _ (in_line me name flow e1 e2 e3) knows there = absurd (no_line _ ask (e3 ∙ is))
+    ask_by ask is _ (in_response me name flow it e1 e2 e3) knows there = absurd (no_line _ ask (e3 ∙ is))
+    ask_by ask is _ (in_noop e1 e2 e3) knows there = absurd (no_line _ ask (e3 ∙ is))
+    ask_by ask is _ (in_ok table e1 e2 e3) knows there = absurd (no_line _ ask (e3 ∙ is))
+
+    ask_so : (ask : FrontAsk) → message ≡ Ask ask → AskTells from to ask
+    ask_so ask is = ask_by ask is tells.here found waits.knows (tells.placed).there
+
+    -- the master takes a line of it
+    line_by : (line : List ℕ) (id : AskId) → message ≡ Line line → line_ask line ≡ Some id → to ≡ master_of config → IsNumbered open_id → (here : Place)
+        → IsFoundIn (master_of config) tells.node open_id from to message here
+        → KnowsOf (fixed_of config) tells.node conn waits.tag waits.c law.story here → IsThere (home_at world) here → id ≡ open_id
+    line_by line id is its mine numbered _ (in_noop e1 e2 e3) knows there =
+        let same : line ≡ noop_line open_id = same_line (sym is ∙ sym e3) in
+        same_id (sym its ∙ ap line_ask same ∙ noop_tells open_id numbered)
+    line_by line id is its mine numbered _ (in_line me name flow e1 e2 e3) knows there =
+        let asked : flow.ask ≡ open_id = (sent_of (fixed_of config) tells.node conn waits.tag waits.c law.story me name flow knows).its ∙ waits.its in
+        let told : its_command (flow_message me name flow) ≡ Some open_id =
+        own_command flow.ask (stage_command me name flow.stage) ∙ ap (λ (a : AskId). ask_id_of (tag_of a)) asked ∙ ask_again open_id numbered.0 numbered.1 in
+        same_id (sym its ∙ ap its_command (sym is ∙ sym e3) ∙ told)
+    line_by line id is its mine numbered _ (in_ask server asked e1 e2 e3) knows there = absurd (let no : Ask asked ≡ Line line = e3 ∙ is in cc)
+    line_by line id is its mine numbered _ (in_answer server answer e1 e2 e3) knows there = absurd (let no : Answer answer ≡ Line line = e3 ∙ is in cc)
+    line_by line id is its mine numbered _ (in_response me name flow it e1 e2 e3) knows there =
+        absurd ((law.many.each me.server there.0 there.1).apart (e2 ∙ mine ∙ sym law.nodes.me))
+    line_by line id is its mine numbered _ (in_ok table e1 e2 e3) knows there = absurd (its_front.no_master (e2 ∙ mine))
+
+    line_so : (line : List ℕ) (id : AskId) → message ≡ Line line → line_ask line ≡ Some id → to ≡ master_of config → NumbersFit heard → IsUnderWay id
+    line_so line id is its mine fits =
+        let numbered : IsNumbered open_id = waits_fit (fixed_of config) conn tells.node tells.front tells.connection world law.story (heard conn) tells.here
+        (asked_fit config heard world law fits) tells.at tells.who in
+        begun_so id (line_by line id is its mine numbered tells.here found waits.knows (tells.placed).there)
+
+  pub ask_tells : (from to : List ℕ) (ask : FrontAsk) (rest : List LinkMsg) → on_link world.links from to ≡ Ask ask ∷ rest → AskTells from to ask
+  ask_tells from to ask rest first = ask_so from to (Ask ask) rest first (ask.id).conn refl ask refl
+
+  pub line_tells : (from to line : List ℕ) (rest : List LinkMsg) (id : AskId) → on_link world.links from to ≡ Line line ∷ rest → line_ask line ≡ Some id
+      → to ≡ master_of config → NumbersFit heard → IsUnderWay id
+  line_tells from to line rest id first its mine fits =
+      line_so from to (Line line) rest first id.conn (ap about_command its) line id refl its mine fits
