@@ -12,4 +12,5 @@ pub mod Routing
 pub mod OneServer
 pub mod Guests
 pub mod Keeps
+pub mod Asking
 pub mod Whole

@@ -14,11 +14,13 @@ pub mod AtRest
 pub mod Replicas
 pub mod Points
 pub mod Backends
+pub mod Asks
 use Rattle.std.specs.Prelude.{◌≡◌, List}
 use Rattle.mur_config.specs.declared.config.Config.{Config}
 use Rattle.mur_config.specs.Nodes.{links_of}
 use Rattle.schedule_text.specs.declared.event.Event.{Event}
 use Rattle.cluster_core.specs.Flow.{run_of, run_steps, steps_of_run}
+use Rattle.cluster_core.specs.Headline.Asks.{AsksByRecords}
 use Rattle.cluster_core.specs.Headline.Closed.{GivesNoMore}
 use Rattle.cluster_core.specs.Headline.FlowLaw.{AreStepsOfAll}
 use Rattle.cluster_core.specs.Headline.HomeLaw.{KeepsOneHomeEach}
@@ -32,7 +34,8 @@ use Rattle.cluster_core.specs.World.{start}
 -- What the mail clients were given is what one mailbox store replies to the printed history, one command at a time, in each session's order; in each single
 -- step one node works, for its own clients alone, and sends only over the links that it has; a client that has closed its connection is given nothing
 -- more; a client at the master is given the replies to its lines of MUPDATE and, once it asked for that, each change of the table; the replicas of the
--- frontends follow the master's table; a mailbox has at most one writable home; a command is refused for a move only where its name is reserved.
+-- frontends follow the master's table, and by its own each asks the server of a mailbox, or for a new one that of the nearest name above; a mailbox has
+-- at most one writable home; a command is refused for a move only where its name is reserved.
 pub record IsOneServer (config : Config) (events : List Event) : Type 0 where
   -- the run is that of its single steps, and those are its events, but of a flow as many deliveries as it may make, or until none is left
   pub by_steps : run_of config events ≡ run_steps (start config) (steps_of_run config events)
@@ -44,5 +47,6 @@ pub record IsOneServer (config : Config) (events : List Event) : Type 0 where
   pub closed : GivesNoMore config events
   pub guests : ServesGuests config events
   pub replicas : FollowTheTable config events
+  pub asks : AsksByRecords config events
   pub one_home : KeepsOneHomeEach config events
   pub refusals : RefusesForCauseEach config events

@@ -8,13 +8,13 @@ use Rattle.std.specs.Cmp.Lexicographic.{pointwise}
 use Rattle.std.proofs.Math.Logic.{⊎_elim}
 use Rattle.ask_routes.specs.Barrier.{barrier_answered, noop_line}
 use Rattle.ask_routes.specs.Ways.{ask_for, behind_answer, behind_ok}
-use Rattle.ask_routes.specs.WayLaws.{AsksBehind, AsksFirst, CreateAsks, IsAnswered, IsBehind, IsFirst, RecordAsks}
+use Rattle.ask_routes.specs.WayLaws.{AsksBehind, AsksFirst, CreateAsks, IsAbout, IsAnswered, IsBehind, IsFirst, RecordAsks}
 use Rattle.ask_routes.specs.declared.ask_for.AskFor.{AskFor}
 use Rattle.ask_routes.specs.declared.ask_for.AskFor.TheVariants as about
 use Rattle.ask_routes.specs.declared.next.Next.{Next}
 use Rattle.ask_routes.specs.declared.next.Next.TheVariants as next
 use Rattle.ask_routes.specs.declared.next.Why.{Why}
-use Rattle.ask_routes.proofs.WayLaw.{each_answered, each_behind, each_first}
+use Rattle.ask_routes.proofs.WayLaw.{each_about, each_answered, each_behind, each_first}
 use Rattle.asking_core.specs.Answered.{answered, answered_by, goes_on, needs_by, told_by}
 use Rattle.asking_core.specs.Begins.{ask_of, first_by, first_sent}
 use Rattle.asking_core.specs.Cleared.{cleared}
@@ -24,17 +24,16 @@ use Rattle.asking_core.specs.declared.waiting.At.{At}
 use Rattle.asking_core.specs.declared.waiting.At.TheVariants.{Home, Barrier}
 use Rattle.asking_core.specs.declared.waiting.Sent.{Sent}
 use Rattle.asking_core.specs.declared.waiting.Waiting.{Waiting}
-use Rattle.feed_core.specs.Above.{IsNearestAbove, rec_by}
-use Rattle.feed_core.specs.Feed.{Recs, rec_at}
-use Rattle.feed_core.specs.Routes.{above_at, home_by, home_for, server_at, server_by, server_in}
+use Rattle.feed_core.specs.Feed.{rec_at}
+use Rattle.feed_core.specs.Routes.{home_for, server_at, server_by}
 use Rattle.feed_core.specs.Stream.{update_line}
 use Rattle.feed_core.specs.declared.rec.Rec.{Rec}
 use Rattle.feed_core.specs.declared.rec.Rec.TheVariants.{Active, Reserved}
-use Rattle.feed_core.proofs.RoutesLaw.{found_nearest}
 use Rattle.front_core.specs.Reading.{inputs_of_more}
 use Rattle.imap_talk.specs.declared.inputs.Input.{Input}
 use Rattle.imap_talk.specs.declared.inputs.Input.TheVariants.{GoesOn, Asks, Faults}
 use Rattle.imap_types.specs.declared.command.Tag.{Tag}
+use Rattle.imap_types.specs.declared.op.Op.TheVariants as op
 use Rattle.imap_types.specs.declared.reply.Reply.{Reply}
 use Rattle.imap_types.specs.declared.request.Request.{Request}
 use Rattle.imap_types.specs.declared.request.Request.TheVariants.{Command as a_command, Unknown as unknown, TooBig as too_big}
@@ -48,8 +47,6 @@ use Rattle.link_msg.specs.declared.message.LinkMsg.TheVariants.{Up, End, Line, A
 use Rattle.link_msg.specs.declared.out.Out.{Out}
 use Rattle.link_msg.specs.declared.out.Out.TheVariants.{Client, Close, Link, Mark, Told}
 use Rattle.mur_base.specs.Map.{with_entry, with_value}
-use Rattle.mur_base.specs.Names.{mail_name_fault}
-use Rattle.mur_base.specs.declared.name.NameFault.{NameFault}
 use Rattle.mur_base.specs.declared.point.AskId.{AskId}
 use Rattle.mur_base.proofs.MapLaws.{numbers_apart, same_or_other, value_at-with_entry-other, value_at-with_value-other}
 use Rattle.mur_model.specs.declared.need.Asking.{Asking}
@@ -85,11 +82,11 @@ pub both_let : (own : ℕ → Type 0) (may : List ℕ → LinkMsg → Type 0) (m
 both_let own may marks [] two first second = second
 both_let own may marks (out ∷ one) two first second = (first.0, both_let own may marks one two first.1 second)
 
--- whom a frontend may ask: the master, the first backend, and the server of each record that it has
+-- whom a frontend may ask: the master, for a mailbox the server of its record, and for a new one that of the nearest name above or the first backend
 pub record MayAsk (may : List ℕ → LinkMsg → Type 0) (ways : Ways) : Type 0 where
   pub master : (bytes : List ℕ) → may ways.master (Line bytes)
-  pub first : (ask : FrontAsk) → may ways.first (Ask ask)
-  pub named : (name server : List ℕ) → server_at ways.recs name ≡ Some server → (ask : FrontAsk) → may server (Ask ask)
+  pub named : (ask : FrontAsk) (server : List ℕ) → server_at ways.recs ask.name ≡ Some server → may server (Ask ask)
+  pub made : (ask : FrontAsk) → ask.op ≡ op.Create → may (home_for ways.recs ways.first ask.name) (Ask ask)
 
 -- ---- who is asked
 
@@ -97,39 +94,30 @@ module _ (may : List ℕ → LinkMsg → Type 0) where
   abbrev pub MayBeAsked : List ℕ → Type 0
   MayBeAsked server = (ask : FrontAsk) → may server (Ask ask)
 
-  in_text : (recs : Recs) (text : List ℕ) (it : Rec) (fault : Option NameFault) → rec_by recs text fault ≡ Some it → rec_at recs text ≡ Some it
-  in_text recs text it None e = e
-  in_text recs text it (Some fault) e = cc
-
-  above_may : (ways : Ways) (name : List ℕ) (found : Option Rec) → MayAsk may ways → IsNearestAbove ways.recs name found → MayBeAsked (home_by ways.first found)
-  above_may ways name None asks near = asks.first
-  above_may ways name (Some it) asks near =
-      asks.named near.above (server_in it) (ap server_by (in_text ways.recs near.above it (mail_name_fault near.above) near.has))
-
-  home_may : (ways : Ways) (name : List ℕ) → MayAsk may ways → MayBeAsked (home_for ways.recs ways.first name)
-  home_may ways name asks = above_may ways name (above_at ways.recs name) asks (found_nearest ways.recs name)
-
-  asks_first_may : (ways : Ways) (what : AskFor) (server : List ℕ) → MayAsk may ways → AsksFirst ways.recs ways.first what server → MayBeAsked server
-  asks_first_may ways (about.Mailbox name) server may_ask is = may_ask.named name server is
-  asks_first_may ways (about.Create name) server may_ask is = subst MayBeAsked (sym is) (home_may ways name may_ask)
-  asks_first_may ways about.List server may_ask is = absurd is
+  asks_first_may : (ways : Ways) (ask : FrontAsk) (what : AskFor) (server : List ℕ) → MayAsk may ways → IsAbout ask.name ask.op what
+      → AsksFirst ways.recs ways.first what server → may server (Ask ask)
+  asks_first_may ways ask (about.Mailbox name) server may_ask its is = may_ask.named ask server (ap (server_at ways.recs) (sym its.0) ∙ is)
+  asks_first_may ways ask (about.Create name) server may_ask its is =
+      subst (λ at. may at (Ask ask)) (sym (is ∙ ap (home_for ways.recs ways.first) its.0)) (may_ask.made ask its.1)
+  asks_first_may ways ask about.List server may_ask its is = absurd is
 
   abbrev MaySend : Sent → Type 0
   MaySend sent = may sent.to sent.message
 
   first_may : (ways : Ways) (id : AskId) (session : Sess) (it : Waiting) (what : AskFor) (is_next : Next) → MayAsk may ways
-      → IsFirst ways.recs ways.first what is_next → MaySend (first_by ways.master id session it is_next).sent
-  first_may ways id session it what (next.Ask server) may_ask is = asks_first_may ways what server may_ask is (ask_of id session it)
-  first_may ways id session it what (next.Barrier why) may_ask is = may_ask.master (noop_line id)
-  first_may ways id session it what next.Missing may_ask is = may_ask.master (noop_line id)
-  first_may ways id session it what next.Refused may_ask is = may_ask.master (noop_line id)
-  first_may ways id session it what next.List may_ask is = may_ask.master (noop_line id)
+      → IsAbout it.name it.asking.op what → IsFirst ways.recs ways.first what is_next → MaySend (first_by ways.master id session it is_next).sent
+  first_may ways id session it what (next.Ask server) may_ask its is = asks_first_may ways (ask_of id session it) what server may_ask its is
+  first_may ways id session it what (next.Barrier why) may_ask its is = may_ask.master (noop_line id)
+  first_may ways id session it what next.Missing may_ask its is = may_ask.master (noop_line id)
+  first_may ways id session it what next.Refused may_ask its is = may_ask.master (noop_line id)
+  first_may ways id session it what next.List may_ask its is = may_ask.master (noop_line id)
 
   begun_may : (ways : Ways) (id : AskId) (session : Sess) (it : Waiting) → MayAsk may ways
       → MaySend (first_sent ways.recs ways.master ways.first id session it).sent
   unfolding first_sent
   begun_may ways id session it may_ask =
-      first_may ways id session it (ask_for it.name it.asking.op) _ may_ask (each_first ways.recs ways.first (ask_for it.name it.asking.op))
+      first_may ways id session it (ask_for it.name it.asking.op) _ may_ask (each_about it.name it.asking.op)
+      (each_first ways.recs ways.first (ask_for it.name it.asking.op))
 
   -- what comes of an answer or of the master's OK is sent there
   abbrev GoesThere : Then → Type 0
@@ -140,13 +128,13 @@ module _ (may : List ℕ → LinkMsg → Type 0) where
   needs_go None = tt
   needs_go (Some need) = tt
 
-  abbrev IsAskedThere : Next → Type 0
-  IsAskedThere (next.Ask server) = MayBeAsked server
-  IsAskedThere it = ⊤
+  abbrev IsAskedThere : FrontAsk → Next → Type 0
+  IsAskedThere ask (next.Ask server) = may server (Ask ask)
+  IsAskedThere ask it = ⊤
 
-  goes_on_there : (ways : Ways) (id : AskId) (session : Sess) (it : Waiting) (is_next : Next) → MayAsk may ways → IsAskedThere is_next
-      → GoesThere (goes_on ways.master id session it is_next).then
-  goes_on_there ways id session it (next.Ask server) may_ask there = there (ask_of id session it)
+  goes_on_there : (ways : Ways) (id : AskId) (session : Sess) (it : Waiting) (is_next : Next) → MayAsk may ways
+      → IsAskedThere (ask_of id session it) is_next → GoesThere (goes_on ways.master id session it is_next).then
+  goes_on_there ways id session it (next.Ask server) may_ask there = there
   goes_on_there ways id session it (next.Barrier why) may_ask there = may_ask.master (noop_line id)
   goes_on_there ways id session it next.Missing may_ask there = needs_go _
   goes_on_there ways id session it next.Refused may_ask there = tt
@@ -171,7 +159,7 @@ module _ (may : List ℕ → LinkMsg → Type 0) where
       → MovesThere body → IsAnswered body found → GoesThere (answered_by ways.master id session it body found).then
   answered_there ways id session it body None may_ask moves is = told_there session it body
   answered_there ways id session it body (Some (next.Ask server)) may_ask moves is =
-      goes_on_there ways id session it (next.Ask server) may_ask (moves server is)
+      goes_on_there ways id session it (next.Ask server) may_ask (moves server is (ask_of id session it))
   answered_there ways id session it body (Some (next.Barrier why)) may_ask moves is = may_ask.master (noop_line id)
   answered_there ways id session it body (Some next.Missing) may_ask moves is = absurd is
   answered_there ways id session it body (Some next.Refused) may_ask moves is = absurd is
@@ -182,37 +170,42 @@ module _ (may : List ℕ → LinkMsg → Type 0) where
   unfolding answered
   answer_there ways id session it body may_ask moves = answered_there ways id session it body (behind_answer body) may_ask moves (each_answered body)
 
-  record_there : (ways : Ways) (name : List ℕ) (why : Why) (found : Option Rec) (server : List ℕ) → MayAsk may ways → rec_at ways.recs name ≡ found
-      → RecordAsks why found server → MayBeAsked server
-  record_there ways name why None server may_ask e is = absurd is
-  record_there ways name why (Some (Active place acl)) server may_ask e is = may_ask.named name server (ap server_by e ∙ ap (λ s. Some s) (sym is))
-  record_there ways name why (Some (Reserved place acl)) server may_ask e is = may_ask.named name server (ap server_by e ∙ ap (λ s. Some s) (sym is.0))
+  record_there : (ways : Ways) (ask : FrontAsk) (why : Why) (found : Option Rec) (server : List ℕ) → MayAsk may ways
+      → rec_at ways.recs ask.name ≡ found → RecordAsks why found server → may server (Ask ask)
+  record_there ways ask why None server may_ask e is = absurd is
+  record_there ways ask why (Some (Active place acl)) server may_ask e is = may_ask.named ask server (ap server_by e ∙ ap (λ s. Some s) (sym is))
+  record_there ways ask why (Some (Reserved place acl)) server may_ask e is = may_ask.named ask server (ap server_by e ∙ ap (λ s. Some s) (sym is.0))
 
-  create_there : (ways : Ways) (name : List ℕ) (why : Why) (found : Option Rec) (server : List ℕ) → MayAsk may ways → rec_at ways.recs name ≡ found
-      → CreateAsks (home_for ways.recs ways.first name) why found server → MayBeAsked server
-  create_there ways name why None server may_ask e is = subst MayBeAsked (sym is) (home_may ways name may_ask)
-  create_there ways name why (Some it) server may_ask e is = record_there ways name why (Some it) server may_ask e is
+  create_there : (ways : Ways) (ask : FrontAsk) (why : Why) (found : Option Rec) (server : List ℕ) → MayAsk may ways → ask.op ≡ op.Create
+      → rec_at ways.recs ask.name ≡ found → CreateAsks (home_for ways.recs ways.first ask.name) why found server → may server (Ask ask)
+  create_there ways ask why None server may_ask creates e is = subst (λ at. may at (Ask ask)) (sym is) (may_ask.made ask creates)
+  create_there ways ask why (Some it) server may_ask creates e is = record_there ways ask why (Some it) server may_ask e is
 
-  behind_there : (ways : Ways) (what : AskFor) (why : Why) (server : List ℕ) → MayAsk may ways → AsksBehind ways.recs ways.first what why server
-      → MayBeAsked server
-  behind_there ways (about.Mailbox name) why server may_ask is = record_there ways name why (rec_at ways.recs name) server may_ask refl is
-  behind_there ways (about.Create name) why server may_ask is = create_there ways name why (rec_at ways.recs name) server may_ask refl is
-  behind_there ways about.List why server may_ask is = absurd is
+  behind_there : (ways : Ways) (ask : FrontAsk) (what : AskFor) (why : Why) (server : List ℕ) → MayAsk may ways → IsAbout ask.name ask.op what
+      → AsksBehind ways.recs ways.first what why server → may server (Ask ask)
+  behind_there ways ask (about.Mailbox name) why server may_ask its is =
+      record_there ways ask why (rec_at ways.recs ask.name) server may_ask refl
+      (subst (λ n. RecordAsks why (rec_at ways.recs n) server) its.0 is)
+  behind_there ways ask (about.Create name) why server may_ask its is =
+      create_there ways ask why (rec_at ways.recs ask.name) server may_ask its.1 refl
+      (subst (λ n. CreateAsks (home_for ways.recs ways.first n) why (rec_at ways.recs n) server) its.0 is)
+  behind_there ways ask about.List why server may_ask its is = absurd is
 
-  ok_asks_there : (ways : Ways) (what : AskFor) (why : Why) (is_next : Next) → MayAsk may ways → IsBehind ways.recs ways.first what why is_next
-      → IsAskedThere is_next
-  ok_asks_there ways what why (next.Ask server) may_ask is = behind_there ways what why server may_ask is
-  ok_asks_there ways what why (next.Barrier again) may_ask is = tt
-  ok_asks_there ways what why next.Missing may_ask is = tt
-  ok_asks_there ways what why next.Refused may_ask is = tt
-  ok_asks_there ways what why next.List may_ask is = tt
+  ok_asks_there : (ways : Ways) (ask : FrontAsk) (what : AskFor) (why : Why) (is_next : Next) → MayAsk may ways → IsAbout ask.name ask.op what
+      → IsBehind ways.recs ways.first what why is_next → IsAskedThere ask is_next
+  ok_asks_there ways ask what why (next.Ask server) may_ask its is = behind_there ways ask what why server may_ask its is
+  ok_asks_there ways ask what why (next.Barrier again) may_ask its is = tt
+  ok_asks_there ways ask what why next.Missing may_ask its is = tt
+  ok_asks_there ways ask what why next.Refused may_ask its is = tt
+  ok_asks_there ways ask what why next.List may_ask its is = tt
 
   cleared_there : (ways : Ways) (id : AskId) (session : Sess) (it : Waiting) (why : Why) → MayAsk may ways
       → GoesThere (cleared ways.recs ways.master ways.first id session it why).then
   unfolding cleared
   cleared_there ways id session it why may_ask =
       goes_on_there ways id session it (behind_ok ways.recs ways.first (ask_for it.name it.asking.op) why) may_ask
-      (ok_asks_there ways (ask_for it.name it.asking.op) why _ may_ask (each_behind ways.recs ways.first (ask_for it.name it.asking.op) why))
+      (ok_asks_there ways (ask_of id session it) (ask_for it.name it.asking.op) why _ may_ask (each_about it.name it.asking.op)
+      (each_behind ways.recs ways.first (ask_for it.name it.asking.op) why))
 
 -- ---- what one connection lets out
 

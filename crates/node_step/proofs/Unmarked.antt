@@ -47,7 +47,7 @@ any_has : (front : Front) → HasConnections AnyClient front
 any_has front conn connection at = tt
 
 asks_any : (front : Front) → MayAsk Anyone (ways_of front)
-asks_any front = record { master = λ bytes. tt; first = λ ask. tt; named = λ name server e ask. tt }
+asks_any front = record { master = λ bytes. tt; named = λ ask server e. tt; made = λ ask e. tt }
 
 moves_any : (message : LinkMsg) → MovesBy Anyone message
 moves_any (Answer answer) = λ server e ask. tt

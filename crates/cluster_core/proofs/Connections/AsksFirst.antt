@@ -26,16 +26,21 @@ in_text : (recs : Recs) (text : List ℕ) (it : Rec) (fault : Option NameFault) 
 in_text recs text it None e = e
 in_text recs text it (Some fault) e = cc
 
-home_known : (nodes : Nodes) (recs : Recs) (first name : List ℕ) (found : Option Rec) → NamesBackends nodes recs → IsSome (nodes first)
-    → IsNearestAbove recs name found → IsSome (nodes (home_by first found))
-home_known nodes recs first name None known there near = there
-home_known nodes recs first name (Some it) known there near =
+home_of_nearest : (P : List ℕ → Type 0) (recs : Recs) (first name : List ℕ) (found : Option Rec)
+    → ((name server : List ℕ) → server_at recs name ≡ Some server → P server) → P first → IsNearestAbove recs name found → P (home_by first found)
+home_of_nearest P recs first name None known there near = there
+home_of_nearest P recs first name (Some it) known there near =
     known near.above (server_in it) (ap server_by (in_text recs near.above it (mail_name_fault near.above) near.has))
 
--- the server at which a new mailbox is made is a backend
+-- what holds of the servers of the records and of the first backend holds of the server at which a new mailbox is made
+pub home_is_so : (P : List ℕ → Type 0) (recs : Recs) (first name : List ℕ) → ((name server : List ℕ) → server_at recs name ≡ Some server → P server)
+    → P first → P (home_for recs first name)
+home_is_so P recs first name known there = home_of_nearest P recs first name (above_at recs name) known there (found_nearest recs name)
+
+-- that is a backend
 pub home_is_backend : (nodes : Nodes) (recs : Recs) (first name : List ℕ) → NamesBackends nodes recs → IsSome (nodes first)
     → IsSome (nodes (home_for recs first name))
-home_is_backend nodes recs first name known there = home_known nodes recs first name (above_at recs name) known there (found_nearest recs name)
+home_is_backend nodes recs first name known there = home_is_so (λ server. IsSome (nodes server)) recs first name known there
 
 -- ---- what is sent first
 

@@ -83,7 +83,7 @@ unfolding answer_at
 answer_at_known front answer None = same_known front
 answer_at_known front answer (Some connection) = record { self = record { me = refl; master = refl; first = refl; setting = refl }; replica = refl }
 
-answer_known : (front : Front) (answer : BackAnswer) (is_asked : Bool) → KeepsKnown front (answer_from is_asked front answer).front
+pub answer_known : (front : Front) (answer : BackAnswer) (is_asked : Bool) → KeepsKnown front (answer_from is_asked front answer).front
 unfolding answer_from
 answer_known front answer true = answer_at_known front answer (connection_at front (answer.id).conn)
 answer_known front answer false = same_known front
@@ -146,7 +146,7 @@ pub record HearsLine (was now : Front) (bytes : List ℕ) : Type 0 where
   pub self : KeepsSelf was now
   pub replica : now.replica ≡ hears was.replica (Line bytes)
 
-ok_known : (front : Front) (id : AskId) (found : Option Connection) → KeepsKnown front (ok_at front id found).front
+pub ok_known : (front : Front) (id : AskId) (found : Option Connection) → KeepsKnown front (ok_at front id found).front
 unfolding ok_at
 ok_known front id None = same_known front
 ok_known front id (Some connection) = record { self = record { me = refl; master = refl; first = refl; setting = refl }; replica = refl }

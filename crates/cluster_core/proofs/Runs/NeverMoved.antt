@@ -50,7 +50,7 @@ one_more : (queue : List LinkMsg) (message : LinkMsg) (same : Bool) → IsQuiet 
 one_more queue message true is all = both IsQuiet queue (message ∷ []) all (is, tt)
 one_more queue message false is all = both IsQuiet queue [] all tt
 
-given_links : (world : World) (conn : ℕ) (bytes : List ℕ) (found : Option Client) → (given_more world conn bytes found).links ≡ world.links
+pub given_links : (world : World) (conn : ℕ) (bytes : List ℕ) (found : Option Client) → (given_more world conn bytes found).links ≡ world.links
 unfolding given_more
 given_links world conn bytes None = refl
 given_links world conn bytes (Some client) = refl

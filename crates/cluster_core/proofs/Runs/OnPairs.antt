@@ -48,6 +48,7 @@ use Rattle.cluster_core.specs.declared.world.World.{World}
 use Rattle.cluster_core.specs.Flow.{run_steps, steps_of_run}
 use Rattle.cluster_core.specs.Headline.OneNode.{GoesOverLinks}
 use Rattle.cluster_core.specs.Headline.OneStore.{AreEmpty}
+use Rattle.cluster_core.proofs.Connections.AsksFirst.{home_is_so}
 use Rattle.cluster_core.proofs.Connections.KeepsLaw.{KeepsLaw, NamesBackends}
 use Rattle.cluster_core.proofs.Starts.Kinds.{HasNode}
 use Rattle.cluster_core.proofs.Runs.LinkedNodes.{Joined, backend_with_master, front_with_backend, front_with_master, the_first}
@@ -202,8 +203,10 @@ module _ (config : Config) (are : AreNodes config.nodes) where
       → NamesBackends (home_at world) front.replica.records → MayAsk (OverLink pairs node) (ways_of front)
   may_ask world node front each is known = record {
     master = λ bytes. subst (Joined pairs node) (sym is.1.0) (front_with_master config node are is.0);
-    first = λ ask. subst (Joined pairs node) (sym is.1.1) (front_with_backend config node (home_of config) are is.0 (the_first config are));
-    named = λ name server at ask. front_with_backend config node server are is.0 (is_backend world server (known name server at) each);
+    named = λ ask server at. front_with_backend config node server are is.0 (is_backend world server (known ask.name server at) each);
+    made = λ ask creates. home_is_so (Joined pairs node) front.replica.records front.first ask.name
+        (λ name server at. front_with_backend config node server are is.0 (is_backend world server (known name server at) each))
+        (subst (Joined pairs node) (sym is.1.1) (front_with_backend config node (home_of config) are is.0 (the_first config are)));
   }
 
   -- where a message sends a command on

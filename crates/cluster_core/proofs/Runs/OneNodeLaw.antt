@@ -149,7 +149,7 @@ takes_first from to world = record {
       (on_link (without_first world.links from to) to other) (on_link-taken world.links from to to other);
 }
 
-nothing_first : (links : Links LinkMsg) (from to one other : List ℕ) (same : Bool) → same_link one other from to ≡ same → on_link links from to ≡ []
+pub nothing_first : (links : Links LinkMsg) (from to one other : List ℕ) (same : Bool) → same_link one other from to ≡ same → on_link links from to ≡ []
     → on_link links one other ≡ cond same (drop 1 (on_link links one other)) (on_link links one other)
 nothing_first links from to one other true h none =
     let is = same_names one other from to h in
@@ -248,7 +248,7 @@ takes_works world (Hang conn) = client_works (Hang conn) world (Hung conn) (clie
 takes_works world (Deliver from to) = deliver_works world from to (on_link world.links from to) refl
 takes_works world event = refl
 
-same_worker : (world : World) (event : Event) → worker (stepped world) event ≡ worker world event
+pub same_worker : (world : World) (event : Event) → worker (stepped world) event ≡ worker world event
 same_worker world (Open node conn) = refl
 same_worker world (Data conn bytes) = refl
 same_worker world (Hang conn) = refl

@@ -98,7 +98,7 @@ anyone_moves_on (Hung conn) = tt
 anyone_moves_on (From name message) = anyone_moves message
 
 sends_anyone : (it : NodeState) (input : NodeInput) → MaySend Anyone it input
-sends_anyone (state.Front front) input = (record { master = λ bytes. tt; first = λ ask. tt; named = λ name server e ask. tt }, anyone_moves_on input)
+sends_anyone (state.Front front) input = (record { master = λ bytes. tt; named = λ ask server e. tt; made = λ ask e. tt }, anyone_moves_on input)
 sends_anyone (state.Back home) input = λ bytes. tt
 sends_anyone (state.Master master) input = tt
 

@@ -298,7 +298,7 @@ InputIsQuiet (From name message) = IsQuiet message
 InputIsQuiet input = Unit {0}
 
 asks_any : (front : Front) → MayAsk QuietTo (ways_of front)
-asks_any front = record { master = λ bytes. tt; first = λ ask. tt; named = λ name server e ask. tt }
+asks_any front = record { master = λ bytes. tt; named = λ ask server e. tt; made = λ ask e. tt }
 
 moves_any : (message : LinkMsg) → MovesBy QuietTo message
 moves_any (Answer answer) = λ server e ask. tt

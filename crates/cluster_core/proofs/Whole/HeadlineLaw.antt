@@ -26,6 +26,7 @@ use Rattle.cluster_core.proofs.Runs.OneNodeLaw.{one_node_each}
 use Rattle.cluster_core.proofs.Runs.OnPairs.{goes_over_links, know_by_law}
 use Rattle.cluster_core.proofs.Runs.OwnClientsLaw.{serves_its_own_each}
 use Rattle.cluster_core.proofs.Runs.Unrolled.{by_steps}
+use Rattle.cluster_core.proofs.Asking.AsksLaw.{asks_by_records}
 use Rattle.cluster_core.proofs.Connections.KeepsLaw.{KeepsLaw}
 use Rattle.cluster_core.proofs.Guests.GuestsServed.{serves_guests}
 use Rattle.cluster_core.proofs.Keeps.AnyStep.{law_of_run}
@@ -65,6 +66,8 @@ one_mail_server config events are dated fit each =
       guests = serves_guests config events are each;
       replicas = λ before later parts.
           replicas_follow config (λ conn. heard config conn before) (run_steps (start config) before) (law_at before later parts);
+      asks = asks_by_records config events are
+          (λ before later parts node front at. (((law_at before later parts).nodes).fronts node front at).first_is);
       one_home = keeps_one_home_each config events are each;
       refusals = refuses_for_cause_each config events are each;
     }

@@ -1,0 +1,189 @@
+-- What a node lets out in a step: an ask is one of a frontend, to the server to which its records send it.
+use Rattle.std.proofs.Common.{◌≡◌, ◌⊎◌, inl, inr, ℕ, nat_eq, Bool, true, false, List, [], ◌∷◌, Option, None, Some, refl, sym, subst}
+use Rattle.std.specs.Prelude.{⊤}
+use Rattle.std.specs.List.{AllByRecursion}
+use Rattle.std.specs.Cmp.Lexicographic.{pointwise}
+use Rattle.std.proofs.Math.Logic.{⊎_elim}
+use Rattle.ask_routes.specs.Barrier.{barrier_answered}
+use Rattle.back_node.specs.declared.node.BackNode.{BackNode}
+use Rattle.feed_core.specs.Above.{IsNearestAbove}
+use Rattle.feed_core.specs.Feed.{Recs, rec_at}
+use Rattle.feed_core.specs.Routes.{above_at, home_by, home_for, server_by}
+use Rattle.feed_core.specs.declared.rec.Rec.{Rec}
+use Rattle.feed_core.specs.declared.replica.Replica.{Replica}
+use Rattle.feed_core.proofs.RoutesLaw.{found_nearest}
+use Rattle.front_core.specs.declared.front.Front.{Front}
+use Rattle.front_core.specs.Front.{Stepped, connection_at, deliver, line_by, line_from, up_from, waits_for, ways_of}
+use Rattle.front_core.proofs.OwnOuts.{AreLetOut, HasConnections, MayAsk, MovesBy, bytes_own, connect_own, message_own}
+use Rattle.imap_types.specs.declared.op.Op.TheVariants.{Create}
+use Rattle.link_msg.specs.declared.answer.AnswerBody.TheVariants.{Moved}
+use Rattle.link_msg.specs.declared.ask.FrontAsk.{FrontAsk}
+use Rattle.link_msg.specs.declared.message.LinkMsg.{LinkMsg}
+use Rattle.link_msg.specs.declared.message.LinkMsg.TheVariants.{Up, End, Line, Ask, Answer}
+use Rattle.link_msg.specs.declared.out.Out.{Out}
+use Rattle.master_core.specs.declared.master.Master.{Master}
+use Rattle.mupdate_codec.specs.declared.tag.Tag.{Tag}
+use Rattle.mur_base.specs.declared.point.AskId.{AskId}
+use Rattle.mur_config.specs.declared.node.Node.{Node}
+use Rattle.node_step.specs.declared.input.NodeInput.{NodeInput}
+use Rattle.node_step.specs.declared.input.NodeInput.TheVariants.{Opened, Piece, Hung, From}
+use Rattle.node_step.specs.declared.node.NodeState.{NodeState}
+use Rattle.node_step.specs.declared.node.NodeState.TheVariants as state
+use Rattle.node_step.specs.NodeStep.{as_front, front_takes, takes as node_takes}
+use Rattle.node_step.proofs.OwnOuts.{ComesFrom, MayMark, takes_lets}
+use Rattle.cluster_core.specs.Headline.Asks.{IsFirstBackend, IsRightlyAsked, IsRightlySent}
+use Rattle.cluster_core.specs.Headline.Asks.IsRightlyAsked.{by_record, by_name_above, by_no_name}
+use Rattle.cluster_core.proofs.Nodes.Known.{answer_known, bytes_known, ok_known}
+use Rattle.cluster_core.proofs.Runs.QuietNodes.{AnyClient}
+
+-- ---- by the records of a frontend
+
+asked_by_record : (nodes : List Node) (recs : Recs) (ask : FrontAsk) (server : List ℕ) (found : Option Rec) → rec_at recs ask.name ≡ found
+    → server_by found ≡ Some server → IsRightlyAsked nodes recs ask server
+asked_by_record nodes recs ask server None e is = cc
+asked_by_record nodes recs ask server (Some it) e is = by_record it e (sym cc)
+
+asked_to_make : (nodes : List Node) (recs : Recs) (first : List ℕ) (ask : FrontAsk) (found : Option Rec) → IsFirstBackend nodes first → ask.op ≡ Create
+    → IsNearestAbove recs ask.name found → IsRightlyAsked nodes recs ask (home_by first found)
+asked_to_make nodes recs first ask None is makes near = by_no_name makes near is
+asked_to_make nodes recs first ask (Some it) is makes near = by_name_above makes it near refl
+
+-- what a frontend may send
+abbrev MaySendBy : List Node → Front → List ℕ → LinkMsg → Type 0
+MaySendBy nodes now = IsRightlySent nodes (Some now)
+
+-- a frontend whose replica stays asks rightly
+may_ask_by : (nodes : List Node) (front now : Front) → IsFirstBackend nodes front.first → now.replica ≡ front.replica
+    → MayAsk (MaySendBy nodes now) (ways_of front)
+may_ask_by nodes front now is same = record {
+  master = λ bytes. tt;
+  named = λ ask server at. (
+    now,
+    refl,
+    subst (λ (r : Replica). IsRightlyAsked nodes r.records ask server) (sym same)
+        (asked_by_record nodes front.replica.records ask server (rec_at front.replica.records ask.name) refl at),
+  );
+  made = λ ask makes. (
+    now,
+    refl,
+    subst (λ (r : Replica). IsRightlyAsked nodes r.records ask (home_for front.replica.records front.first ask.name)) (sym same)
+        (asked_to_make nodes front.replica.records front.first ask (above_at front.replica.records ask.name) is makes
+        (found_nearest front.replica.records ask.name)),
+  );
+}
+
+-- ---- a frontend
+
+any_connections : (front : Front) → HasConnections AnyClient front
+any_connections front conn connection at = tt
+
+-- a message sends no command on
+abbrev pub MovesNobody : NodeInput → Type 0
+MovesNobody (From name (Answer answer)) = (server : List ℕ) → answer.body ≡ Moved server → ⊥
+MovesNobody input = ⊤
+
+moves_none : (may : List ℕ → LinkMsg → Type 0) (name : List ℕ) (message : LinkMsg) → MovesNobody (From name message) → MovesBy may message
+moves_none may name (Answer answer) none = λ server e. absurd (none server e)
+moves_none may name Up none = tt
+moves_none may name End none = tt
+moves_none may name (Line line) none = tt
+moves_none may name (Ask ask) none = tt
+
+module _ (nodes : List Node) (front : Front) where
+  -- it sends no ask, whatever its replica is then
+  abbrev AsksNobody : List Out → Type 0
+  AsksNobody outs = (now : Front) → AreLetOut AnyClient (MaySendBy nodes now) ⊥ outs
+
+  -- its replica stays, or it asks nobody
+  abbrev StaysOrIsSilent : Stepped → Type 0
+  StaysOrIsSilent stepped = (stepped.front.replica ≡ front.replica) ⊎ AsksNobody stepped.outs
+
+  up_silent : (is_master : Bool) → StaysOrIsSilent (up_from is_master front)
+  unfolding up_from
+  up_silent true = inr (λ now. (tt, tt))
+  up_silent false = inl refl
+
+  line_silent_by : (bytes : List ℕ) (found : Option AskId) → StaysOrIsSilent (line_by front bytes found)
+  line_silent_by bytes None = inr (λ now. tt)
+  line_silent_by bytes (Some id) = inl (ok_known front id (connection_at front id.conn)).replica
+
+  line_silent : (bytes : List ℕ) (is_master : Bool) → StaysOrIsSilent (line_from is_master front bytes)
+  unfolding line_from
+  line_silent bytes true = line_silent_by bytes (barrier_answered bytes)
+  line_silent bytes false = inl refl
+
+  message_silent : (from : List ℕ) (message : LinkMsg) → StaysOrIsSilent (deliver front from message)
+  unfolding deliver
+  message_silent from (Answer answer) = inl (answer_known front answer (waits_for (connection_at front (answer.id).conn) from)).replica
+  message_silent from Up = up_silent (pointwise nat_eq from front.master)
+  message_silent from End = inl refl
+  message_silent from (Line line) = line_silent line (pointwise nat_eq from front.master)
+  message_silent from (Ask ask) = inl refl
+
+message_asks : (nodes : List Node) (front : Front) (from : List ℕ) (message : LinkMsg) → IsFirstBackend nodes front.first → MovesNobody (From from message)
+    → AreLetOut AnyClient (MaySendBy nodes (deliver front from message).front) ⊥ (deliver front from message).outs
+message_asks nodes front from message is none =
+    let now = (deliver front from message).front in
+    ⊎_elim
+    (λ (same : now.replica ≡ front.replica).
+    (message_own AnyClient (MaySendBy nodes now) front (any_connections front) (may_ask_by nodes front now is same) from message
+    (moves_none (MaySendBy nodes now) from message none)).outs)
+    (λ (silent : AsksNobody nodes front (deliver front from message).outs). silent now)
+    (message_silent nodes front from message)
+
+front_asks : (nodes : List Node) (front : Front) (input : NodeInput) → IsFirstBackend nodes front.first → MovesNobody input
+    → AreLetOut AnyClient (IsRightlySent nodes (as_front (Some (front_takes front input).state))) ⊥ (front_takes front input).outs
+unfolding front_takes as_front
+front_asks nodes front (Opened conn) is none = (connect_own AnyClient (MaySendBy nodes _) front (any_connections front) conn tt).outs
+front_asks nodes front (Piece conn bytes) is none =
+    (bytes_own AnyClient (MaySendBy nodes _) front (any_connections front) (may_ask_by nodes front _ is (bytes_known front conn bytes).replica) conn bytes).outs
+front_asks nodes front (Hung conn) is none = tt
+front_asks nodes front (From name message) is none = message_asks nodes front name message is none
+
+-- ---- a backend and the master ask nobody
+
+module _ (nodes : List Node) (found : Option Front) where
+  abbrev May : List ℕ → LinkMsg → Type 0
+  May = IsRightlySent nodes found
+
+  comes_from : (input : NodeInput) → ComesFrom AnyClient May input
+  comes_from (Opened conn) = tt
+  comes_from (Piece conn bytes) = tt
+  comes_from (Hung conn) = tt
+  comes_from (From name Up) = tt
+  comes_from (From name End) = tt
+  comes_from (From name (Line line)) = λ bytes. tt
+  comes_from (From name (Ask ask)) = λ answer. tt
+  comes_from (From name (Answer answer)) = tt
+
+  any_watchers : (watchers : List (ℕ × Tag)) → AllByRecursion (λ (e : ℕ × Tag). AnyClient e.0) watchers
+  any_watchers [] = tt
+  any_watchers (e ∷ watchers) = (tt, any_watchers watchers)
+
+  any_streams : (streams : List (List ℕ × Tag)) → AllByRecursion (λ (e : List ℕ × Tag). (bytes : List ℕ) → May e.0 (Line bytes)) streams
+  any_streams [] = tt
+  any_streams (e ∷ streams) = (λ bytes. tt, any_streams streams)
+
+  back_asks : (home : BackNode) (input : NodeInput) → AreLetOut AnyClient May ⊤ (node_takes (state.Back home) input).outs
+  back_asks home input =
+      (takes_lets AnyClient May (state.Back home) input (record { running = λ k d h answer. tt; waiting = λ k d h answer. tt }) (comes_from input)
+      (λ bytes. tt)).outs
+
+  master_asks : (master : Master) (input : NodeInput) → AreLetOut AnyClient May ⊤ (node_takes (state.Master master) input).outs
+  master_asks master input =
+      (takes_lets AnyClient May (state.Master master) input
+      (record { watchers = any_watchers master.watchers; streams = any_streams master.streams }) (comes_from input) tt).outs
+
+-- ---- whichever node
+
+-- a frontend knows the first backend
+abbrev pub KnowsFirst : List Node → NodeState → Type 0
+KnowsFirst nodes (state.Front front) = IsFirstBackend nodes front.first
+KnowsFirst nodes it = ⊤
+
+pub node_asks : (nodes : List Node) (it : NodeState) (input : NodeInput) → KnowsFirst nodes it → MovesNobody input
+    → AreLetOut AnyClient (IsRightlySent nodes (as_front (Some (node_takes it input).state))) (MayMark it) (node_takes it input).outs
+unfolding node_takes
+node_asks nodes (state.Front front) input is none = front_asks nodes front input is none
+node_asks nodes (state.Back home) input is none = back_asks nodes _ home input
+node_asks nodes (state.Master master) input is none = master_asks nodes _ master input
