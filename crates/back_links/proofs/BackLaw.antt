@@ -23,8 +23,12 @@ use Rattle.node_record.specs.Held.{Names}
 use Rattle.node_record.specs.Table.{empty_table}
 use Rattle.name_flows.specs.declared.ask.AskKind.{AskKind}
 use Rattle.name_flows.specs.declared.ask.NameAsk.{NameAsk}
+use Rattle.name_flows.specs.declared.sent.Sent.{Sent}
+use Rattle.name_flows.specs.declared.sent.Sent.TheVariants.{List as List_line, Reserve, Make, Again, Deactivate, Delete, Wipe, Find}
+use Rattle.name_flows.specs.declared.sent.SentLine.{SentLine}
 use Rattle.name_flows.specs.Asked.{asked_step}
 use Rattle.name_flows.specs.Heard.{heard_step}
+use Rattle.name_flows.specs.Lines.{command_of}
 use Rattle.name_flows.specs.Link.{end_step}
 use Rattle.name_flows.specs.Listing.{up_step}
 use Rattle.name_flows.specs.Steps.{FlowStep, held_with}
@@ -48,7 +52,7 @@ use Rattle.name_links.proofs.OnWay.{all_append}
 use Rattle.name_links.proofs.SerialTurn.{first_serials}
 use Rattle.name_links.proofs.ServedLaw.{serves_content, serves_law}
 use Rattle.back_links.specs.BackEvents.{TalkAfterNode, TalkBegins, fits_by, IsFitting, AsksKeepTalk, HearsKeepsTalk, MessagesAreServed}
-use Rattle.back_links.specs.OneTalk.{HaveEachOther, link_of, HoldsOfEachName, HasTalk}
+use Rattle.back_links.specs.OneTalk.{AreOfPlace, HaveEachOther, link_of, HoldsOfEachName, HasTalk, NamesOnly}
 use Rattle.back_links.specs.Spelled.{CanTellMaster, HasCommandTexts, HasResponseTexts}
 use Rattle.back_links.specs.Written.{AreWritten, command_message, response_message}
 use Rattle.back_links.proofs.Mailboxes.{served_spelled}
@@ -60,6 +64,22 @@ use Rattle.back_links.proofs.Texts.{ask_spelled, place_no_bang, response_read}
 -- the frontends that are owed answers aren't the master
 abbrev IsNot : List ℕ → List ℕ → Type 0
 IsNot master front = front ≢ master
+
+-- a line that the backend sends names its own place, if it names one
+
+own_by : (me : Location) (held : Names) (what : Sent) → NamesOnly me (command_of me held what)
+own_by me held List_line = tt
+own_by me held (Reserve name) = refl
+own_by me held (Make name) = refl
+own_by me held (Again name) = refl
+own_by me held (Deactivate name) = refl
+own_by me held (Delete name) = tt
+own_by me held (Wipe name) = tt
+own_by me held (Find name) = tt
+
+sends_own : (me : Location) (held : Names) (sends : List SentLine) → AreOfPlace me (map (message_of me held) sends)
+sends_own me held [] = tt
+sends_own me held (line ∷ sends) = (own_by me held line.what, sends_own me held sends)
 
 -- ---- a step of the backend's talk
 
@@ -93,13 +113,20 @@ module _ (master : Master) (name : List ℕ) (node : BackNode) (up down : List L
     responses = written.responses;
   }
 
+  then_own : AreOfPlace node.flows.me ups → StepSaid node.flows.me node.home.held step
+      → AreOfPlace step.flows.me (ups ++ map (message_of step.flows.me node.home.held) step.sends)
+  then_own own so =
+      all_append (λ (it : Tag × MCommand). NamesOnly step.flows.me it.1) ups (map (message_of step.flows.me node.home.held) step.sends)
+      (subst (λ (me : Location). AreOfPlace me ups) (sym so.me_is) own) (sends_own step.flows.me node.home.held step.sends)
+
   goes_on : HaveEachOther master name node → CanBeTold master.table → CanTellMaster node.flows node.home.held → AreWritten up down ups downs
-      → StepSaid node.flows.me node.home.held step → AnswersOnly (IsNot master.me) node.flows step
+      → AreOfPlace node.flows.me ups → StepSaid node.flows.me node.home.held step → AnswersOnly (IsNot master.me) node.flows step
       → HoldsOfEachName (does (link_of master node ups downs) downs step) given → TalkAfterNode master name then up down given
-  goes_on each told said written so only holds = record {
+  goes_on each told said written own so only holds = record {
     ups = ups ++ map (message_of step.flows.me node.home.held) step.sends;
     downs = downs;
     written = then_written each said written so only;
+    own_place = then_own own so;
     each = then_each each so only;
     told = told;
     said = subst (λ (held : Names). CanTellMaster then.state.flows held) held_is (handed_said node.flows.me node.home.held step so);
@@ -127,7 +154,7 @@ talk_begins place me backends spelled backend =
     (sym (same_name me))
     (goes_on (booted me backends empty_table) place.server node [] [] [] [] [] (up_step node.flows)
     (record { named = refl; backend = backend; no_stream = refl; its_master = refl; owes = none_owed (IsNot me) place me })
-    none_told (new_said place me spelled) (record { up_is = refl; down_is = refl; commands = tt; responses = tt })
+    none_told (new_said place me spelled) (record { up_is = refl; down_is = refl; commands = tt; responses = tt }) tt
     (up_said node.flows [] (new_said place me spelled)) (up_answers (IsNot me) node.flows (none_owed (IsNot me) place me))
     (record {
       names = first_law place me (place_no_bang place spelled);
@@ -159,7 +186,7 @@ module _ (master : Master) (name : List ℕ) (node : BackNode) (up down : List L
   heard : TalkAfterNode master name (done_by (talks node (heard_step node.flows node.home.held (first.it).0 (first.it).1))) up down given
   heard =
       goes_on master name node up down talk.ups first.more given (heard_step node.flows node.home.held (first.it).0 (first.it).1) talk.each talk.told talk.said
-      (record { up_is = talk.written.up_is; down_is = first.rest; commands = talk.written.commands; responses = spelled.1 })
+      (record { up_is = talk.written.up_is; down_is = first.rest; commands = talk.written.commands; responses = spelled.1 }) talk.own_place
       (heard_said node.flows node.home.held talk.said (first.it).0 (first.it).1 spelled.0.1)
       (heard_answers (IsNot master.me) node.flows node.home.held (first.it).0 (first.it).1 talk.each.owes)
       (record {
@@ -200,7 +227,8 @@ module _ (master : Master) (name : List ℕ) (node : BackNode) (up down : List L
   named_comes ask kind fits =
       let it : NameAsk = name_ask from ask kind in
       let link : OneLink = link_of master node talk.ups talk.downs in
-      goes_on master name node up down talk.ups talk.downs given (asked_step node.flows node.home.held it) talk.each talk.told talk.said talk.written
+      goes_on master name node up down talk.ups talk.downs given (asked_step node.flows node.home.held it) talk.each talk.told talk.said
+      talk.written talk.own_place
       (asked_said node.flows node.home.held talk.said it (ask_spelled it fits.0 fits.1 fits.2))
       (ask_answers (IsNot master.me) node.flows node.home.held it ne talk.each.owes)
       (record {
@@ -220,6 +248,7 @@ module _ (master : Master) (name : List ℕ) (node : BackNode) (up down : List L
         ups = talk.ups;
         downs = talk.downs;
         written = talk.written;
+        own_place = talk.own_place;
         each = record {
           named = talk.each.named;
           backend = talk.each.backend;

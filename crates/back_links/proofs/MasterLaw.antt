@@ -21,7 +21,7 @@ use Rattle.name_links.proofs.LinkLaw.{others_law, takes_law}
 use Rattle.name_links.proofs.OnWay.{all_append}
 use Rattle.name_links.proofs.SerialTurn.{lines_serials}
 use Rattle.back_links.specs.MasterEvents.{TalkAfterMaster, given_in, TakesKeepsTalk, OthersKeepTalk}
-use Rattle.back_links.specs.OneTalk.{link_of, HoldsOfEachName, HasTalk}
+use Rattle.back_links.specs.OneTalk.{AreOfPlace, link_of, HoldsOfEachName, HasTalk}
 use Rattle.back_links.specs.Spelled.{HasCommandTexts, HasResponseTexts}
 use Rattle.back_links.specs.Written.{command_message, response_message}
 use Rattle.back_links.proofs.AnswersTold.{answers_told, under_spelled}
@@ -73,6 +73,7 @@ module _ (master : Master) (name : List ℕ) (node : BackNode) (up down : List L
           (under_spelled it.0 (answers_to master.table name it.1) its.spelled.0
           (answers_told master.table talk.told its.low name it.0 it.1 its.line its.meant));
     };
+    own_place = (subst (AreOfPlace node.flows.me) first.are talk.own_place).1;
     each = record {
       named = talk.each.named;
       backend = talk.each.backend;
@@ -114,6 +115,7 @@ module _ (master : Master) (name other : List ℕ) (node : BackNode) (up down : 
         ups = talk.ups;
         downs = talk.downs;
         written = talk.written;
+        own_place = talk.own_place;
         each = record {
           named = talk.each.named;
           backend = talk.each.backend;

@@ -46,6 +46,7 @@ leaves_talk master next name node up down sent given leaves none talk =
       ups = talk.ups;
       downs = talk.downs;
       written = talk.written;
+      own_place = talk.own_place;
       each = record {
         named = talk.each.named;
         backend = subst (λ (b : List (List ℕ)). list_any (pointwise nat_eq name) b ≡ true) (sym leaves.backends) talk.each.backend;

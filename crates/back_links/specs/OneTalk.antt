@@ -1,12 +1,14 @@
 -- One backend and the master: what holds of both and of the messages between them, while their link is whole.
 use Rattle.std.specs.Prelude.{◌≡◌, ◌≢◌, ℕ, nat_eq, true, List, None}
-use Rattle.std.specs.List.{list_any}
+use Rattle.std.specs.List.{list_any, AllByRecursion}
 use Rattle.std.specs.Cmp.Lexicographic.{pointwise}
 use Rattle.link_msg.specs.declared.message.LinkMsg.{LinkMsg}
 use Rattle.master_core.specs.declared.master.Master.{Master}
 use Rattle.mupdate_codec.specs.declared.command.MCommand.{MCommand}
+use Rattle.mupdate_codec.specs.declared.command.MCommand.TheVariants as command
 use Rattle.mupdate_codec.specs.declared.command.MResponse.{MResponse}
 use Rattle.mupdate_codec.specs.declared.tag.Tag.{Tag}
+use Rattle.mur_base.specs.declared.home.Location.{Location}
 use Rattle.back_node.specs.declared.node.BackNode.{BackNode}
 use Rattle.back_node.specs.NodeLaws.{OwesOnly}
 use Rattle.feed_links.specs.Lines.{stream_of}
@@ -31,6 +33,16 @@ pub record HaveEachOther (master : Master) (name : List ℕ) (node : BackNode) :
 abbrev pub link_of : Master → BackNode → List (Tag × MCommand) → List (Tag × MResponse) → OneLink
 link_of master node ups downs = record { table = master.table; flows = node.flows; held = node.home.held; ups = ups; downs = downs }
 
+-- a command that names a place names this one
+abbrev pub NamesOnly : Location → MCommand → Type 0
+NamesOnly me (command.Reserve name place) = place ≡ me
+NamesOnly me (command.Activate name place acl) = place ≡ me
+NamesOnly me (command.Deactivate name place) = place ≡ me
+NamesOnly me it = Unit {0}
+
+abbrev pub AreOfPlace : Location → List (Tag × MCommand) → Type 0
+AreOfPlace me ups = AllByRecursion (λ (it : Tag × MCommand). NamesOnly me it.1) ups
+
 -- all that name_links says of a link
 pub record HoldsOfEachName (link : OneLink) (given : Given) : Type 0 where
   pub names : LinkHolds link
@@ -43,6 +55,8 @@ pub record HasTalk (master : Master) (name : List ℕ) (node : BackNode) (up dow
   pub ups : List (Tag × MCommand)
   pub downs : List (Tag × MResponse)
   pub written : AreWritten up down ups downs
+  -- the backend writes records for its own place alone
+  pub own_place : AreOfPlace node.flows.me ups
   pub each : HaveEachOther master name node
   pub told : CanBeTold master.table
   pub said : CanTellMaster node.flows node.home.held

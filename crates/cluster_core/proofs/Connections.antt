@@ -20,3 +20,4 @@ pub mod KeepsOpen
 pub mod GivenAlone
 pub mod AtMaster
 pub mod ClientEvents
+pub mod ClientsInOrder

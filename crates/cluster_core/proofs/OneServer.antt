@@ -19,3 +19,4 @@ pub mod ClosedLaw
 pub mod AtRestLaw
 pub mod AnyStep
 pub mod OneStoreLaw
+pub mod RecordsLaw

@@ -1,5 +1,6 @@
 -- What holds before the first step.
 pub mod Kinds
+pub mod Places
 pub mod Fresh
 pub mod Ups
 pub mod Quiet

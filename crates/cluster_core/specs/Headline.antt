@@ -14,6 +14,7 @@ pub mod AtRest
 pub mod Replicas
 pub mod Points
 pub mod Backends
+pub mod Records
 pub mod Asks
 use Rattle.std.specs.Prelude.{◌≡◌, List}
 use Rattle.mur_config.specs.declared.config.Config.{Config}
@@ -27,6 +28,7 @@ use Rattle.cluster_core.specs.Headline.HomeLaw.{KeepsOneHomeEach}
 use Rattle.cluster_core.specs.Headline.OneNode.{GoesOverLinks, OneNodeWorksEach, ServesItsOwnEach}
 use Rattle.cluster_core.specs.Headline.OneStore.{IsToldByOneStore}
 use Rattle.cluster_core.specs.Headline.Outside.{ServesGuests}
+use Rattle.cluster_core.specs.Headline.Records.{RecordsStandAtBackends}
 use Rattle.cluster_core.specs.Headline.Refusals.{RefusesForCauseEach}
 use Rattle.cluster_core.specs.Headline.Replicas.{FollowTheTable}
 use Rattle.cluster_core.specs.World.{start}
@@ -34,8 +36,9 @@ use Rattle.cluster_core.specs.World.{start}
 -- What the mail clients were given is what one mailbox store replies to the printed history, one command at a time, in each session's order; in each single
 -- step one node works, for its own clients alone, and sends only over the links that it has; a client that has closed its connection is given nothing
 -- more; a client at the master is given the replies to its lines of MUPDATE and, once it asked for that, each change of the table; the replicas of the
--- frontends follow the master's table, and by its own each asks the server of a mailbox, or for a new one that of the nearest name above; a mailbox has
--- at most one writable home; a command is refused for a move only where its name is reserved.
+-- frontends follow the master's table, and by its own each asks the server of a mailbox, or for a new one that of the nearest name above; each record of
+-- the master's table is at a backend, in its partition; a mailbox has at most one writable home; a command is refused for a move only where its name is
+-- reserved.
 pub record IsOneServer (config : Config) (events : List Event) : Type 0 where
   -- the run is that of its single steps, and those are its events, but of a flow as many deliveries as it may make, or until none is left
   pub by_steps : run_of config events ≡ run_steps (start config) (steps_of_run config events)
@@ -48,5 +51,6 @@ pub record IsOneServer (config : Config) (events : List Event) : Type 0 where
   pub guests : ServesGuests config events
   pub replicas : FollowTheTable config events
   pub asks : AsksByRecords config events
+  pub records : RecordsStandAtBackends config events
   pub one_home : KeepsOneHomeEach config events
   pub refusals : RefusesForCauseEach config events

@@ -3,6 +3,7 @@ mod SpellingRead
 mod OneWord
 mod CutsJoined
 mod FoundLaw
+mod PlaceRead
 mod LinesRead
 mod ReadBackLaw
 mod KindsGiven

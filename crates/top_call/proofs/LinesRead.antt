@@ -1,15 +1,20 @@
 -- Each line of the output is read back as what it is of.
 use Rattle.std.proofs.Common.{◌≡◌, ℕ, List, [], ◌∷◌, ◌++◌, refl, sym, ◌∙◌, ap, subst, append_assoc}
-use Rattle.std.specs.Prelude.{codes}
+use Rattle.std.specs.Prelude.{All, codes}
 use Rattle.std.specs.List.{flat_map}
 use Rattle.std.specs.Fmt.{decimal}
+use Rattle.std.proofs.lemmas.List.Elements.{All-head, All-tail}
 use Rattle.mur_base.specs.declared.point.Point.{Point}
 use Rattle.mur_base.specs.declared.point.What.{What}
 use Rattle.mur_base.specs.declared.point.What.TheVariants.{Reply, Read, Lost, Reserved, Unreached}
 use Rattle.mur_base.specs.declared.home.Phase.{Phase}
 use Rattle.mur_base.specs.declared.home.Phase.TheVariants.{Creating, Open as open_here, Closing, Receiving, Ready, Pointer}
+use Rattle.mur_config.specs.declared.config.Config.{Config}
+use Rattle.mur_config.specs.Nodes.{AreNodes}
 use Rattle.cluster_core.specs.declared.cluster.HomeRow.{HomeRow}
 use Rattle.cluster_core.specs.declared.world.Client.{Client}
+use Rattle.cluster_core.specs.Headline.Records.{StandsAtBackend}
+use Rattle.cluster_core.proofs.Starts.Places.{named_place}
 use Rattle.node_record.specs.declared.table.Record.{Record}
 use Rattle.node_record.specs.declared.table.State.{State}
 use Rattle.node_record.specs.declared.table.State.TheVariants.{Bare, Kept, Active}
@@ -22,6 +27,7 @@ use Rattle.top_call.specs.ReadBack.{IsEndLine, IsRecordLine, SaysState}
 use Rattle.top_call.proofs.CutsJoined.{join_cuts, cuts_something}
 use Rattle.mur_base.proofs.DecimalReadBack.{number_of-decimal}
 use Rattle.top_call.proofs.OneWord.{one_word}
+use Rattle.top_call.proofs.PlaceRead.{short_goes_on}
 use Rattle.top_call.proofs.SpellingRead.{text_read, name_text_read}
 
 pub tells_each : {X : Type 0} (IsLine : X → List ℕ → Type 0) (line_of : X → List ℕ) → ((item : X) → IsLine item (line_of item)) → (items : List X)
@@ -29,6 +35,14 @@ pub tells_each : {X : Type 0} (IsLine : X → List ℕ → Type 0) (line_of : X 
 tells_each IsLine line_of is [] = no_line
 tells_each IsLine line_of is (item ∷ items) =
     a_line item items (line_of item) (flat_map line_of items) (is item) (tells_each IsLine line_of is items)
+
+-- where each item is such
+pub tells_all : {X : Type 0} (P : X → Type 0) (IsLine : X → List ℕ → Type 0) (line_of : X → List ℕ) → ((item : X) → P item → IsLine item (line_of item))
+    → (items : List X) → All P items → TellsEach IsLine items (flat_map line_of items)
+tells_all P IsLine line_of is [] all = no_line
+tells_all P IsLine line_of is (item ∷ items) all =
+    a_line item items (line_of item) (flat_map line_of items) (is item (All-head P item items all))
+    (tells_all P IsLine line_of is items (All-tail P item items all))
 
 to_line_read : (conn : ℕ) (piece : List ℕ) → IsToLine conn piece (to_line conn piece)
 unfolding to_line
@@ -76,9 +90,10 @@ state_said (Bare serial) = refl
 state_said (Kept acl) = refl
 state_said (Active acl) = refl
 
-pub record_line_read : (entry : List ℕ × Record) → IsRecordLine entry (record_line entry)
+pub record_line_read : (config : Config) → AreNodes config.nodes → (entry : List ℕ × Record) → StandsAtBackend config entry
+    → IsRecordLine entry (record_line entry)
 unfolding record_line location_text
-record_line_read entry = record {
+record_line_read config are entry stands = record {
   name = name_text_of entry.0;
   state = state_word (entry.1).state;
   words = placed (codes "master " ++ name_text_of entry.0 ++ codes " " ++ state_word (entry.1).state ++ codes " ") (entry.1).place.server
@@ -86,6 +101,8 @@ record_line_read entry = record {
   named = name_text_read entry.0;
   one_word = one_word entry.0;
   says = state_said (entry.1).state;
+  server = short_goes_on (entry.1).place.server (named_place config are (entry.1).place stands.place).server;
+  partition = short_goes_on (entry.1).place.partition (named_place config are (entry.1).place stands.place).partition;
 }
   where
     placed : (front server partition : List ℕ) → front ++ (server ++ codes "!" ++ partition) ++ codes "\n" ≡ front ++ server ++ codes "!" ++ partition

@@ -1,7 +1,7 @@
 -- The text of a run is read back: its lines tell, one for one, all that the clients were given, the history, the mailboxes and the counts.
 use Rattle.std.specs.Prelude.{◌≡◌, ◌≢◌, ℕ, ◌^◌, ◌<◌, List, [], ◌∷◌, ◌++◌, length, get_or, All, Some, codes}
 use Rattle.std.specs.List.{flat_map}
-use Rattle.mur_base.specs.Ascii.{space}
+use Rattle.mur_base.specs.Ascii.{lf, space}
 use Rattle.mur_base.specs.Number.{number_of}
 use Rattle.mur_base.specs.declared.point.Point.{Point}
 use Rattle.mur_base.specs.declared.point.What.{What}
@@ -74,7 +74,14 @@ SaysState (Bare serial) word = word ≡ codes "reserved"
 SaysState (Kept acl) word = word ≡ codes "reserved"
 SaysState (Active acl) word = word ≡ codes "active"
 
--- `master NAME STATE SERVER!PARTITION`; the name is one word
+abbrev pub bang : ℕ
+bang = 33
+
+-- a byte that ends neither a word nor the front of a place nor a line
+abbrev pub GoesOn : ℕ → Type 0
+GoesOn c = (c ≢ space) × (c ≢ bang) × (c ≢ lf)
+
+-- `master NAME STATE SERVER!PARTITION`; the name is one word, and one `!` stands in the place, so the line is read in one way
 pub record IsRecordLine (entry : List ℕ × Record) (line : List ℕ) : Type 0 where
   pub name : List ℕ
   pub state : List ℕ
@@ -83,6 +90,8 @@ pub record IsRecordLine (entry : List ℕ × Record) (line : List ℕ) : Type 0 
   pub named : ReadsBytes name entry.0
   pub one_word : All (λ (c : ℕ). c ≢ space) name
   pub says : SaysState (entry.1).state state
+  pub server : All GoesOn (entry.1).place.server
+  pub partition : All GoesOn (entry.1).place.partition
 
 -- a phase by its word, and UIDVALIDITY, UIDNEXT and how many messages there are
 pub record SaysCounts (phase : List ℕ) (row : HomeRow) (state : List ℕ) : Type 0 where

@@ -114,6 +114,8 @@ fn write_run<H: Host>(alloc: Global, host: &mut H, config: Config, events: Event
     ensures did { EndsWriting (replay_text config events) (H.facts host.old) (H.facts host.new) result }
     ensures counts { CountsStatus result (H.facts host.old).faults (H.facts host.new).faults }
 {
+    // The nodes are those of a configuration, which their type keeps.
+    let _nodes = config.nodes.as_slice();
     match run(alloc, &config, events) {
         Ok(cluster) => write_cluster(alloc, host, &cluster),
         Err(_) => Status::Memory,

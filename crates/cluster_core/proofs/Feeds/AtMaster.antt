@@ -4,7 +4,7 @@ use Rattle.std.specs.List.{AllByRecursion}
 use Rattle.std.specs.Option.{IsSome}
 use Rattle.std.specs.Ordering.{nat_cmp}
 use Rattle.std.specs.Cmp.Lexicographic.{slice_cmp}
-use Rattle.back_links.specs.OneTalk.{HasTalk}
+use Rattle.back_links.specs.OneTalk.{AreOfPlace, HasTalk, NamesOnly}
 use Rattle.back_links.specs.Written.{command_message}
 use Rattle.back_links.proofs.FirstLine.{IsItsLine, its_line, says_reply}
 use Rattle.back_links.proofs.Queues.{IsFirst, first_of}
@@ -26,6 +26,7 @@ use Rattle.feed_links.proofs.OnlyLines.{sends_lines}
 use Rattle.feed_links.proofs.Printed.{response_spelled}
 use Rattle.front_core.specs.declared.front.Front.{Front}
 use Rattle.link_msg.specs.declared.message.LinkMsg.{LinkMsg}
+use Rattle.mur_base.specs.declared.home.Location.{Location}
 use Rattle.link_queue.specs.Links.{Links, on_link, without_first}
 use Rattle.many_links.specs.ManyHold.{ManyHold}
 use Rattle.many_links.specs.Murder.{Nodes, put_all}
@@ -53,10 +54,20 @@ use Rattle.name_links.specs.Serials.{Given}
 use Rattle.node_record.specs.declared.master.MasterRecord.{MasterRecord}
 use Rattle.cluster_core.specs.declared.world.World.{World}
 use Rattle.cluster_core.proofs.Connections.KeepsLaw.{AreKeptAtBackends, AreNodesOf, FeedsHold, IsFedAt, KnowsBackends, TellsBackends, murder_of}
-use Rattle.cluster_core.proofs.Feeds.Backends.{LineAt, SameBackends, change_at, each_kept, kept_still, knows_more, knows_still, line_tells, made_at}
+use Rattle.cluster_core.proofs.Feeds.Backends.{ArePlaced, LineNames, SameBackends, each_kept, kept_still, knows_more, knows_still, line_tells}
+use Rattle.cluster_core.proofs.Feeds.Backends.{made_placed, own_change}
 use Rattle.cluster_core.proofs.Feeds.Beside.{fed_moved, front_apart, front_no_home, home_apart}
 use Rattle.cluster_core.proofs.Nodes.Carried.{is_made}
 use Rattle.cluster_core.proofs.Nodes.Comes.{IsOfClient, MasterMoved, master_does, master_moved, with_master}
+
+-- ---- what a client from outside does changes neither the streams nor the table
+
+pub outside_same : (master : Master) (input : NodeInput) → IsOfClient input
+    → ((master_does master input).master.streams ≡ master.streams) × ((master_does master input).master.table ≡ master.table)
+outside_same master (Opened conn) is = ((connects_alone master conn).beside.streams, (connects_alone master conn).beside.table)
+outside_same master (Piece conn bytes) is = ((bytes_alone master conn bytes).beside.streams, (bytes_alone master conn bytes).beside.table)
+outside_same master (Hung conn) is = ((ends_alone master conn).beside.streams, (ends_alone master conn).beside.table)
+outside_same master (From from message) is = absurd is
 
 -- ---- a step in which each frontend is sent what follows the table
 
@@ -134,16 +145,9 @@ module _ (config : Config) (world : World) (master : Master) (nodes : AreNodesOf
       subst (λ d. IsFed (master_does master (Hung conn)).master any up d replica) (sym (append-nil down)) ((clients_keep_it master any up down replica fed).ends conn)
   outside_fed (From from message) is any up down replica fed = absurd is
 
-  outside_same : (input : NodeInput) → IsOfClient input
-      → ((master_does master input).master.streams ≡ master.streams) × ((master_does master input).master.table ≡ master.table)
-  outside_same (Opened conn) is = ((connects_alone master conn).beside.streams, (connects_alone master conn).beside.table)
-  outside_same (Piece conn bytes) is = ((bytes_alone master conn bytes).beside.streams, (bytes_alone master conn bytes).beside.table)
-  outside_same (Hung conn) is = ((ends_alone master conn).beside.streams, (ends_alone master conn).beside.table)
-  outside_same (From from message) is = absurd is
-
   pub master_serves_feeds : (input : NodeInput) → IsOfClient input → FeedsHold config (with_master world name (master_does master input)) (master_does master input).master
   master_serves_feeds input is =
-      let same = outside_same input is in
+      let same = outside_same master input is in
       master_then_feeds world.links (master_does master input) (λ any. refl)
       (λ any front at. record {
         fed = outside_fed input is any (on_link world.links any name) (on_link world.links name any) front.replica (feeds.each any front at).fed;
@@ -166,6 +170,10 @@ module _ (config : Config) (world : World) (master : Master) (nodes : AreNodesOf
     abbrev says : Served
     says = node_says master node message
 
+    -- a place at a backend
+    abbrev AtOne : Location → Type 0
+    AtOne place = IsSome (home_at world place.server)
+
     talk : HasTalk master node home (message ∷ rest) (on_link world.links master.me node) given
     talk = subst (λ (u : List LinkMsg). HasTalk master node home u (on_link world.links master.me node) given)
         (ap (on_link world.links node) nodes.me ∙ first) (many.each node home at).talk
@@ -185,14 +193,19 @@ module _ (config : Config) (world : World) (master : Master) (nodes : AreNodesOf
     says_it : says ≡ let_out planned
     says_it = says_reply master node message line.it its
 
-    there : IsSome (home_at world node)
-    there = ap is_some at
+    -- it names the backend's own place, if it names one
+    own : NamesOnly home.flows.me (line.it).1
+    own = (subst (AreOfPlace home.flows.me) line.are talk.own_place).0
+
+    -- which is at a backend
+    there : IsSome (home_at world (home.flows.me).server)
+    there = ap is_some (ap (home_at world) talk.each.named ∙ at)
 
     makes : (change : MasterRecord) → reply.entry ≡ Some change → MakesChange master.table (line.it).1 change
     makes change e = makes_change master.table (Backend node) change (line.it).1 e
 
-    at_line : (change : MasterRecord) → reply.entry ≡ Some change → LineAt (home_at world) (change_line change)
-    at_line change e = change_at (home_at world) master.table node (line.it).0 (line.it).1 its.line change (makes change e) its.meant there
+    at_line : (Q : Location → Type 0) → Q home.flows.me → (change : MasterRecord) → reply.entry ≡ Some change → LineNames Q (change_line change)
+    at_line Q is change e = own_change Q home.flows.me master.table (line.it).1 change (makes change e) own is
 
     has : HasArguments (line.it).1
     has = line_has ((command_line exact).text line.it) line.it (is_line ((command_line exact).text line.it) line.it (command_read line.it its.spelled))
@@ -208,7 +221,8 @@ module _ (config : Config) (world : World) (master : Master) (nodes : AreNodesOf
     changed_told any (Some change) e (inr under) =
         subst (AllByRecursion (TellsBackends (home_at world))) (sym (change_told master any update_tag change feeds.streams under)) (
           line_tells (home_at world) update_tag (change_line change)
-              (response_spelled update_tag (change_line change) update_tagged (change_parts master.table (line.it).1 change (makes change e) has)) (at_line change e),
+              (response_spelled update_tag (change_line change) update_tagged (change_parts master.table (line.it).1 change (makes change e) has))
+              (at_line AtOne there change e),
           tt,
         )
 
@@ -226,6 +240,10 @@ module _ (config : Config) (world : World) (master : Master) (nodes : AreNodesOf
     table_is : says.master.table ≡ table_with master.table reply.entry
     unfolding replied
     table_is = ap (λ (s : Served). s.master.table) says_it
+
+    -- where all records are at such places, and the backend's own is one, they still are then
+    pub master_takes_placed : (Q : Location → Type 0) → Q home.flows.me → ArePlaced Q master.table → ArePlaced Q says.master.table
+    master_takes_placed Q is all = subst (ArePlaced Q) (sym table_is) (made_placed Q master.table (line.it).1 reply.entry makes (at_line Q is) all)
 
     home_left : (any : List ℕ) → on_link (without_first world.links node name) name any ≡ on_link world.links name any
     home_left any = taken_else world.links node name name any (inl (λ e. home_apart config world master nodes feeds node home at (sym e)))
@@ -249,4 +267,4 @@ module _ (config : Config) (world : World) (master : Master) (nodes : AreNodesOf
     master_takes_feeds =
         master_then_feeds (without_first world.links node name) says home_left told_so (says_order master node message feeds.streams)
         (subst TellNobody (sym streams_same) feeds.nobodys) (says_told master node message feeds.spelled)
-        (subst (AreKeptAtBackends (home_at world)) (sym table_is) (made_at (home_at world) master.table (line.it).1 reply.entry makes at_line feeds.kept))
+        (master_takes_placed AtOne there feeds.kept)

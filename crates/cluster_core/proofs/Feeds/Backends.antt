@@ -7,6 +7,7 @@ use Rattle.std.specs.Option.{IsSome}
 use Rattle.std.specs.Ordering.{nat_cmp, is_eq, match_ordering}
 use Rattle.std.specs.Cmp.Lexicographic.{slice_cmp}
 use Rattle.std.proofs.lemmas.List.Concat.{flat_map-cons}
+use Rattle.back_links.specs.OneTalk.{NamesOnly}
 use Rattle.feed_core.specs.declared.rec.Rec.{Rec}
 use Rattle.feed_core.specs.declared.rec.Rec.TheVariants.{Active as active_rec, Reserved as reserved_rec}
 use Rattle.feed_core.specs.declared.replica.Replica.{Replica}
@@ -34,10 +35,6 @@ use Rattle.mupdate_codec.specs.declared.tag.Tag.{Tag}
 use Rattle.mupdate_codec.specs.Responses.{IsSpelledResponse}
 use Rattle.mur_base.specs.declared.home.Location.{Location}
 use Rattle.mur_base.specs.Map.{with_entry, with_value, without_key}
-use Rattle.home_law.specs.Items.{is_same_server}
-use Rattle.home_law.specs.ManyNames.{SentLine, sent_reserve, sent_make, sent_again, sent_deactivate}
-use Rattle.home_law.proofs.SameName.{is_the_same}
-use Rattle.name_links.specs.Lines.{backend_line, if_at, is_asked}
 use Rattle.node_record.specs.declared.master.MasterRecord.{MasterRecord}
 use Rattle.node_record.specs.declared.table.Record.{Record}
 use Rattle.node_record.specs.declared.table.State.{State}
@@ -86,11 +83,15 @@ all_so P Q (e ∷ es) so all = (so e.1 all.0, all_so P Q es so all.1)
 
 -- ---- a replica
 
--- the line names a backend, if it names a server
+-- the line names such a place, if it names one
+abbrev pub LineNames : (Location → Type 0) → MResponse → Type 0
+LineNames Q (response.Mailbox name place acl) = Q place
+LineNames Q (response.Reserve name place) = Q place
+LineNames Q it = Unit {0}
+
+-- it names a backend, if it names a server
 abbrev pub LineAt : Nodes → MResponse → Type 0
-LineAt nodes (response.Mailbox name place acl) = IsSome (nodes place.server)
-LineAt nodes (response.Reserve name place) = IsSome (nodes place.server)
-LineAt nodes it = Unit {0}
+LineAt nodes it = LineNames (λ (place : Location). IsSome (nodes place.server)) it
 
 module _ (nodes : Nodes) where
   abbrev RecAt : Rec → Type 0
@@ -168,42 +169,37 @@ module _ (nodes : Nodes) where
   lines_tell tag [] written at = tt
   lines_tell tag (it ∷ lines) written at = (line_tells tag it written.0 at.0, lines_tell tag lines written.1 at.1)
 
-  -- ---- the table
+-- ---- the table, of whatever places
 
-  -- a change names a backend, if it names a server
-  pub change_at_table : (table : MailboxTable) (it : MCommand) (change : MasterRecord) → MakesChange table it change → LineAt nodes (change_line change)
-      → AreKeptAtBackends nodes table → AreKeptAtBackends nodes (table_after table change)
-  change_at_table table it change (reserves name place serial none) at all =
-      put_all_at (λ (r : Record). IsSome (nodes (r.place).server)) name (record { place = place; state = Bare serial }) at table.records all
-  change_at_table table it change (activates name place acl) at all =
-      put_all_at (λ (r : Record). IsSome (nodes (r.place).server)) name (record { place = place; state = Active acl }) at table.records all
-  change_at_table table it change (deactivates name place was there) at all =
-      subst (λ found. AllByRecursion (λ (e : List ℕ × Record). IsSome (nodes ((e.1).place).server)) (reserved_again table.records name place found)) (sym there)
-      (value_all_at (λ (r : Record). IsSome (nodes (r.place).server)) name (moved place was) at table.records all)
-  change_at_table table it change (deletes name) at all = gone_all_at (λ (r : Record). IsSome (nodes (r.place).server)) name table.records all
+-- each record is at one
+abbrev pub ArePlaced : (Location → Type 0) → MailboxTable → Type 0
+ArePlaced Q table = AllByRecursion (λ (entry : List ℕ × Record). Q (entry.1).place) table.records
 
-  -- a line of a backend names that backend
-  at_one : (b : List ℕ) (place : Location) (line other : SentLine) → if_at b place line ≡ Some other → IsSome (nodes b) → IsSome (nodes place.server)
-  at_one b place line other e there = by (is_same_server place.server b) refl e
-    where
-      by : (same : Bool) → is_same_server place.server b ≡ same → cond same (Some line) None ≡ Some other → IsSome (nodes place.server)
-      by true same h = subst (λ s. IsSome (nodes s)) (sym (is_the_same place.server b same)) there
-      by false same h = cc
+module _ (Q : Location → Type 0) where
+  change_placed : (table : MailboxTable) (it : MCommand) (change : MasterRecord) → MakesChange table it change → LineNames Q (change_line change)
+      → ArePlaced Q table → ArePlaced Q (table_after table change)
+  change_placed table it change (reserves name place serial none) at all =
+      put_all_at (λ (r : Record). Q r.place) name (record { place = place; state = Bare serial }) at table.records all
+  change_placed table it change (activates name place acl) at all =
+      put_all_at (λ (r : Record). Q r.place) name (record { place = place; state = Active acl }) at table.records all
+  change_placed table it change (deactivates name place was there) at all =
+      subst (λ found. AllByRecursion (λ (e : List ℕ × Record). Q (e.1).place) (reserved_again table.records name place found)) (sym there)
+      (value_all_at (λ (r : Record). Q r.place) name (moved place was) at table.records all)
+  change_placed table it change (deletes name) at all = gone_all_at (λ (r : Record). Q r.place) name table.records all
 
-  pub change_at : (table : MailboxTable) (b : List ℕ) (tag : Tag) (it : MCommand) (line : SentLine) (change : MasterRecord) → MakesChange table it change
-      → backend_line b tag it ≡ Some line → IsSome (nodes b) → LineAt nodes (change_line change)
-  unfolding backend_line
-  change_at table b tag it line change (reserves name place serial none) e there = at_one b place (sent_reserve name) line e there
-  change_at table b tag it line change (activates name place acl) e there =
-      at_one b place (if is_asked tag then sent_make name else sent_again name) line e there
-  change_at table b tag it line change (deactivates name place was found) e there = at_one b place (sent_deactivate name) line e there
-  change_at table b tag it line change (deletes name) e there = tt
+  -- a backend writes records for itself alone
+  pub own_change : (me : Location) (table : MailboxTable) (it : MCommand) (change : MasterRecord) → MakesChange table it change → NamesOnly me it → Q me
+      → LineNames Q (change_line change)
+  own_change me table it change (reserves name place serial none) own at = subst Q (sym own) at
+  own_change me table it change (activates name place acl) own at = subst Q (sym own) at
+  own_change me table it change (deactivates name place was there) own at = subst Q (sym own) at
+  own_change me table it change (deletes name) own at = tt
 
-  pub made_at : (table : MailboxTable) (it : MCommand) (made : Option MasterRecord) → ((change : MasterRecord) → made ≡ Some change → MakesChange table it change)
-      → ((change : MasterRecord) → made ≡ Some change → LineAt nodes (change_line change)) → AreKeptAtBackends nodes table
-      → AreKeptAtBackends nodes (table_with table made)
-  made_at table it None makes at all = all
-  made_at table it (Some change) makes at all = change_at_table table it change (makes change refl) (at change refl) all
+  pub made_placed : (table : MailboxTable) (it : MCommand) (made : Option MasterRecord)
+      → ((change : MasterRecord) → made ≡ Some change → MakesChange table it change)
+      → ((change : MasterRecord) → made ≡ Some change → LineNames Q (change_line change)) → ArePlaced Q table → ArePlaced Q (table_with table made)
+  made_placed table it None makes at all = all
+  made_placed table it (Some change) makes at all = change_placed table it change (makes change refl) (at change refl) all
 
 -- ---- where there are the same backends, all are at backends still
 

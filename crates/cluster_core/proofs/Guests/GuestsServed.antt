@@ -1,5 +1,5 @@
 -- The master serves its clients so in each run whose steps keep the law, and any other client where no frontend is was given nothing.
-use Rattle.std.proofs.Common.{◌≡◌, ℕ, false, List, [], ◌∷◌, ◌++◌, Option, None, Some, refl, sym, ◌∙◌, ap, subst, append_assoc, arith}
+use Rattle.std.proofs.Common.{◌≡◌, ℕ, false, List, [], ◌∷◌, ◌++◌, Option, None, Some, refl, sym, ◌∙◌, ap, subst, arith}
 use Rattle.std.proofs.lemmas.List.{append-nil}
 use Rattle.cluster_core.specs.Headline.OneNode.{node_of}
 use Rattle.cluster_core.specs.Headline.Outside.{table_by, HasTheTableOfNow, IsGivenItsDialog, ServesGuests, guest_after, guest_from, guest_of, is_guest, table_at}
@@ -23,7 +23,7 @@ use Rattle.cluster_core.proofs.Guests.GuestLaw.{GuestIs, GuestsLaw, IsPlacedSo}
 use Rattle.cluster_core.proofs.Guests.GuestSteps.{Fits, KnowsMaster, law_same, step_guests}
 use Rattle.cluster_core.proofs.Guests.StartGuests.{start_nobody}
 use Rattle.cluster_core.proofs.Guests.TablesStay.{step_tables}
-use Rattle.cluster_core.proofs.OneServer.EachStep.{EachKeeps, LawBehind, kept_all}
+use Rattle.cluster_core.proofs.OneServer.EachStep.{EachKeeps, LawBehind, kept_all, kept_behind}
 use Rattle.cluster_core.proofs.OneServer.SaysOf.{IsSilent}
 use Rattle.cluster_core.proofs.OneServer.ToldSoFar.{OthersAreSilent}
 use Rattle.cluster_core.proofs.Starts.Kinds.{master_named, only_master}
@@ -110,38 +110,10 @@ guests_next config knows before event law guests =
 
 -- ---- a run
 
--- the law behind these steps, and behind each that follows
-LawsFrom : Config → List Event → List Event → Type 0
-LawsFrom config before rest = (front back : List Event) → rest ≡ front ++ back → LawBehind config (before ++ front)
-
-law_here : (config : Config) (before rest : List Event) → LawsFrom config before rest → LawBehind config before
-unfolding LawsFrom
-law_here config before rest laws = subst (LawBehind config) (append-nil before) (laws [] rest refl)
-
-laws_on : (config : Config) (before : List Event) (event : Event) (rest : List Event) → LawsFrom config before (event ∷ rest)
-    → LawsFrom config (before ++ event ∷ []) rest
-unfolding LawsFrom
-laws_on config before event rest laws front back e =
-    subst (LawBehind config) (sym (append_assoc before (event ∷ []) front)) (laws (event ∷ front) back (ap (λ l. event ∷ l) e))
-
-guests_on : (config : Config) → KnowsMaster config → (before rest : List Event) → LawsFrom config before rest → GuestsBehind config before
-    → GuestsBehind config (before ++ rest)
-guests_on config knows before [] laws guests = subst (GuestsBehind config) (sym (append-nil before)) guests
-guests_on config knows before (event ∷ rest) laws guests =
-    subst (GuestsBehind config) (append_assoc before (event ∷ []) rest)
-    (guests_on config knows (before ++ event ∷ []) rest (laws_on config before event rest laws)
-    (guests_next config knows before event (law_here config before (event ∷ rest) laws) guests))
-
-behind_each : (config : Config) (steps : List Event) → EachKeeps config steps → (before later : List Event) → steps ≡ before ++ later
-    → LawsFrom config [] before
-unfolding LawsFrom
-behind_each config steps each before later parts front back e =
-    ((kept_all config steps each).at front (back ++ later) (parts ∙ ap (λ l. l ++ later) e ∙ append_assoc front back later)).law
-
 guests_at : (config : Config) (steps : List Event) → AreNodes config.nodes → EachKeeps config steps → (before later : List Event) → steps ≡ before ++ later
     → GuestsBehind config before
 guests_at config steps are each before later parts =
-    guests_on config (knows_master config are) [] before (behind_each config steps each before later parts) (guests_first config each.first)
+    kept_behind config steps (GuestsBehind config) each (guests_first config each.first) (guests_next config (knows_master config are)) before later parts
 
 -- ---- what follows
 

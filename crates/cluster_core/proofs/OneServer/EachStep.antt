@@ -1,5 +1,5 @@
 -- The law at each step of a run, where each step keeps it.
-use Rattle.std.proofs.Common.{◌≡◌, ℕ, List, [], ◌∷◌, ◌++◌, refl, sym, ◌∙◌, subst, append_assoc}
+use Rattle.std.proofs.Common.{◌≡◌, ℕ, List, [], ◌∷◌, ◌++◌, refl, sym, ◌∙◌, ap, subst, append_assoc}
 use Rattle.std.proofs.lemmas.List.{append-nil}
 use Rattle.imap_talk.specs.Heard.{Heard, nobody}
 use Rattle.mark_history.specs.Marked.{talk_told}
@@ -79,6 +79,39 @@ kept_from config steps before (event ∷ rest) each e law moves =
 pub kept_all : (config : Config) (steps : List Event) → EachKeeps config steps → KeepsAll config steps
 kept_all config steps each =
     let all = kept_from config steps [] steps each refl each.first each.moves in record { talk = all.talk; at = all.at }
+
+-- ---- what each step keeps where the law holds before it
+
+-- the law behind these steps, and behind each that follows
+LawsFrom : Config → List Event → List Event → Type 0
+LawsFrom config before rest = (front back : List Event) → rest ≡ front ++ back → LawBehind config (before ++ front)
+
+law_here : (config : Config) (before rest : List Event) → LawsFrom config before rest → LawBehind config before
+unfolding LawsFrom
+law_here config before rest laws = subst (LawBehind config) (append-nil before) (laws [] rest refl)
+
+laws_on : (config : Config) (before : List Event) (event : Event) (rest : List Event) → LawsFrom config before (event ∷ rest)
+    → LawsFrom config (before ++ event ∷ []) rest
+unfolding LawsFrom
+laws_on config before event rest laws front back e =
+    subst (LawBehind config) (sym (append_assoc before (event ∷ []) front)) (laws (event ∷ front) back (ap (λ l. event ∷ l) e))
+
+laws_behind : (config : Config) (steps : List Event) → EachKeeps config steps → (before later : List Event) → steps ≡ before ++ later
+    → LawsFrom config [] before
+unfolding LawsFrom
+laws_behind config steps each before later parts front back e =
+    ((kept_all config steps each).at front (back ++ later) (parts ∙ ap (λ l. l ++ later) e ∙ append_assoc front back later)).law
+
+module _ (config : Config) (steps : List Event) (P : List Event → Type 0) (each : EachKeeps config steps) (first : P [])
+    (next : (before : List Event) (event : Event) → LawBehind config before → P before → P (before ++ event ∷ [])) where
+  kept_on : (before rest : List Event) → LawsFrom config before rest → P before → P (before ++ rest)
+  kept_on before [] laws is = subst P (sym (append-nil before)) is
+  kept_on before (event ∷ rest) laws is =
+      subst P (append_assoc before (event ∷ []) rest)
+      (kept_on (before ++ event ∷ []) rest (laws_on config before event rest laws) (next before event (law_here config before (event ∷ rest) laws) is))
+
+  pub kept_behind : (before later : List Event) → steps ≡ before ++ later → P before
+  kept_behind before later parts = kept_on [] before (laws_behind config steps each before later parts) first
 
 -- ---- what was heard before and then
 

@@ -1,5 +1,5 @@
 -- The nodes before the first step: each frontend and each backend was told once that its link with the master is up.
-use Rattle.std.proofs.Common.{◌≡◌, ◌≢◌, ℕ, zero, suc, ◌<◌, ◌≤◌, ◌&&◌, nat_eq, Bool, true, false, cond, if◌then◌else◌, is_some, List, [], ◌∷◌, ◌++◌, length, Option, None, Some, refl, sym, ◌∙◌, ap, subst, arith, slice_index_or, Contains}
+use Rattle.std.proofs.Common.{◌≡◌, ◌≢◌, ℕ, zero, suc, ◌<◌, ◌≤◌, ◌&&◌, nat_eq, Bool, true, false, cond, if◌then◌else◌, is_some, List, [], ◌∷◌, ◌++◌, length, Option, None, Some, refl, sym, ◌∙◌, ap, subst, arith, slice_index_or}
 use Rattle.std.specs.List.{AllByRecursion}
 use Rattle.std.specs.Ordering.{nat_cmp, is_eq}
 use Rattle.std.specs.Cmp.Lexicographic.{pointwise, slice_cmp}
@@ -94,15 +94,15 @@ home_acts config node = refl
 home_heeds : (config : Config) (node : Node) → Heeds (state.Back (first_home config node)) (master_of config)
 home_heeds config node from ne = other_name from (master_of config) ne
 
--- it keeps its master
-told_keeps : (place : Location) (me : List ℕ) → (told_up place me).state.flows.master ≡ me
+-- it keeps its place and its master
+pub told_keeps : (place : Location) (me : List ℕ) → ((told_up place me).state.flows.me ≡ place) × ((told_up place me).state.flows.master ≡ me)
 unfolding taken_up
 told_keeps place me = by (is_my_master (new_node place me) me) (same_name me)
   where
     by : (same : Bool) → same ≡ true
         → (let next = (if same then talks (new_node place me) (up_step (new_node place me).flows) else passed_over (new_node place me)) in
-        (acted next.node next.rest).state.flows.master ≡ me)
-    by true e = refl
+        ((acted next.node next.rest).state.flows.me ≡ place) × ((acted next.node next.rest).state.flows.master ≡ me))
+    by true e = (refl, refl)
     by false e = cc
 
 -- ---- the links
@@ -192,7 +192,6 @@ module _ (config : Config) (are : AreNodes config.nodes) where
   -- ---- a backend
 
   pub record HomeStarts (name : List ℕ) (node : Node) : Type 0 where
-    pub among : Contains config.nodes node
     pub named : node.name ≡ name
     pub kind : node.kind ≡ Backend
     pub at : home_at (start config) name ≡ Some (told_up (place_of node) master).state
@@ -203,12 +202,11 @@ module _ (config : Config) (are : AreNodes config.nodes) where
   home_starts name node named is =
       let acts = home_acts config node in
       let later : Heeds (state.Back (told_up (place_of node) master).state) master =
-      λ from ne. ap (pointwise nat_eq from) (told_keeps (place_of node) master) ∙ other_name from master ne in
+      λ from ne. ap (pointwise nat_eq from) (told_keeps (place_of node) master).1 ∙ other_name from master ne in
       let once = ups_once begun pairs name master (state.Back (first_home config node)) (fresh_empty config).broken (begun_at name node Backend named is)
       (home_heeds config node) (subst (λ (a : Acted). Heeds a.state master) (sym acts) later)
       (linked_once Backend name node named is refl (apart_of name node named (not_master_back node is))) in
       record {
-        among = named_among name config.nodes node named;
         named = named_so name config.nodes node named;
         kind = is;
         at = ap as_back (once.node ∙ ap (λ (a : Acted). Some a.state) acts);

@@ -1,11 +1,11 @@
 -- THE LAW HOLDS BEFORE THE FIRST STEP.
-use Rattle.std.specs.Prelude.{All}
 use Rattle.std.proofs.Common.{◌≡◌, ℕ, ◌||◌, nat_eq, Bool, true, false, if◌then◌else◌, is_some, List, [], ◌∷◌, Option, None, Some, refl, sym, ◌∙◌, ap, subst, arith, append-nil}
 use Rattle.std.specs.List.{list_any, AllByRecursion}
 use Rattle.std.specs.List.Sorted.{IsStrictlySortedBy}
 use Rattle.std.specs.Ordering.{nat_cmp}
 use Rattle.std.specs.Cmp.Lexicographic.{pointwise, slice_cmp}
 use Rattle.back_node.specs.declared.node.BackNode.{BackNode}
+use Rattle.cluster_core.specs.Headline.Records.{IsAtBackend}
 use Rattle.cluster_core.specs.Headline.Outside.{is_master_node, table_by, table_at}
 use Rattle.cluster_core.specs.Heard.{is_frontend_node}
 use Rattle.cluster_core.specs.World.{backends_of, first_name, home_of, master_of, setting_of, front_at, home_at, master_at, node_at, place_of, start}
@@ -32,12 +32,9 @@ use Rattle.mark_history.specs.Marked.AreMarked.{nothing}
 use Rattle.master_core.specs.declared.master.Master.{Master}
 use Rattle.master_core.specs.Boot.{booted}
 use Rattle.mur_base.specs.Map.{IsInOrder, value_at}
-use Rattle.mur_base.specs.Names.{short_name_fault}
 use Rattle.mur_config.specs.declared.config.Config.{Config}
-use Rattle.mur_config.specs.declared.node.Kind.{Kind}
-use Rattle.mur_config.specs.declared.node.Kind.TheVariants.{Backend}
 use Rattle.mur_config.specs.declared.node.Node.{Node}
-use Rattle.mur_config.specs.Nodes.{AreNodes, FitsKind, node_named}
+use Rattle.mur_config.specs.Nodes.{AreNodes, node_named}
 use Rattle.mur_model.specs.declared.setting.Setting.{Setting}
 use Rattle.mur_model.specs.Store.{empty_store}
 use Rattle.mupdate_codec.specs.declared.tag.Tag.{Tag}
@@ -58,9 +55,10 @@ use Rattle.cluster_core.proofs.Commands.Place.{Place as place}
 use Rattle.cluster_core.proofs.Connections.ConnectionLaw.{IsInNoneOf}
 use Rattle.cluster_core.proofs.Connections.KeepsLaw.{AreAtBackends, AreKeptAtBackends, AreNodesOf, ConnectionIs, FeedsHold, IsFedAt, IsFrontOf, NamesBackends, TableNamesBackends, TellsBackends, fixed_of, murder_of}
 use Rattle.cluster_core.proofs.Connections.KeepsLaw.ConnectionIs.{is_nobody}
-use Rattle.cluster_core.proofs.Starts.Begins.{HomeStarts, Starts, asks_once, first_front, first_master, master_starts, start_quiet, starts}
+use Rattle.cluster_core.proofs.Starts.Begins.{HomeStarts, Starts, asks_once, first_front, first_master, master_starts, start_quiet, starts, told_keeps}
 use Rattle.cluster_core.proofs.Starts.Begins.Starts.{is_front, is_home, is_silent}
 use Rattle.cluster_core.proofs.OneServer.MovingLaw.{StartsWith}
+use Rattle.cluster_core.proofs.Starts.Places.{named_place}
 use Rattle.cluster_core.proofs.Starts.Kinds.{backend_named, first_backend, is_backend_node, only_master}
 
 no_one : {X : Type 0} (found : Option X) (x : X) → found ≡ Some x → found ≡ None → ⊥
@@ -190,52 +188,64 @@ module _ (config : Config) (are : AreNodes config.nodes) where
 
   record HomeIs (name : List ℕ) (home : BackNode) : Type 0 where
     node : Node
+    found : node_named name config.nodes ≡ Some node
     begins : HomeStarts config are name node
     is : home ≡ (told_up (place_of node) me).state
 
-  home_by : (name : List ℕ) (home : BackNode) (found : Option Node) → Starts config are name found → home_at world name ≡ Some home → HomeIs name home
-  home_by name home found (is_front node begins front_kind back_kind master_kind) at =
+  home_by : (name : List ℕ) (home : BackNode) (found : Option Node) → node_named name config.nodes ≡ found → Starts config are name found
+      → home_at world name ≡ Some home → HomeIs name home
+  home_by name home found named (is_front node begins front_kind back_kind master_kind) at =
       absurd (no_one (home_at world name) home at (front_no_back (node_at world name) (first_front config name) begins.at))
-  home_by name home found (is_home node begins front_kind back_kind master_kind) at = record {
+  home_by name home found named (is_home node begins front_kind back_kind master_kind) at = record {
     node = node;
+    found = named;
     begins = begins;
     is = (let same : Some (told_up (place_of node) me).state ≡ Some home = sym begins.at ∙ at in
         let is : (told_up (place_of node) me).state ≡ home = cc in sym is);
   }
-  home_by name home found (is_silent other it begins no_front no_back front_kind back_kind masters) at =
+  home_by name home found named (is_silent other it begins no_front no_back front_kind back_kind masters) at =
       absurd (no_one (home_at world name) home at (ap as_back begins.at ∙ no_back))
 
   home_first : (name : List ℕ) (home : BackNode) → home_at world name ≡ Some home → HomeIs name home
-  home_first name home at = home_by name home (node_named name config.nodes) (starts config are name) at
+  home_first name home at = home_by name home (node_named name config.nodes) refl (starts config are name) at
 
-  kind_fits : (kind : Kind) (partition : List ℕ) → kind ≡ Backend → FitsKind kind partition → short_name_fault partition ≡ None
-  kind_fits kind partition e fits = subst (λ k. FitsKind k partition) e fits
+  -- the place of a backend is its own by the configuration
+  first_place : (name : List ℕ) (home : BackNode) (first : HomeIs name home) → IsAtBackend config (place_of first.node)
+  first_place name home first = record {
+    backend = record {
+      node = first.node;
+      at = ap (λ n. node_named n config.nodes) (first.begins).named ∙ first.found;
+      kind = (first.begins).kind;
+    };
+    partition = refl;
+  }
 
-  module _ (named : All (λ (node : Node). short_name_fault node.name ≡ None) config.nodes) where
-    home_begun : (name : List ℕ) (home : BackNode) → home_at world name ≡ Some home → HasBegun (murder_of world master) me backends name home
-    home_begun name home at =
-        let first = home_first name home at in
-        let node : Node = first.node in
-        let begins = first.begins in
-        record {
-          place = place_of node;
-          spelled = (
-            node_is_short node.name (subst (λ (n : Node). short_name_fault n.name ≡ None) begins.among.2 (named begins.among.0 node begins.among.1)),
-            node_is_short node.partition (kind_fits node.kind node.partition begins.kind
-                (subst (λ (n : Node). FitsKind n.kind n.partition) begins.among.2 (are.partitions begins.among.0 node begins.among.1))),
-          );
-          named = begins.named;
-          backend = sym (start_nodes.homes name ∙ ap (list_any (pointwise nat_eq name)) its_backends) ∙ ap is_some at;
-          apart = λ e. no_one (master_at world name) master
-              (ap (master_at world) e ∙ ap as_master (master_starts config are).at ∙ a_master master)
-              (back_no_master (node_at world name) home at);
-          state = first.is;
-          up = begins.sent me;
-          down = (master_starts config are).sent name;
-        }
+  pub home_place : (name : List ℕ) (home : BackNode) → home_at world name ≡ Some home → IsAtBackend config home.flows.me
+  home_place name home at =
+      let first = home_first name home at in
+      subst (IsAtBackend config) (sym (ap (λ (h : BackNode). h.flows.me) first.is ∙ (told_keeps (place_of first.node) me).0)) (first_place name home first)
 
-    pub start_many : ManyHold (murder_of (start config) (first_master config)) [] empty_store
-    start_many = many_begin (murder_of world master) me backends (record { master = refl; begun = home_begun })
+  home_begun : (name : List ℕ) (home : BackNode) → home_at world name ≡ Some home → HasBegun (murder_of world master) me backends name home
+  home_begun name home at =
+      let first = home_first name home at in
+      let node : Node = first.node in
+      let begins = first.begins in
+      let named = named_place config are (place_of node) (first_place name home first) in
+      record {
+        place = place_of node;
+        spelled = (node_is_short node.name named.server, node_is_short node.partition named.partition);
+        named = begins.named;
+        backend = sym (start_nodes.homes name ∙ ap (list_any (pointwise nat_eq name)) its_backends) ∙ ap is_some at;
+        apart = λ e. no_one (master_at world name) master
+            (ap (master_at world) e ∙ ap as_master (master_starts config are).at ∙ a_master master)
+            (back_no_master (node_at world name) home at);
+        state = first.is;
+        up = begins.sent me;
+        down = (master_starts config are).sent name;
+      }
+
+  pub start_many : ManyHold (murder_of (start config) (first_master config)) [] empty_store
+  start_many = many_begin (murder_of world master) me backends (record { master = refl; begun = home_begun })
 
   -- ---- the feeds
 
@@ -313,7 +323,7 @@ start_keeps config moving are = record {
     whole = (start_quiet config are).broken;
     story = first_tale moving;
     given = [];
-    many = start_many config are are.named;
+    many = start_many config are;
     feeds = start_feeds config are;
     is_told = start_marked config are moving;
     requests = λ conn. no_requests (setting_of config);

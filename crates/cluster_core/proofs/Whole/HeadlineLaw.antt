@@ -34,6 +34,7 @@ use Rattle.cluster_core.proofs.OneServer.AnyStep.{keeps_one_home_each}
 use Rattle.cluster_core.proofs.OneServer.ClosedLaw.{gives_no_more}
 use Rattle.cluster_core.proofs.OneServer.EachStep.{EachKeeps, kept_all}
 use Rattle.cluster_core.proofs.OneServer.OneStoreLaw.{one_store_tells}
+use Rattle.cluster_core.proofs.OneServer.RecordsLaw.{records_stand_each}
 use Rattle.cluster_core.proofs.OneServer.RefusalsLaw.{refuses_for_cause_each}
 
 -- a frontend's feed by the table of the world
@@ -68,6 +69,7 @@ one_mail_server config events are dated fit each =
           replicas_follow config (λ conn. heard config conn before) (run_steps (start config) before) (law_at before later parts);
       asks = asks_by_records config events are
           (λ before later parts node front at. (((law_at before later parts).nodes).fronts node front at).first_is);
+      records = records_stand_each config events are each;
       one_home = keeps_one_home_each config events are each;
       refusals = refuses_for_cause_each config events are each;
     }
