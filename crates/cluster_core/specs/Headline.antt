@@ -16,7 +16,7 @@ pub mod Points
 pub mod Backends
 pub mod Records
 pub mod Asks
-use Rattle.std.specs.Prelude.{◌≡◌, List}
+use Rattle.std.specs.Prelude.{◌≡◌, true, List}
 use Rattle.mur_config.specs.declared.config.Config.{Config}
 use Rattle.mur_config.specs.Nodes.{links_of}
 use Rattle.schedule_text.specs.declared.event.Event.{Event}
@@ -27,11 +27,11 @@ use Rattle.cluster_core.specs.Headline.FlowLaw.{AreStepsOfAll}
 use Rattle.cluster_core.specs.Headline.HomeLaw.{KeepsOneHomeEach}
 use Rattle.cluster_core.specs.Headline.OneNode.{GoesOverLinks, OneNodeWorksEach, ServesItsOwnEach}
 use Rattle.cluster_core.specs.Headline.OneStore.{IsToldByOneStore}
-use Rattle.cluster_core.specs.Headline.Outside.{ServesGuests}
+use Rattle.cluster_core.specs.Headline.Outside.{ServesGuests, is_master}
 use Rattle.cluster_core.specs.Headline.Records.{RecordsStandAtBackends}
 use Rattle.cluster_core.specs.Headline.Refusals.{RefusesForCauseEach}
 use Rattle.cluster_core.specs.Headline.Replicas.{FollowTheTable}
-use Rattle.cluster_core.specs.World.{start}
+use Rattle.cluster_core.specs.World.{layout_of, start}
 
 -- What the mail clients were given is what one mailbox store replies to the printed history, one command at a time, in each session's order; in each single
 -- step one node works, for its own clients alone, and sends only over the links that it has; a client that has closed its connection is given nothing
@@ -49,6 +49,8 @@ pub record IsOneServer (config : Config) (events : List Event) : Type 0 where
   pub one_store : IsToldByOneStore config events
   pub closed : GivesNoMore config events
   pub guests : ServesGuests config events
+  -- the master whose table is printed is the configuration's
+  pub master : is_master config (layout_of config).master ≡ true
   pub replicas : FollowTheTable config events
   pub asks : AsksByRecords config events
   pub records : RecordsStandAtBackends config events

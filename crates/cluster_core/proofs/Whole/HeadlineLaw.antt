@@ -1,5 +1,5 @@
 -- What holds of a run each step of which keeps the law.
-use Rattle.std.proofs.Common.{◌≡◌, ℕ, List, ◌++◌, subst, sym, ap}
+use Rattle.std.proofs.Common.{◌≡◌, ℕ, List, ◌++◌, subst, sym, ap, arith}
 use Rattle.feed_core.specs.declared.replica.Replica.{Replica}
 use Rattle.feed_links.specs.OneFeed.{IsFed, asks, is_told}
 use Rattle.feed_links.specs.Replicas.{hears_all, replica_of}
@@ -30,6 +30,7 @@ use Rattle.cluster_core.proofs.Asking.AsksLaw.{asks_by_records}
 use Rattle.cluster_core.proofs.Connections.KeepsLaw.{KeepsLaw}
 use Rattle.cluster_core.proofs.Guests.GuestsServed.{serves_guests}
 use Rattle.cluster_core.proofs.Keeps.AnyStep.{law_of_run}
+use Rattle.cluster_core.proofs.Starts.Kinds.{master_named}
 use Rattle.cluster_core.proofs.OneServer.AnyStep.{keeps_one_home_each}
 use Rattle.cluster_core.proofs.OneServer.ClosedLaw.{gives_no_more}
 use Rattle.cluster_core.proofs.OneServer.EachStep.{EachKeeps, kept_all}
@@ -65,6 +66,7 @@ one_mail_server config events are dated fit each =
       one_store = one_store_tells config events are dated fit each;
       closed = gives_no_more config events each;
       guests = serves_guests config events are each;
+      master = master_named config.nodes are.names (omega (arith, are.master));
       replicas = λ before later parts.
           replicas_follow config (λ conn. heard config conn before) (run_steps (start config) before) (law_at before later parts);
       asks = asks_by_records config events are
