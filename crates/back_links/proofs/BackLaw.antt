@@ -3,7 +3,6 @@ use Rattle.std.proofs.Common.{◌≡◌, ◌≢◌, ℕ, Bool, true, false, cond
 use Rattle.std.specs.List.{AllByRecursion}
 use Rattle.std.specs.List.Sorted.{IsStrictlySortedBy}
 use Rattle.std.specs.Cmp.Lexicographic.{pointwise}
-use Rattle.backend_core.specs.declared.input.BackInput.TheVariants.{FromFront}
 use Rattle.backend_core.specs.declared.plan.BackPlan.{BackPlan}
 use Rattle.backend_core.specs.AskPlan.{ask_plan}
 use Rattle.backend_core.specs.Plan.{back_plan, owed_outs, owes}
@@ -272,7 +271,7 @@ module _ (master : Master) (name : List ℕ) (node : BackNode) (up down : List L
       }
 
   messages_come : (ask : FrontAsk) → name_kind ask.op ≡ None
-      → TalkAfterNode master name (done_by (serves node (back_plan node.home (FromFront from ask)))) up down given
+      → TalkAfterNode master name (done_by (serves node (back_plan node.home from ask))) up down given
   messages_come ask none =
       let plan : BackPlan = owes from ask.id (ask_plan node.home ask) in
       let made : Option BackendRecord = only_entry plan.entries in

@@ -8,7 +8,6 @@ use Rattle.mupdate_codec.specs.declared.tag.Tag.{Tag}
 use Rattle.mupdate_codec.specs.Whole.{response_in}
 use Rattle.node_record.specs.Held.{Names, held_after}
 use Rattle.backend_core.specs.declared.backend.Backend.{Backend}
-use Rattle.backend_core.specs.declared.input.BackInput.TheVariants.{FromFront}
 use Rattle.backend_core.specs.Plan.{back_plan, plan_of}
 use Rattle.home_law.specs.Items.{Ctl, Mine, HomePhase, backend_up, backend_end}
 use Rattle.home_law.specs.ManyNames.{downs_of}
@@ -104,7 +103,7 @@ pub messages_to_name : (node : BackNode) (from : List ℕ) (ask : FrontAsk) (nam
 unfolding plan_of with_phase_of
 messages_to_name node from ask name linked none =
     let there : IsAtHome node from ask = ask_is_at_home node from ask none in
-    let plan = back_plan node.home (FromFront from ask) in
+    let plan = back_plan node.home from ask in
     ap (λ (home : Backend). ctl_of linked home.held (node_takes node from (Ask ask)).state.flows name) there.home
     ∙ ap (λ (flows : Flows). ctl_of linked (fold held_after node.home.held plan.entries) flows name) there.flows
     ∙ ap (with_phase_of linked node.flows name) ((message_entries node.home from ask none).phases node.home.held name)

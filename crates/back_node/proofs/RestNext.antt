@@ -8,7 +8,6 @@ use Rattle.link_msg.specs.declared.ask.FrontAsk.{FrontAsk}
 use Rattle.node_record.specs.declared.backend.BackendRecord.{BackendRecord}
 use Rattle.node_record.specs.Held.{EntryLeavesNext}
 use Rattle.name_flows.specs.declared.ask.AskKind.{AskKind}
-use Rattle.backend_core.specs.declared.input.BackInput.TheVariants.{FromFront}
 use Rattle.backend_core.specs.Plan.{back_plan}
 use Rattle.backend_core.proofs.PlanNext.{next_planned}
 use Rattle.back_node.specs.declared.node.BackNode.{BackNode}
@@ -30,7 +29,7 @@ next_only (entry ∷ entries) next = next.0
 
 pub next_ask : (node : BackNode) (from : List ℕ) (ask : FrontAsk) (kind : Option AskKind) → Next (ask_by node from ask kind)
 next_ask node from ask None =
-    next_only (back_plan node.home (FromFront from ask)).entries (next_planned node.home (FromFront from ask))
+    next_only (back_plan node.home from ask).entries (next_planned node.home from ask)
 next_ask node from ask (Some kind) = next_asked node.flows node.home.held (name_ask from ask kind)
 
 -- the rest of a step is what its definition says

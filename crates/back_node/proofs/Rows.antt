@@ -6,7 +6,6 @@ use Rattle.link_msg.specs.declared.message.LinkMsg.TheVariants.{Up, End, Line, A
 use Rattle.mupdate_codec.specs.declared.command.MResponse.{MResponse}
 use Rattle.mupdate_codec.specs.declared.tag.Tag.{Tag}
 use Rattle.mupdate_codec.specs.Whole.{response_in}
-use Rattle.backend_core.specs.declared.input.BackInput.TheVariants.{FromFront}
 use Rattle.backend_core.specs.Plan.{back_plan}
 use Rattle.name_flows.specs.declared.ask.AskKind.{AskKind}
 use Rattle.name_flows.specs.Asked.{asked_step}
@@ -24,7 +23,7 @@ pub record OfEachRow (P : UpToEntry → Type 0) (node : BackNode) (from : List �
   pub heard : (tag : Tag) (it : MResponse) → P (talks node (heard_step node.flows node.home.held tag it))
   pub named : (ask : FrontAsk) (kind : AskKind) → message ≡ Ask ask → name_kind ask.op ≡ Some kind
       → P (talks node (asked_step node.flows node.home.held (name_ask from ask kind)))
-  pub served : (ask : FrontAsk) → message ≡ Ask ask → name_kind ask.op ≡ None → P (serves node (back_plan node.home (FromFront from ask)))
+  pub served : (ask : FrontAsk) → message ≡ Ask ask → name_kind ask.op ≡ None → P (serves node (back_plan node.home from ask))
 
 if_master : (P : UpToEntry → Type 0) (test : Bool) (one other : UpToEntry) → P one → P other → P (cond test one other)
 if_master P true one other p q = p

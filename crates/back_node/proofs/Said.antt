@@ -11,7 +11,6 @@ use Rattle.link_msg.specs.declared.message.LinkMsg.{LinkMsg}
 use Rattle.link_msg.specs.declared.message.LinkMsg.TheVariants.{Answer, Ask}
 use Rattle.link_msg.specs.declared.out.Out.TheVariants.{Link, Mark}
 use Rattle.backend_core.specs.declared.backend.Backend.{Backend}
-use Rattle.backend_core.specs.declared.input.BackInput.TheVariants.{FromFront}
 use Rattle.backend_core.specs.declared.op_plan.OpPlan.{OpPlan}
 use Rattle.backend_core.specs.AskPlan.{ask_plan}
 use Rattle.backend_core.specs.OpPlan.{told_after}
@@ -60,9 +59,9 @@ module _ (may : List ℕ → Type 0) where
       answer_is_said master from id (told_after home plan.telling).counts (told_after home plan.telling).body own
 
   serves_says : (node : BackNode) (from : List ℕ) (ask : FrontAsk) → may from → OwesOnly may node.flows
-      → SaysOnly may node (done_by (serves node (back_plan node.home (FromFront from ask))))
+      → SaysOnly may node (done_by (serves node (back_plan node.home from ask)))
   serves_says node from ask own owes = record {
-    outs = owed_is_said node.flows.master from ask.id (done_by (serves node (back_plan node.home (FromFront from ask)))).state.home (ask_plan node.home ask) own;
+    outs = owed_is_said node.flows.master from ask.id (done_by (serves node (back_plan node.home from ask))).state.home (ask_plan node.home ask) own;
     owes = owes;
     master = refl;
   }

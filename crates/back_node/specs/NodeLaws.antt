@@ -14,7 +14,6 @@ use Rattle.link_msg.specs.declared.out.Out.{Out}
 use Rattle.link_msg.specs.declared.out.Out.TheVariants.{Link, Mark}
 use Rattle.node_record.specs.declared.backend.BackendRecord.{BackendRecord}
 use Rattle.node_record.specs.declared.held.Held.{Held}
-use Rattle.backend_core.specs.declared.input.BackInput.TheVariants.{FromFront}
 use Rattle.backend_core.specs.Plan.{answer_outs, plan_of}
 use Rattle.backend_core.specs.Step.{home_step}
 use Rattle.home_law.specs.Steps.{BackStep}
@@ -81,12 +80,12 @@ answered_only node from ask body = record {
   outs = Link from (Answer (record { id = ask.id; body = body })) ∷ Mark ask.id IfAnswered ∷ [];
 }
 
--- An ask for messages does what it does at its home without a master: with at most one entry, and whatever is under way.
+-- An ask for messages does what it does at its home of mailboxes: with at most one entry, and whatever is under way.
 pub record IsAtHome (node : BackNode) (from : List ℕ) (ask : FrontAsk) : Type 0 where
-  pub entry : listed_entry (node_takes node from (Ask ask)).entry ≡ (plan_of node.home (FromFront from ask)).entries
-  pub home : (node_takes node from (Ask ask)).state.home ≡ (plan_of node.home (FromFront from ask)).home
+  pub entry : listed_entry (node_takes node from (Ask ask)).entry ≡ (plan_of node.home from ask).entries
+  pub home : (node_takes node from (Ask ask)).state.home ≡ (plan_of node.home from ask).home
   pub flows : (node_takes node from (Ask ask)).state.flows ≡ node.flows
-  pub outs : (node_takes node from (Ask ask)).outs ≡ (plan_of node.home (FromFront from ask)).outs
+  pub outs : (node_takes node from (Ask ask)).outs ≡ (plan_of node.home from ask).outs
 
 -- ---- asks for names
 

@@ -11,7 +11,6 @@ use Rattle.mupdate_codec.specs.declared.command.MResponse.{MResponse}
 use Rattle.mupdate_codec.specs.declared.tag.Tag.{Tag}
 use Rattle.mupdate_codec.specs.Whole.{response_in}
 use Rattle.node_record.specs.declared.backend.BackendRecord.{BackendRecord}
-use Rattle.backend_core.specs.declared.input.BackInput.TheVariants.{FromFront}
 use Rattle.backend_core.specs.declared.plan.BackPlan.{BackPlan}
 use Rattle.backend_core.specs.Plan.{back_plan}
 use Rattle.name_flows.specs.declared.ask.AskKind.{AskKind}
@@ -86,7 +85,7 @@ serves node plan = record { node = node; rest = record { entry = only_entry plan
 
 abbrev pub ask_by : BackNode → List ℕ → FrontAsk → Option AskKind → UpToEntry
 ask_by node from ask (Some kind) = talks node (asked_step node.flows node.home.held (name_ask from ask kind))
-ask_by node from ask None = serves node (back_plan node.home (FromFront from ask))
+ask_by node from ask None = serves node (back_plan node.home from ask)
 
 -- ---- a message, by what it is and who sent it
 

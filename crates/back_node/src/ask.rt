@@ -1,6 +1,5 @@
 // A frontend asks for something.
 ghost use Rattle.std.specs.Prelude.{◌≡◌, IfOk};
-ghost use Rattle.backend_core.specs.declared.input.BackInput.TheVariants.{FromFront};
 ghost use Rattle.backend_core.specs.Plan.{back_plan};
 ghost use Rattle.name_flows.specs.Asked.{asked_step};
 ghost use Rattle.back_node.specs.Takes.{ask_by, name_ask, name_kind, only_entry, serves, talks};
@@ -8,7 +7,7 @@ ghost use Rattle.back_node.specs.Takes.{ask_by, name_ask, name_kind, only_entry,
 use crate::node::BackNode;
 use crate::rest::{Rest, Says};
 use crate::talk::rest_of;
-use backend_core::{BackInput, Entries};
+use backend_core::Entries;
 use link_msg::{FrontAsk, Op};
 use mur_base::{Memory, NodeName};
 use name_flows::{AskKind, NameAsk};
@@ -44,9 +43,9 @@ impl BackNode {
 
     /// An ask for messages.
     fn serve(&self, alloc: Global, from: NodeName, ask: FrontAsk) -> Result<Rest, Memory>
-        ensures { IfOk result (λ rest. record { node = self.now; rest = rest } ≡ serves self.now (back_plan self.now.home (FromFront from ask))) }
+        ensures { IfOk result (λ rest. record { node = self.now; rest = rest } ≡ serves self.now (back_plan self.now.home from ask)) }
     {
-        let plan = self.home.plan(alloc, BackInput::FromFront(from, ask))?;
+        let plan = self.home.plan(alloc, from, ask)?;
         Ok(Rest {
             entry: only_entry(plan.entries),
             says: Says::Owed(plan.owed),

@@ -1,4 +1,4 @@
-//! A backend: its mailboxes, and its talk about their names with the MUPDATE master (RFC 3656), in one step a message. Nothing here runs yet.
+//! A backend: its mailboxes, and its talk about their names with the MUPDATE master (RFC 3656), in one step a message.
 //!
 //! | What comes | From | What becomes of it |
 //! |---|---|---|

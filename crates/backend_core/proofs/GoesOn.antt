@@ -1,6 +1,6 @@
 -- A mailbox goes on through every step: it keeps its UIDVALIDITY, and UIDNEXT never falls.
 use Rattle.std.proofs.Math.Logic.{⊎_elim}
-use Rattle.std.proofs.Common.{◌≡◌, ◌≢◌, ℕ, ◌≤◌, List, Option, None, Some, refl, sym, ◌∙◌, ap, subst, arith}
+use Rattle.std.proofs.Common.{◌≡◌, ◌≢◌, ℕ, ◌≤◌, List, Option, Some, refl, sym, ◌∙◌, ap, subst, arith}
 use Rattle.std.specs.Ordering.{nat_cmp}
 use Rattle.std.specs.Cmp.Lexicographic.{slice_cmp}
 use Rattle.mur_base.proofs.MapLaws.{names_apart, same_or_other, value_at-with_value}
@@ -10,7 +10,7 @@ use Rattle.node_record.specs.declared.held.Held.{Held}
 use Rattle.backend_core.specs.HomeStep.{held_at}
 use Rattle.backend_core.specs.HomeLaws.{MailboxStays}
 use Rattle.backend_core.specs.Step.{home_step}
-use Rattle.backend_core.proofs.Leaves.{Leaves, stays, makes, turns, leaves}
+use Rattle.backend_core.proofs.Leaves.{Leaves, stays, turns, leaves}
 use Rattle.backend_core.proofs.Others.{others_stay}
 
 goes_to : (held later : Held) (found : Option Held) → found ≡ Some later → later.content.serial ≡ held.content.serial
@@ -24,7 +24,6 @@ goes_as_it_was held found is = goes_to held held found is refl (omega arith)
 mine_by : (home : Backend) (name : List ℕ) (after : Backend) (held : Held) → held_at home name ≡ Some held → Leaves home name after
     → MailboxStays held (held_at after name)
 mine_by home name after held there (stays is) = goes_as_it_was held _ (ap (λ (h : Backend). held_at h name) is ∙ there)
-mine_by home name after held there (makes none left is) = let no : None ≡ Some held = sym none ∙ there in cc
 mine_by home name after held there (turns same content found opened follows below is) =
     let later = record same { content = content } in
     let one : same ≡ held = cc (found, there) in

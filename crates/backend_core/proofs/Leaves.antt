@@ -1,7 +1,5 @@
--- What a step leaves of a home: it stays as it was, a mailbox is made, or one that is Open goes on with another content.
-use Rattle.std.proofs.Common.{◌≡◌, ℕ, ◌-◌, ◌^◌, Bool, true, false, nat_eq, nat_le, List, length, Option, None, Some, refl, subst, sym}
-use Rattle.std.proofs.lemmas.Bool.{or_parts}
-use Rattle.mur_base.specs.declared.limits.TheConstants.{MAILBOX_LIMIT}
+-- What a step leaves of a home: it stays as it was, or a mailbox that is Open goes on with another content.
+use Rattle.std.proofs.Common.{◌≡◌, ℕ, Bool, true, List, Option, None, Some, refl, subst, sym}
 use Rattle.mur_base.specs.declared.home.Phase.{Phase}
 use Rattle.mur_base.specs.declared.home.Phase.TheVariants.{Open, Pointer}
 use Rattle.mail_message.specs.Boxes.{Content}
@@ -14,32 +12,14 @@ use Rattle.backend_core.specs.HomeStep.{HomeStep, BoxStep, held_at, with_content
 use Rattle.backend_core.specs.HomeLaws.{is_open}
 use Rattle.mail_store.specs.Kept.{IsLaterContent, AreUidsBelowNext}
 use Rattle.backend_core.specs.Refusal.{refusal, refusal_in, is_other}
-use Rattle.backend_core.specs.Create.{create_step, is_full, make_at_home, with_new}
 use Rattle.backend_core.specs.Served.{served, served_unless}
 use Rattle.backend_core.specs.Step.{home_step}
-use Rattle.backend_core.proofs.Serves.{Serves, creates, works, tells, serves}
+use Rattle.backend_core.proofs.Serves.{Serves, works, tells, serves}
 
 pub data Leaves (home : Backend) (name : List ℕ) (after : Backend) : Type 0 where
   stays : after ≡ home → Leaves home name after
-  makes : held_at home name ≡ None → nat_eq home.last_serial (2 ^ 32 - 1) ≡ false → after ≡ with_new home name → Leaves home name after
   turns : (held : Held) (content : Content) → held_at home name ≡ Some held → is_open held.phase ≡ true → IsLaterContent held.content content
       → (AreUidsBelowNext held.content → AreUidsBelowNext content) → after ≡ with_content home name held content → Leaves home name after
-
--- a home that isn't full has a UIDVALIDITY left
-pub not_last : (home : Backend) → is_full home ≡ false → nat_eq home.last_serial (2 ^ 32 - 1) ≡ false
-unfolding is_full
-not_last home room = (or_parts (nat_le MAILBOX_LIMIT (length home.held)) (nat_eq home.last_serial (2 ^ 32 - 1)) room).1
-
-make_leaves : (home : Backend) (name : List ℕ) (full : Bool) → is_full home ≡ full → held_at home name ≡ None
-    → Leaves home name (make_at_home home name full).home
-unfolding make_at_home
-make_leaves home name true e none = stays refl
-make_leaves home name false e none = makes none (not_last home e) refl
-
-create_leaves : (home : Backend) (name : List ℕ) (found : Option Held) → held_at home name ≡ found → Leaves home name (create_step home name found).home
-unfolding create_step
-create_leaves home name None found = make_leaves home name (is_full home) refl found
-create_leaves home name (Some held) found = stays refl
 
 -- an operation on messages is carried out only where the name is Open
 pub served_open : (phase : Phase) (other : Bool) → refusal_in phase other ≡ None → is_open phase ≡ true
@@ -67,8 +47,6 @@ served_leaves home name selected operation (Some held) found follows below =
     (follows held.content) (below held.content)
 
 leaves_by : (home : Backend) (ask : FrontAsk) (op : Op) (step : HomeStep) → Serves home ask op step → Leaves home ask.name step.home
-leaves_by home ask op step (creates create is) =
-    subst (λ (s : HomeStep). Leaves home ask.name s.home) (sym is) (create_leaves home ask.name (held_at home ask.name) refl)
 leaves_by home ask op step (works operation follows below is) =
     subst (λ (s : HomeStep). Leaves home ask.name s.home) (sym is)
     (served_leaves home ask.name ask.selected operation (held_at home ask.name) refl follows below)

@@ -5,7 +5,6 @@ pub mod Leaves
 pub mod GoesOn
 pub mod BelowNext
 pub mod NoneLost
-pub mod GivenSerials
 pub mod NewUids
 pub mod NotServed
 pub mod Others
@@ -16,7 +15,6 @@ pub mod Entries
 pub mod PlanLeaves
 pub mod StepLaw
 pub mod PlanKeeps
-pub mod OnlyOpen
 pub mod PlanLaw
 pub mod PlanNext
 pub mod RelabelsBy

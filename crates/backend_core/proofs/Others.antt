@@ -1,23 +1,18 @@
 -- A step leaves every other name as it was, and the order of the names.
-use Rattle.std.proofs.Common.{◌≡◌, ◌≢◌, ℕ, ◌+◌, List, ◌∙◌, ap, sym, subst}
+use Rattle.std.proofs.Common.{◌≡◌, ◌≢◌, ℕ, List, ◌∙◌, ap, sym, subst}
 use Rattle.std.specs.Ordering.{nat_cmp}
 use Rattle.std.specs.Cmp.Lexicographic.{slice_cmp}
-use Rattle.std.proofs.lemmas.Cmp.{nat_list_cmp_total}
-use Rattle.mur_base.proofs.MapLaws.{names_apart, value_at-with_entry-other, value_at-with_value-other}
-use Rattle.mur_base.proofs.MapOrder.{with_entry-in_order, with_value-in_order}
+use Rattle.mur_base.proofs.MapLaws.{names_apart, value_at-with_value-other}
+use Rattle.mur_base.proofs.MapOrder.{with_value-in_order}
 use Rattle.link_msg.specs.declared.ask.FrontAsk.{FrontAsk}
 use Rattle.backend_core.specs.declared.backend.Backend.{Backend}
 use Rattle.backend_core.specs.HomeStep.{held_at}
 use Rattle.backend_core.specs.HomeLaws.{HasNamesInOrder}
-use Rattle.backend_core.specs.Create.{new_held}
 use Rattle.backend_core.specs.Step.{home_step}
-use Rattle.backend_core.proofs.Leaves.{Leaves, stays, makes, turns, leaves}
+use Rattle.backend_core.proofs.Leaves.{Leaves, stays, turns, leaves}
 
 pub other_by : (home : Backend) (name other : List ℕ) (after : Backend) → other ≢ name → Leaves home name after → held_at after other ≡ held_at home other
 other_by home name other after ne (stays is) = ap (λ (h : Backend). held_at h other) is
-other_by home name other after ne (makes none left is) =
-    ap (λ (h : Backend). held_at h other) is
-    ∙ value_at-with_entry-other (slice_cmp nat_cmp) names_apart home.held name other (new_held (home.last_serial + 1) name) ne
 other_by home name other after ne (turns held content found opened follows below is) =
     ap (λ (h : Backend). held_at h other) is
     ∙ value_at-with_value-other (slice_cmp nat_cmp) names_apart home.held name other (record held { content = content }) ne
@@ -28,9 +23,6 @@ others_stay home ask other ne = other_by home ask.name other (home_step home ask
 
 order_by : (home : Backend) (name : List ℕ) (after : Backend) → HasNamesInOrder home → Leaves home name after → HasNamesInOrder after
 order_by home name after ordered (stays is) = subst HasNamesInOrder (sym is) ordered
-order_by home name after ordered (makes none left is) =
-    subst HasNamesInOrder (sym is)
-    (with_entry-in_order (slice_cmp nat_cmp) nat_list_cmp_total home.held name (new_held (home.last_serial + 1) name) ordered)
 order_by home name after ordered (turns held content found opened follows below is) =
     subst HasNamesInOrder (sym is)
     (with_value-in_order (slice_cmp nat_cmp) home.held name (record held { content = content }) ordered)

@@ -5,10 +5,9 @@ use Rattle.std.specs.Ordering.{nat_cmp}
 use Rattle.std.specs.Cmp.Lexicographic.{slice_cmp}
 use Rattle.mur_base.proofs.MapLaws.{names_apart, same_or_other}
 use Rattle.mur_base.specs.declared.point.AskId.{AskId}
+use Rattle.link_msg.specs.declared.ask.FrontAsk.{FrontAsk}
 use Rattle.node_record.specs.declared.held.Held.{Held}
 use Rattle.backend_core.specs.declared.backend.Backend.{Backend}
-use Rattle.backend_core.specs.declared.input.BackInput.{BackInput}
-use Rattle.backend_core.specs.declared.input.BackInput.TheVariants.{Up, End, FromFront}
 use Rattle.backend_core.specs.declared.op_plan.OpPlan.{OpPlan}
 use Rattle.backend_core.specs.AskPlan.{ask_plan}
 use Rattle.backend_core.specs.HomeStep.{held_at}
@@ -35,8 +34,7 @@ keeps_by Is home name (Some plan) from id each mine left = λ other held there.
     (λ (ne : other ≢ name). each other held (sym (other_by home name other (home_after home plan.entries) ne (left_by home name (home_after home plan.entries) left)) ∙ there))
     (same_or_other (slice_cmp nat_cmp) names_apart other name)
 
-pub plan_keeps : (Is : Held → Type 0) (home : Backend) (input : BackInput) → Each Is home → KeepsMine Is home → Each Is (plan_of home input).home
+pub plan_keeps : (Is : Held → Type 0) (home : Backend) (from : List ℕ) (ask : FrontAsk) → Each Is home → KeepsMine Is home
+    → Each Is (plan_of home from ask).home
 unfolding plan_of
-plan_keeps Is home (FromFront from ask) each mine = keeps_by Is home ask.name (ask_plan home ask) from ask.id each mine (plan_writes home ask)
-plan_keeps Is home (Up node) each mine = each
-plan_keeps Is home (End node) each mine = each
+plan_keeps Is home from ask each mine = keeps_by Is home ask.name (ask_plan home ask) from ask.id each mine (plan_writes home ask)

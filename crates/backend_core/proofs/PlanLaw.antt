@@ -3,7 +3,6 @@ use Rattle.std.proofs.Common.{◌≡◌, ℕ, List, Option, None, Some, refl, �
 use Rattle.mur_base.specs.declared.point.AskId.{AskId}
 use Rattle.link_msg.specs.declared.ask.FrontAsk.{FrontAsk}
 use Rattle.backend_core.specs.declared.backend.Backend.{Backend}
-use Rattle.backend_core.specs.declared.input.BackInput.TheVariants.{FromFront}
 use Rattle.backend_core.specs.declared.op_plan.OpPlan.{OpPlan}
 use Rattle.backend_core.specs.AskPlan.{ask_plan}
 use Rattle.backend_core.specs.HomeLaws.{RisesAt}
@@ -23,13 +22,13 @@ settled_outs home from id None = refl
 settled_outs home from id (Some plan) = refl
 
 pub plan_leaves : (home : Backend) (from : List ℕ) (ask : FrontAsk) → RisesAt home ask.name
-    → (plan_of home (FromFront from ask)).home ≡ (home_step home ask).home
+    → (plan_of home from ask).home ≡ (home_step home ask).home
 unfolding plan_of
 plan_leaves home from ask rising =
     settled_home home from ask.id (ask_plan home ask) ∙ ap (λ (s : HomeStep). s.home) (plan_does home ask rising)
 
 pub plan_tells : (home : Backend) (from : List ℕ) (ask : FrontAsk) → RisesAt home ask.name
-    → (plan_of home (FromFront from ask)).outs ≡ answer_outs from ask.id (home_step home ask).counts (home_step home ask).body
+    → (plan_of home from ask).outs ≡ answer_outs from ask.id (home_step home ask).counts (home_step home ask).body
 unfolding plan_of
 plan_tells home from ask rising =
     settled_outs home from ask.id (ask_plan home ask)

@@ -1,5 +1,5 @@
 -- What the entries of a step leave of a home, by what an ask leaves.
-use Rattle.std.proofs.Common.{◌≡◌, ℕ, ◌-◌, ◌^◌, Bool, true, false, cond, nat_eq, List, [], ◌∷◌, Option, None, Some, refl, sym, ◌∙◌, ap, subst, arith}
+use Rattle.std.proofs.Common.{◌≡◌, ℕ, Bool, true, false, cond, List, [], ◌∷◌, Option, None, Some, refl, sym, ◌∙◌, ap, subst, arith}
 use Rattle.std.specs.Prelude.{All}
 use Rattle.std.proofs.lemmas.List.Elements.{All-map, All-weaker}
 use Rattle.mail_message.specs.declared.change.Change.{Change}
@@ -20,7 +20,7 @@ use Rattle.mail_store.proofs.TouchedLaws.{next-flags}
 use Rattle.mail_store.proofs.UidsBelow.{IsBelow, appended_below, expunged_below}
 use Rattle.link_msg.specs.declared.ask.FrontAsk.{FrontAsk}
 use Rattle.imap_types.specs.declared.op.Op.{Op}
-use Rattle.imap_types.specs.declared.op.Op.TheVariants.{Look, Read, Summaries, Flags as flags_op, Expunge, Append, Create}
+use Rattle.imap_types.specs.declared.op.Op.TheVariants.{Look, Read, Summaries, Flags as flags_op, Expunge, Append}
 use Rattle.node_record.specs.declared.backend.BackendRecord.TheVariants.{Added, Flagged, Gone}
 use Rattle.node_record.specs.declared.held.Held.{Held}
 use Rattle.node_record.specs.Held.{puts, relabels, removals}
@@ -29,41 +29,37 @@ use Rattle.backend_core.specs.declared.op_plan.OpPlan.{OpPlan}
 use Rattle.backend_core.specs.declared.response.Response.{Response}
 use Rattle.backend_core.specs.Append.{adds_within_limits, append_plan, with_uids}
 use Rattle.backend_core.specs.AskPlan.{ask_plan, op_plan}
-use Rattle.backend_core.specs.Create.{create_plan, is_full, make_plan, with_new}
 use Rattle.backend_core.specs.Expunge.{expunge_plan}
 use Rattle.backend_core.specs.Flags.{differing, flags_plan, relabels_unless}
 use Rattle.backend_core.specs.HomeLaws.{is_open}
 use Rattle.backend_core.specs.HomeStep.{held_at, with_content}
 use Rattle.backend_core.specs.Look.{look_plan}
-use Rattle.backend_core.specs.OpPlan.{entry_of, home_after, plans, plans_unless, given_after}
+use Rattle.backend_core.specs.OpPlan.{entry_of, home_after, plans, plans_unless}
 use Rattle.backend_core.specs.Read.{read_plan, seen_entries, seen_flag}
 use Rattle.backend_core.specs.Refusal.{refusal, is_other}
 use Rattle.backend_core.specs.Summaries.{summaries_plan}
 use Rattle.backend_core.proofs.AddedLaw.{added_makes}
-use Rattle.backend_core.proofs.Entries.{entry_makes, make_makes}
-use Rattle.backend_core.proofs.Leaves.{Leaves, stays, makes, turns, not_last, served_open}
+use Rattle.backend_core.proofs.Entries.{entry_makes}
+use Rattle.backend_core.proofs.Leaves.{Leaves, stays, turns, served_open}
 
 -- ---- the entry of each operation
 
 pub added_home : (home : Backend) (name : List ℕ) (held : Held) (messages : List Message) → held_at home name ≡ Some held → is_open held.phase ≡ true
     → append_fault held.content messages ≡ None
     → home_after home (entry_of (Added name) (with_uids held.content.next messages)) ≡ with_content home name held (appended held.content messages)
-unfolding given_after
 added_home home name held messages found opened none =
-    entry_makes (Added name) puts (with_uids held.content.next messages) home name held refl (λ names. refl) (λ last. refl) found opened
+    entry_makes (Added name) puts (with_uids held.content.next messages) home name held refl (λ names. refl) found opened
     ∙ ap (with_content home name held) (added_makes held.content messages none)
 
 pub flagged_home : (home : Backend) (name : List ℕ) (held : Held) (rows : List Row) → held_at home name ≡ Some held → is_open held.phase ≡ true
     → home_after home (entry_of (Flagged name) rows) ≡ with_content home name held (content_after_all held.content (relabels rows))
-unfolding given_after
 flagged_home home name held rows found opened =
-    entry_makes (Flagged name) relabels rows home name held refl (λ names. refl) (λ last. refl) found opened
+    entry_makes (Flagged name) relabels rows home name held refl (λ names. refl) found opened
 
 pub gone_home : (home : Backend) (name : List ℕ) (held : Held) (only : Option (List ℕ)) → held_at home name ≡ Some held → is_open held.phase ≡ true
     → home_after home (entry_of (Gone name) (expunged_uids held.content only)) ≡ with_content home name held (expunged held.content only)
-unfolding given_after
 gone_home home name held only found opened =
-    entry_makes (Gone name) removals (expunged_uids held.content only) home name held refl (λ names. refl) (λ last. refl) found opened
+    entry_makes (Gone name) removals (expunged_uids held.content only) home name held refl (λ names. refl) found opened
 
 -- ---- other flags leave the UIDs
 
@@ -94,10 +90,9 @@ flags_below box rows below =
 
 -- ---- each operation
 
--- what entries make of a home: nothing, a new mailbox, or changes of one that is Open
+-- what entries make of a home: nothing, or changes of a mailbox that is Open
 pub data Writes (home : Backend) (name : List ℕ) (after : Backend) : Type 0 where
   writes_nothing : after ≡ home → Writes home name after
-  writes_new : held_at home name ≡ None → nat_eq home.last_serial (2 ^ 32 - 1) ≡ false → after ≡ with_new home name → Writes home name after
   writes_changes : (held : Held) (changes : List Change) → held_at home name ≡ Some held → is_open held.phase ≡ true
       → IsLaterContent held.content (content_after_all held.content changes)
       → (AreUidsBelowNext held.content → AreUidsBelowNext (content_after_all held.content changes))
@@ -157,17 +152,6 @@ gone_by home name held only found opened =
     writes_changes held (removals (expunged_uids held.content only)) found opened (expunged_follows held.content only) (expunged_below held.content only)
     (gone_home home name held only found opened)
 
-make_by : (home : Backend) (name : List ℕ) (full : Bool) → is_full home ≡ full → held_at home name ≡ None
-    → Left home name (make_plan home.last_serial name full)
-unfolding make_plan
-make_by home name true e none = writes_nothing refl
-make_by home name false e none = writes_new none (not_last home e) (make_makes home name)
-
-create_by : (home : Backend) (name : List ℕ) (found : Option Held) → held_at home name ≡ found → Left home name (create_plan home name found)
-unfolding create_plan
-create_by home name None found = make_by home name (is_full home) refl found
-create_by home name (Some held) found = writes_nothing refl
-
 -- ---- each ask
 
 abbrev pub WritesIf : Backend → List ℕ → Option OpPlan → Type 0
@@ -176,7 +160,6 @@ WritesIf home name (Some plan) = Left home name plan
 
 op_left : (home : Backend) (ask : FrontAsk) (op : Op) → WritesIf home ask.name (op_plan home ask op)
 unfolding op_plan append_plan look_plan read_plan summaries_plan flags_plan expunge_plan
-op_left home ask Create = create_by home ask.name (held_at home ask.name) refl
 op_left home ask (Append messages) =
     plans_left home ask.name ask.selected (λ content. adds_within_limits ask.name content messages (append_fault content messages))
     (held_at home ask.name) refl (λ held found opened. append_by home ask.name held messages (append_fault held.content messages) refl found opened)
@@ -197,6 +180,5 @@ plan_writes home ask = op_left home ask ask.op
 
 pub left_by : (home : Backend) (name : List ℕ) (after : Backend) → Writes home name after → Leaves home name after
 left_by home name after (writes_nothing is) = stays is
-left_by home name after (writes_new none left is) = makes none left is
 left_by home name after (writes_changes held changes found opened follows below is) =
     turns held (content_after_all held.content changes) found opened follows below is

@@ -1,5 +1,5 @@
 -- Above each UID that a step writes there is a UIDNEXT.
-use Rattle.std.proofs.Common.{◌≡◌, ℕ, ◌+◌, ◌-◌, ◌≤◌, ◌^◌, Bool, true, false, List, [], ◌∷◌, length, Option, None, Some, refl, arith}
+use Rattle.std.proofs.Common.{◌≡◌, ℕ, ◌+◌, ◌-◌, ◌≤◌, ◌^◌, Bool, true, false, List, [], ◌∷◌, length, Option, None, Some, refl, subst, arith}
 use Rattle.std.specs.List.{AllByRecursion}
 use Rattle.mail_message.specs.declared.message.Message.{Message}
 use Rattle.mail_message.specs.Boxes.{Content}
@@ -10,20 +10,17 @@ use Rattle.mail_store.specs.Store.{has_too_many_flags, rows_stored}
 use Rattle.mail_store.specs.declared.fault.StoreFault.{StoreFault}
 use Rattle.mur_base.specs.declared.point.AskId.{AskId}
 use Rattle.imap_types.specs.declared.op.Op.{Op}
-use Rattle.imap_types.specs.declared.op.Op.TheVariants.{Look, Read, Summaries, Flags, Expunge, Append, Create}
+use Rattle.imap_types.specs.declared.op.Op.TheVariants.{Look, Read, Summaries, Flags, Expunge, Append}
 use Rattle.link_msg.specs.declared.ask.FrontAsk.{FrontAsk}
 use Rattle.node_record.specs.declared.backend.BackendRecord.{BackendRecord}
 use Rattle.node_record.specs.declared.backend.BackendRecord.TheVariants.{Added}
 use Rattle.node_record.specs.declared.held.Held.{Held}
 use Rattle.node_record.specs.Held.{EntryLeavesNext}
 use Rattle.backend_core.specs.declared.backend.Backend.{Backend}
-use Rattle.backend_core.specs.declared.input.BackInput.{BackInput}
-use Rattle.backend_core.specs.declared.input.BackInput.TheVariants.{FromFront}
 use Rattle.backend_core.specs.declared.op_plan.OpPlan.{OpPlan}
 use Rattle.backend_core.specs.declared.response.Response.{Response}
 use Rattle.backend_core.specs.Append.{adds_within_limits, append_plan, with_uids}
 use Rattle.backend_core.specs.AskPlan.{ask_plan, op_plan}
-use Rattle.backend_core.specs.Create.{create_plan, make_plan}
 use Rattle.backend_core.specs.Expunge.{expunge_plan}
 use Rattle.backend_core.specs.Flags.{flags_plan, relabels_unless}
 use Rattle.backend_core.specs.HomeStep.{held_at}
@@ -74,23 +71,12 @@ unfolding relabels_unless
 next_relabels name content uids mode flags true = tt
 next_relabels name content uids mode flags false = next_one _ _ tt
 
-next_make : (last : ℕ) (name : List ℕ) (full : Bool) → Next (make_plan last name full)
-unfolding make_plan
-next_make last name true = tt
-next_make last name false = (tt, (tt, tt))
-
-next_create : (home : Backend) (name : List ℕ) (found : Option Held) → Next (create_plan home name found)
-unfolding create_plan
-next_create home name None = next_make home.last_serial name _
-next_create home name (Some held) = tt
-
 abbrev NextIf : Option OpPlan → Type 0
 NextIf None = Unit {0}
 NextIf (Some plan) = Next plan
 
 next_op : (home : Backend) (ask : FrontAsk) (op : Op) → NextIf (op_plan home ask op)
 unfolding op_plan append_plan look_plan read_plan summaries_plan flags_plan expunge_plan
-next_op home ask Create = next_create home ask.name (held_at home ask.name)
 next_op home ask (Append messages) =
     next_plans ask.selected _ (held_at home ask.name) (λ content. next_adds ask.name content messages (append_fault content messages) refl)
 next_op home ask (Read uids sees) = next_plans ask.selected _ (held_at home ask.name) (λ content. next_seen ask.name content uids sees)
@@ -102,11 +88,15 @@ next_op home ask Look = next_plans ask.selected _ (held_at home ask.name) (λ co
 next_op home ask (Summaries uids) = next_plans ask.selected _ (held_at home ask.name) (λ content. tt)
 next_op home ask op = tt
 
+-- an operation that an ask is carried out by
+pub next_found : (home : Backend) (ask : FrontAsk) (plan : OpPlan) → ask_plan home ask ≡ Some plan → AllByRecursion EntryLeavesNext plan.entries
+unfolding ask_plan
+next_found home ask plan is = subst NextIf is (next_op home ask ask.op)
+
 next_owes : (from : List ℕ) (id : AskId) (plan : Option OpPlan) → NextIf plan → AllByRecursion EntryLeavesNext (owes from id plan).entries
 next_owes from id None next = tt
 next_owes from id (Some plan) next = next
 
-pub next_planned : (home : Backend) (input : BackInput) → AllByRecursion EntryLeavesNext (back_plan home input).entries
+pub next_planned : (home : Backend) (from : List ℕ) (ask : FrontAsk) → AllByRecursion EntryLeavesNext (back_plan home from ask).entries
 unfolding ask_plan
-next_planned home (FromFront from ask) = next_owes from ask.id (ask_plan home ask) (next_op home ask ask.op)
-next_planned home input = tt
+next_planned home from ask = next_owes from ask.id (ask_plan home ask) (next_op home ask ask.op)

@@ -17,7 +17,7 @@ use Rattle.link_msg.specs.declared.ask.FrontAsk.{FrontAsk}
 use Rattle.link_msg.specs.declared.outcome.Outcome.{Outcome}
 use Rattle.link_msg.specs.declared.outcome.Outcome.TheVariants.{None as nothing, Uids, Rows, Limit, Messages}
 use Rattle.imap_types.specs.declared.op.Op.{Op}
-use Rattle.imap_types.specs.declared.op.Op.TheVariants.{Look, Read, Summaries, Flags as flags_op, Expunge, Append, Create}
+use Rattle.imap_types.specs.declared.op.Op.TheVariants.{Look, Read, Summaries, Flags as flags_op, Expunge, Append}
 use Rattle.node_record.specs.declared.backend.BackendRecord.TheVariants.{Flagged}
 use Rattle.node_record.specs.declared.held.Held.{Held}
 use Rattle.backend_core.specs.declared.backend.Backend.{Backend}
@@ -26,7 +26,6 @@ use Rattle.backend_core.specs.declared.op_plan.Telling.TheVariants.{Look as look
 use Rattle.backend_core.specs.declared.response.Response.{Response}
 use Rattle.backend_core.specs.Append.{adds_within_limits, append_plan, append_step, append_within_limits}
 use Rattle.backend_core.specs.AskPlan.{ask_plan, op_plan}
-use Rattle.backend_core.specs.Create.{create_plan, create_step, is_full, make_at_home, make_plan}
 use Rattle.backend_core.specs.Expunge.{expunge_plan, expunge_step, expunge_to, removes}
 use Rattle.backend_core.specs.Flags.{differing, flags_plan, flags_step, flags_to, flags_unless, relabels_to, relabels_unless}
 use Rattle.backend_core.specs.HomeLaws.{is_open, RisesAt}
@@ -35,11 +34,11 @@ use Rattle.backend_core.specs.Look.{look_at, look_plan, look_step, look_unless}
 use Rattle.backend_core.specs.OpPlan.{entry_of, home_after, looked, looks, plans, plans_unless, told_after}
 use Rattle.backend_core.specs.Read.{read_in, read_plan, read_step, read_to, read_from, seen_entries, seen_flag}
 use Rattle.backend_core.specs.Refusal.{refusal, is_other}
-use Rattle.backend_core.specs.Response.{done, no_snapshot}
+use Rattle.backend_core.specs.Response.{done}
 use Rattle.backend_core.specs.Served.{served, served_unless}
 use Rattle.backend_core.specs.Step.{home_step, op_step}
 use Rattle.backend_core.specs.Summaries.{summaries_at, summaries_in, summaries_plan, summaries_step, summaries_unless}
-use Rattle.backend_core.proofs.Entries.{make_makes, same_content}
+use Rattle.backend_core.proofs.Entries.{same_content}
 use Rattle.backend_core.proofs.FlaggedLaw.{flagged_makes}
 use Rattle.backend_core.proofs.Leaves.{served_open}
 use Rattle.backend_core.proofs.PlanLeaves.{added_home, flagged_home, gone_home}
@@ -169,23 +168,10 @@ unfolding summaries_plan summaries_step summaries_at plans told_after
 summaries_do home name selected uids None found = refl
 summaries_do home name selected uids (Some held) found = summaries_unless_do home name uids held (refusal selected held) found
 
--- ---- CREATE
-
-make_does : (home : Backend) (name : List ℕ) (full : Bool) → carried home (make_plan home.last_serial name full) ≡ make_at_home home name full
-unfolding make_plan make_at_home told_after
-make_does home name true = refl
-make_does home name false = ap (λ (h : Backend). answers h (done nothing no_snapshot)) (make_makes home name)
-
-create_does : (home : Backend) (name : List ℕ) (found : Option Held) → carried home (create_plan home name found) ≡ create_step home name found
-unfolding create_plan create_step told_after
-create_does home name None = make_does home name (is_full home)
-create_does home name (Some held) = refl
-
 -- ---- each ask
 
 op_does : (home : Backend) (ask : FrontAsk) (op : Op) → RisesAt home ask.name → carried_if home (op_plan home ask op) ≡ op_step home ask op
 unfolding op_plan op_step append_plan append_step read_plan read_step flags_plan flags_step expunge_plan expunge_step
-op_does home ask Create rising = create_does home ask.name (held_at home ask.name)
 op_does home ask (Append messages) rising =
     plans_do home ask.name ask.selected (λ content. adds_within_limits ask.name content messages (append_fault content messages))
     (λ content. append_within_limits content messages (append_fault content messages)) (held_at home ask.name) refl

@@ -44,10 +44,6 @@ abbrev pub LosesNoMessage : Held → Option Held → Type 0
 LosesNoMessage held None = ⊥
 LosesNoMessage held (Some later) = KeepsMessages held.content later.content
 
--- no mailbox here has a UIDVALIDITY that wasn't given yet
-abbrev pub HasGivenSerials : Backend → Type 0
-HasGivenSerials home = (name : List ℕ) (held : Held) → held_at home name ≡ Some held → held.content.serial ≤ home.last_serial
-
 -- the messages of a name stand in strictly rising order of UID
 abbrev pub RisesAt : Backend → List ℕ → Type 0
 RisesAt home name = (held : Held) → held_at home name ≡ Some held → IsRising held.content.messages
@@ -55,7 +51,3 @@ RisesAt home name = (held : Held) → held_at home name ≡ Some held → IsRisi
 -- those of each name
 abbrev pub HasRisingUids : Backend → Type 0
 HasRisingUids home = (name : List ℕ) → RisesAt home name
-
--- each mailbox here is Open
-abbrev pub HasOnlyOpen : Backend → Type 0
-HasOnlyOpen home = (name : List ℕ) (held : Held) → held_at home name ≡ Some held → held.phase ≡ Open

@@ -1,6 +1,5 @@
 pub mod Append
 pub mod AskPlan
-pub mod Create
 pub mod Expunge
 pub mod Flags
 pub mod HomeLaws

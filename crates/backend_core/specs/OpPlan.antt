@@ -4,7 +4,6 @@ use Rattle.std.specs.List.{fold}
 use Rattle.mail_message.specs.Boxes.{Content, snapshot_of}
 use Rattle.link_msg.specs.declared.outcome.Outcome.{Outcome}
 use Rattle.node_record.specs.declared.backend.BackendRecord.{BackendRecord}
-use Rattle.node_record.specs.declared.backend.BackendRecord.TheVariants.{Make}
 use Rattle.node_record.specs.declared.held.Held.{Held}
 use Rattle.node_record.specs.Held.{held_after}
 use Rattle.backend_core.specs.declared.backend.Backend.{Backend}
@@ -16,14 +15,9 @@ use Rattle.backend_core.specs.HomeStep.{held_at}
 use Rattle.backend_core.specs.Refusal.{refusal}
 use Rattle.backend_core.specs.Response.{done, not_now}
 
--- the last UIDVALIDITY that was given, after an entry
-unfoldable pub given_after : ℕ → BackendRecord → ℕ
-given_after last (Make name serial acl) = serial
-given_after last _ = last
-
 -- a home after entries of its disk
 abbrev pub home_after : Backend → List BackendRecord → Backend
-home_after home entries = record home { held = fold held_after home.held entries; last_serial = fold given_after home.last_serial entries }
+home_after home entries = record home { held = fold held_after home.held entries }
 
 -- an entry about some things, and none where there is nothing
 unfoldable pub entry_of : {A : Type 0} → (List A → BackendRecord) → List A → List BackendRecord

@@ -3,14 +3,13 @@ use Rattle.std.specs.Prelude.{List, ℕ, [], ◌∷◌, Option, None, Some}
 use Rattle.mur_base.specs.declared.home.Location.{Location}
 use Rattle.mur_base.specs.declared.point.AskId.{AskId}
 use Rattle.link_msg.specs.declared.answer.AnswerBody.{AnswerBody}
+use Rattle.link_msg.specs.declared.ask.FrontAsk.{FrontAsk}
 use Rattle.link_msg.specs.declared.counts.Counts.{Counts}
 use Rattle.link_msg.specs.declared.message.LinkMsg.TheVariants.{Answer}
 use Rattle.link_msg.specs.declared.out.Out.{Out}
 use Rattle.link_msg.specs.declared.out.Out.TheVariants.{Link, Mark}
 use Rattle.node_record.specs.declared.backend.BackendRecord.{BackendRecord}
 use Rattle.backend_core.specs.declared.backend.Backend.{Backend}
-use Rattle.backend_core.specs.declared.input.BackInput.{BackInput}
-use Rattle.backend_core.specs.declared.input.BackInput.TheVariants.{FromFront}
 use Rattle.backend_core.specs.declared.op_plan.OpPlan.{OpPlan}
 use Rattle.backend_core.specs.declared.plan.BackPlan.{BackPlan}
 use Rattle.backend_core.specs.declared.plan.Owed.{Owed}
@@ -26,7 +25,7 @@ pub record Planned : Type 0 where
 
 -- a backend without mailboxes
 abbrev pub booted : Location → Backend
-booted me = record { me = me; held = []; last_serial = 0 }
+booted me = record { me = me; held = [] }
 
 -- an answer goes to the frontend that asked, and the step counts for its command
 unfoldable pub answer_outs : List ℕ → AskId → Counts → Option AnswerBody → List Out
@@ -53,10 +52,9 @@ abbrev pub owes : List ℕ → AskId → Option OpPlan → BackPlan
 owes from id None = record { entries = []; owed = None }
 owes from id (Some plan) = record { entries = plan.entries; owed = Some (record { to = from; id = id; telling = plan.telling }) }
 
--- a backend has nothing to do where a link comes up or ends
-abbrev pub back_plan : Backend → BackInput → BackPlan
-back_plan home (FromFront from ask) = owes from ask.id (ask_plan home ask)
-back_plan home _ = record { entries = []; owed = None }
+-- by this frontend's ask
+abbrev pub back_plan : Backend → List ℕ → FrontAsk → BackPlan
+back_plan home from ask = owes from ask.id (ask_plan home ask)
 
-unfoldable pub plan_of : Backend → BackInput → Planned
-plan_of home input = settles home (back_plan home input)
+unfoldable pub plan_of : Backend → List ℕ → FrontAsk → Planned
+plan_of home from ask = settles home (back_plan home from ask)

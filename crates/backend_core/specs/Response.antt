@@ -15,13 +15,9 @@ no_snapshot = record { serial = 0; next = 0; size = 0; rows = [] }
 abbrev pub bare_snapshot : Content → Snapshot
 bare_snapshot content = record { serial = content.serial; next = content.next; size = 0; rows = [] }
 
--- an operation on a mailbox's messages, or one that made the mailbox
+-- an operation on a mailbox's messages
 abbrev pub done : Outcome → Snapshot → Response
 done outcome snapshot = record { body = Done outcome snapshot; counts = Always }
-
--- no mailbox is made
-abbrev pub refused_by_home : Outcome → Response
-refused_by_home outcome = record { body = Done outcome no_snapshot; counts = IfAnswered }
 
 -- the mailbox isn't here, or isn't served at present
 abbrev pub not_now : Response

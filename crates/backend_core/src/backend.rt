@@ -4,19 +4,17 @@ ghost use Rattle.std.specs.List.{AllByRecursion};
 ghost use Rattle.std.specs.Option.{option_copied, option_map};
 ghost use Rattle.node_record.specs.declared.held.Held.{Held};
 ghost use Rattle.node_record.specs.Held.{EntryLeavesNext};
-ghost use Rattle.backend_core.specs.AskPlan.{ask_plan};
 ghost use Rattle.backend_core.specs.HomeStep.{held_at};
-ghost use Rattle.backend_core.specs.OpPlan.{home_after, given_after};
+ghost use Rattle.backend_core.specs.OpPlan.{home_after};
 ghost use Rattle.backend_core.specs.Plan.{back_plan, booted, owed_outs, owes, settles};
 
-use crate::input::BackInput;
 use crate::op_plan::{Entries, OpPlan};
 use crate::plan::{BackPlan, Owed};
 use crate::response::Response;
 use crate::step::serve;
 use link_msg::{BackAnswer, FrontAsk, LinkMsg, Out, Outs};
 use mur_base::{Location, MailName, Map, Memory, NodeName, Phase};
-use node_record::{BackendRecord, Held, apply_backend};
+use node_record::{Held, apply_backend};
 use std::alloc::Global;
 
 /// A backend.
@@ -26,8 +24,6 @@ pub struct Backend {
     pub me: Location,
     /// What it has of each name.
     pub held: Map<MailName, Held>,
-    /// The last UIDVALIDITY that it gave, 0 where it gave none.
-    pub last_serial: u32,
 }
 
 impl Backend {
@@ -38,18 +34,25 @@ impl Backend {
         Backend {
             me,
             held: Map::new(alloc),
-            last_serial: 0,
         }
     }
 
-    /// What a step writes, and the answer that it owes. Nothing is changed, and no body is copied but one that is read.
-    pub fn plan(&self, alloc: Global, input: BackInput) -> Result<BackPlan, Memory>
-        ensures plan { IfOk result (λ plan. plan ≡ back_plan self.now input) }
+    /// What the step for a frontend's ask writes, and the answer that it owes. Nothing is changed, and no body is copied but one that is read.
+    pub fn plan(&self, alloc: Global, from: NodeName, ask: FrontAsk) -> Result<BackPlan, Memory>
+        ensures plan { IfOk result (λ plan. plan ≡ back_plan self.now from ask) }
         ensures next { IfOk result (λ plan. AllByRecursion EntryLeavesNext plan.entries) }
     {
-        match input {
-            BackInput::FromFront(from, ask) => owes(alloc, self, from, ask),
-            BackInput::Up(_node) | BackInput::End(_node) => Ok(BackPlan {
+        let id = ask.id;
+        match serve(alloc, self, ask)? {
+            Some(OpPlan { entries, telling }) => Ok(BackPlan {
+                entries,
+                owed: Some(Owed {
+                    to: from,
+                    id,
+                    telling,
+                }),
+            }),
+            None => Ok(BackPlan {
                 entries: Entries::new(alloc),
                 owed: None,
             }),
@@ -78,45 +81,14 @@ impl Backend {
     }
 }
 
-fn owes(alloc: Global, home: &Backend, from: NodeName, ask: FrontAsk) -> Result<BackPlan, Memory>
-    ensures { IfOk result (λ plan. plan ≡ owes from ask.id (ask_plan home.now ask)) }
-{
-    let id = ask.id;
-    match serve(alloc, home, ask)? {
-        Some(OpPlan { entries, telling }) => Ok(BackPlan {
-            entries,
-            owed: Some(Owed {
-                to: from,
-                id,
-                telling,
-            }),
-        }),
-        None => Ok(BackPlan {
-            entries: Entries::new(alloc),
-            owed: None,
-        }),
-    }
-}
-
 fn carry_out(alloc: Global, home: &mut Backend, entries: Entries) -> Result<(), Memory>
     requires { AllByRecursion EntryLeavesNext entries }
     ensures { OnOk result (home.new ≡ home_after home.old entries) }
 {
     for entry in entries.into_vec() {
-        home.last_serial = given_after(home.last_serial, &entry);
         apply_backend(alloc, &mut home.held, entry)?;
     }
     Ok(())
-}
-
-#[tactic(auto, unfolding(crate::specs::OpPlan::given_after))]
-fn given_after(last: u32, entry: &BackendRecord) -> u32
-    ensures { result ≡ given_after last entry.now }
-{
-    match entry {
-        BackendRecord::Make(_, serial, _) => *serial,
-        _ => last,
-    }
 }
 
 #[tactic(auto, unfolding(crate::specs::Plan::answer_outs))]

@@ -1,27 +1,24 @@
 // What every ask leaves of a home, as laws of its definition.
-ghost use Rattle.std.specs.Prelude.{◌≡◌, ◌≢◌, ◌+◌, ◌≤◌, ℕ, List, None, Some, false, All};
+ghost use Rattle.std.specs.Prelude.{◌≡◌, ◌≢◌, ℕ, List, None, Some, false, All};
 ghost use Rattle.mur_base.specs.declared.home.Location.{Location};
 ghost use Rattle.mail_message.specs.Boxes.{message_at};
 ghost use Rattle.mail_message.specs.declared.message.Message.{Message};
 ghost use Rattle.link_msg.specs.declared.ask.FrontAsk.{FrontAsk};
 ghost use Rattle.mail_message.specs.declared.message.Snapshot.{Snapshot};
 ghost use Rattle.link_msg.specs.declared.answer.AnswerBody.TheVariants.{Done};
-ghost use Rattle.imap_types.specs.declared.op.Op.TheVariants.{Append, Create};
+ghost use Rattle.imap_types.specs.declared.op.Op.TheVariants.{Append};
 ghost use Rattle.link_msg.specs.declared.outcome.Outcome.TheVariants.{Uids};
 ghost use Rattle.backend_core.specs.declared.backend.Backend.{Backend};
 ghost use Rattle.node_record.specs.declared.held.Held.{Held};
-ghost use Rattle.backend_core.specs.declared.input.BackInput.{BackInput};
-ghost use Rattle.backend_core.specs.declared.input.BackInput.TheVariants.{FromFront};
 ghost use Rattle.backend_core.specs.HomeStep.{held_at};
-ghost use Rattle.backend_core.specs.HomeLaws.{is_open_here, HasNamesInOrder, MailboxStays, AreNewUids, HasGivenSerials};
-ghost use Rattle.backend_core.specs.HomeLaws.{HasOnlyOpen, HasRisingUids, HasUidsBelowNext, LosesNoMessage, RisesAt};
+ghost use Rattle.backend_core.specs.HomeLaws.{is_open_here, HasNamesInOrder, MailboxStays, AreNewUids};
+ghost use Rattle.backend_core.specs.HomeLaws.{HasRisingUids, HasUidsBelowNext, LosesNoMessage, RisesAt};
 ghost use Rattle.backend_core.specs.Plan.{answer_outs, booted, plan_of};
 ghost use Rattle.backend_core.specs.Step.{home_step};
 
-/// An ask but a CREATE changes nothing where its mailbox isn't Open here.
+/// An ask changes nothing where its mailbox isn't Open here.
 pub fn an_ask_elsewhere_changes_nothing()
-    ensures { (home : Backend) (ask : FrontAsk) → ask.op ≢ Create
-        → is_open_here (held_at home ask.name) ≡ false → (home_step home ask).home ≡ home }
+    ensures { (home : Backend) (ask : FrontAsk) → is_open_here (held_at home ask.name) ≡ false → (home_step home ask).home ≡ home }
 {}
 
 /// An ask of a session that has selected a mailbox of another UIDVALIDITY changes nothing (RFC 9051, 2.3.1.1).
@@ -39,7 +36,7 @@ pub fn uidnext_never_falls()
 /// Each message of each mailbox has a UID below its UIDNEXT, from the start and whatever comes in (RFC 9051, 2.3.1.1).
 pub fn uids_stay_below_uidnext()
     ensures booted { (me : Location) → HasUidsBelowNext (booted me) }
-    ensures stays { (home : Backend) (input : BackInput) → HasUidsBelowNext home → HasUidsBelowNext (plan_of home input).home }
+    ensures stays { (home : Backend) (from : List ℕ) (ask : FrontAsk) → HasUidsBelowNext home → HasUidsBelowNext (plan_of home from ask).home }
 {}
 
 /// The UIDs that an APPEND is answered with rise strictly, from UIDNEXT before it on and below UIDNEXT behind it. So no UID
@@ -55,16 +52,6 @@ pub fn no_uid_is_given_twice()
         → ask.op ≡ Append messages → held_at home name ≡ Some held → LosesNoMessage held (held_at (home_step home ask).home name) }
 {}
 
-/// The last UIDVALIDITY never falls, no mailbox has one that wasn't given, and a new one has the UIDVALIDITY behind the last:
-/// greater than each that was given before (RFC 9051, 2.3.1.1).
-pub fn uidvalidity_is_not_given_again()
-    ensures not_falls { (home : Backend) (ask : FrontAsk) → home.last_serial ≤ (home_step home ask).home.last_serial }
-    ensures by_one { (home : Backend) (ask : FrontAsk) → (home_step home ask).home.last_serial ≤ home.last_serial + 1 }
-    ensures given { (home : Backend) (ask : FrontAsk) → HasGivenSerials home → HasGivenSerials (home_step home ask).home }
-    ensures new { (home : Backend) (ask : FrontAsk) (name : List ℕ) (held : Held) → held_at home name ≡ None
-        → held_at (home_step home ask).home name ≡ Some held → held.content.serial ≡ home.last_serial + 1 }
-{}
-
 /// Every other name keeps what the home has of it, and the names stay in order.
 pub fn other_names_stay()
     ensures others { (home : Backend) (ask : FrontAsk) (other : List ℕ) → other ≢ ask.name
@@ -75,20 +62,14 @@ pub fn other_names_stay()
 /// The messages of each mailbox stand in strictly rising order of UID, from the start and whatever comes in (RFC 9051, 2.3.1.1).
 pub fn uids_rise()
     ensures booted { (me : Location) → HasRisingUids (booted me) }
-    ensures stays { (home : Backend) (input : BackInput) → HasRisingUids home → HasRisingUids (plan_of home input).home }
+    ensures stays { (home : Backend) (from : List ℕ) (ask : FrontAsk) → HasRisingUids home → HasRisingUids (plan_of home from ask).home }
 {}
 
 /// A step is the operation that was asked for, of which the laws speak: its entries make what that leaves, and what goes out is its
 /// answer. The UIDs of the mailbox rise strictly.
 pub fn a_step_is_its_operation()
     ensures leaves { (home : Backend) (from : List ℕ) (ask : FrontAsk) → RisesAt home ask.name
-        → (plan_of home (FromFront from ask)).home ≡ (home_step home ask).home }
+        → (plan_of home from ask).home ≡ (home_step home ask).home }
     ensures tells { (home : Backend) (from : List ℕ) (ask : FrontAsk) → RisesAt home ask.name
-        → (plan_of home (FromFront from ask)).outs ≡ answer_outs from ask.id (home_step home ask).counts (home_step home ask).body }
-{}
-
-/// Each mailbox is Open, from the start and whatever comes in.
-pub fn every_mailbox_is_open()
-    ensures booted { (me : Location) → HasOnlyOpen (booted me) }
-    ensures stays { (home : Backend) (input : BackInput) → HasOnlyOpen home → HasOnlyOpen (plan_of home input).home }
+        → (plan_of home from ask).outs ≡ answer_outs from ask.id (home_step home ask).counts (home_step home ask).body }
 {}

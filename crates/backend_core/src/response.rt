@@ -1,6 +1,6 @@
 // What a home answers.
 ghost use Rattle.std.specs.Prelude.{◌≡◌};
-ghost use Rattle.backend_core.specs.Response.{no_snapshot, bare_snapshot, done, refused_by_home, not_now, moved_to};
+ghost use Rattle.backend_core.specs.Response.{no_snapshot, bare_snapshot, done, not_now, moved_to};
 
 use link_msg::{AnswerBody, Counts, Outcome};
 use mail_message::{MailBox, OrderedRows, Snapshot};
@@ -15,23 +15,13 @@ pub struct Response {
 }
 
 impl Response {
-    /// The answer to an operation on messages, or to one that made the mailbox.
+    /// The answer to an operation on messages.
     pub fn done(outcome: Outcome, snapshot: Snapshot) -> Response
         ensures { result ≡ done outcome snapshot }
     {
         Response {
             body: AnswerBody::Done(outcome, snapshot),
             counts: Counts::Always,
-        }
-    }
-
-    /// The answer where no mailbox is made.
-    pub fn refused(alloc: Global, outcome: Outcome) -> Response
-        ensures { result ≡ refused_by_home outcome }
-    {
-        Response {
-            body: AnswerBody::Done(outcome, no_snapshot(alloc)),
-            counts: Counts::IfAnswered,
         }
     }
 

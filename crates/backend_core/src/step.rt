@@ -5,7 +5,6 @@ ghost use Rattle.backend_core.specs.declared.op_plan.OpPlan.{OpPlan};
 
 use crate::append::append;
 use crate::backend::Backend;
-use crate::create::create;
 use crate::expunge::expunge;
 use crate::flags::set_flags;
 use crate::look::look;
@@ -16,7 +15,7 @@ use link_msg::{FrontAsk, Op};
 use mur_base::Memory;
 use std::alloc::Global;
 
-/// What is written of an ask, and what is told of it, if the home knows the operation.
+/// What is written of an ask, and what is told of it, if it is one for messages.
 #[tactic(auto, unfolding(crate::specs::AskPlan::ask_plan, crate::specs::AskPlan::op_plan))]
 pub fn serve(alloc: Global, home: &Backend, ask: FrontAsk) -> Result<Option<OpPlan>, Memory>
     ensures { IfOk result (λ plan. plan ≡ ask_plan home.now ask) }
@@ -30,7 +29,6 @@ pub fn serve(alloc: Global, home: &Backend, ask: FrontAsk) -> Result<Option<OpPl
     } = ask;
     let found = home.held.get(&name);
     let plan = match op {
-        Op::Create => create(alloc, home, name, found),
         Op::Append(messages) => append(alloc, name, selected, messages, found),
         Op::Look => look(alloc, name, selected, found),
         Op::Read(uids, sees) => read(alloc, name, selected, &uids, sees, found),
@@ -39,7 +37,7 @@ pub fn serve(alloc: Global, home: &Backend, ask: FrontAsk) -> Result<Option<OpPl
             alloc, name, selected, &uids, mode, &flags, found,
         ),
         Op::Expunge(only) => expunge(alloc, name, selected, &only, found),
-        Op::Delete | Op::Xfer(_, _) => return Ok(None),
+        Op::Create | Op::Delete | Op::Xfer(_, _) => return Ok(None),
     };
     Ok(Some(plan?))
 }

@@ -1,11 +1,15 @@
 // Steps of a home of mailboxes.
 use crate::operation::op_of;
 use crate::outs::put_outs;
-use backend_core::{BackInput, Backend, Held};
+use backend_core::{Backend, Held};
 use case_base::{Fault, Steps, number_of, parts_of, put_steps};
 use link_msg::{FrontAsk, Op, Outs};
-use mail_message::Change;
-use mur_base::{AskId, Bytes, Location, MailName, Memory, Phase, mail_name, node_name, user_name};
+use mail_message::{Change, first_acl};
+use mur_base::{
+    AskId, Bytes, Copied, Location, MailName, Memory, NodeName, Phase, mail_name, node_name,
+    user_name,
+};
+use node_record::{BackendRecord, apply_backend};
 use std::alloc::Global;
 
 /// The command for which everything is asked.
@@ -54,7 +58,6 @@ fn take_words(
     out: &mut Bytes,
 ) -> Result<(), Fault> {
     match words {
-        ["last", serial] => set_last(home, number_of(serial)?),
         ["name", name, what @ ..] => {
             take_name(alloc, home, &mail_name(alloc, name.as_bytes())?, what, out)
         }
@@ -62,7 +65,7 @@ fn take_words(
     }
 }
 
-/// Prints the phase of a name, takes the name away, or gives it another state.
+/// Makes a mailbox, prints the phase of a name, takes the name away, or gives it another state.
 fn take_name(
     alloc: Global,
     home: &mut Backend,
@@ -71,6 +74,7 @@ fn take_name(
     out: &mut Bytes,
 ) -> Result<(), Fault> {
     match what {
+        ["made", serial] => Ok(make(alloc, home, name, number_of(serial)?)?),
         ["phase"] => put_phase(home, name, out),
         ["gone"] => forget(alloc, home, name, out),
         state => match home.held.get_mut(name) {
@@ -102,9 +106,13 @@ fn forget(
     Ok(out.extend_from_slice(left.as_bytes())?)
 }
 
-fn set_last(home: &mut Backend, serial: u32) -> Result<(), Fault> {
-    home.last_serial = serial;
-    Ok(())
+/// Makes a mailbox with this UIDVALIDITY and opens it, by the entries of a backend that the name master lets.
+pub fn make(alloc: Global, home: &mut Backend, name: &MailName, serial: u32) -> Result<(), Memory> {
+    let acl = first_acl(alloc, name)?;
+    let made = BackendRecord::Make(name.copy(alloc)?, serial, acl);
+    apply_backend(alloc, &mut home.held, made)?;
+    let opened = BackendRecord::Opened(name.copy(alloc)?);
+    apply_backend(alloc, &mut home.held, opened)
 }
 
 /// Gives a name another phase, or its mailbox another UIDNEXT.
@@ -118,56 +126,48 @@ fn make_so(alloc: Global, held: &mut Held, state: &[&str]) -> Result<(), Fault> 
     Ok(())
 }
 
-/// Prints what the home puts out for an input.
+/// Prints what the home puts out for what a node asks of a mailbox, with the UIDVALIDITY of the one that is selected.
 fn put_asked(
     alloc: Global,
     home: &mut Backend,
     words: &[&str],
     out: &mut Bytes,
 ) -> Result<(), Fault> {
-    let outs = outs_of(alloc, home, input_of(alloc, words)?)?;
+    let [node, name, selected, op @ ..] = words else {
+        return Err(Fault::Unreadable("no step"));
+    };
+    let selected = serial_of(selected)?;
+    let name = mail_name(alloc, name.as_bytes())?;
+    let ask = ask_of(alloc, name, selected, op_of(alloc, op)?)?;
+    let outs = outs_of(alloc, home, node_name(alloc, node.as_bytes())?, ask)?;
     Ok(put_outs(alloc, outs.as_slice(), out)?)
 }
 
-/// What the home puts out for an input.
-pub fn outs_of(alloc: Global, home: &mut Backend, input: BackInput) -> Result<Outs, Memory> {
-    let plan = home.plan(alloc, input)?;
+/// What the home puts out for an ask of this node.
+pub fn outs_of(
+    alloc: Global,
+    home: &mut Backend,
+    from: NodeName,
+    ask: FrontAsk,
+) -> Result<Outs, Memory> {
+    let plan = home.plan(alloc, from, ask)?;
     home.settle(alloc, plan)
 }
 
-/// An input: a link's, or what a node asks of a mailbox, with the UIDVALIDITY of the one that is selected.
-fn input_of(alloc: Global, words: &[&str]) -> Result<BackInput, Fault> {
-    match words {
-        ["up", node] => Ok(BackInput::Up(node_name(alloc, node.as_bytes())?)),
-        ["end", node] => Ok(BackInput::End(node_name(alloc, node.as_bytes())?)),
-        [node, name, selected, op @ ..] => {
-            let selected = serial_of(selected)?;
-            let name = mail_name(alloc, name.as_bytes())?;
-            asked(alloc, node, name, selected, op_of(alloc, op)?)
-        }
-        _ => Err(Fault::Unreadable("no step")),
-    }
-}
-
-/// What bob asks of a mailbox at a node.
-pub fn asked(
+/// What bob asks of a mailbox.
+pub fn ask_of(
     alloc: Global,
-    node: &str,
     name: MailName,
     selected: Option<u32>,
     op: Op,
-) -> Result<BackInput, Fault> {
-    let (Ok(node), Ok(user)) = (node_name(alloc, node.as_bytes()), user_name(alloc, b"bob")) else {
-        return Err(Fault::Unreadable("nobody asks"));
-    };
-    let ask = FrontAsk {
+) -> Result<FrontAsk, Fault> {
+    Ok(FrontAsk {
         id: ID,
-        user,
+        user: user_name(alloc, b"bob")?,
         name,
         selected,
         op,
-    };
-    Ok(BackInput::FromFront(node, ask))
+    })
 }
 
 /// The UIDVALIDITY that a field writes; `-` is none.

@@ -2,10 +2,11 @@
 use crate::home;
 use crate::line::{command_of, put_reply};
 use crate::model::setting;
-use backend_core::{BackInput, Backend};
+use backend_core::Backend;
 use case_base::{Fault, Steps, put_steps};
 use imap_types::Command;
-use link_msg::{AnswerBody, LinkMsg, Out};
+use link_msg::{AnswerBody, FrontAsk, LinkMsg, Op, Out, Outcome};
+use mail_message::{OrderedRows, Snapshot};
 use mur_base::{Bytes, MailName, What, node_name};
 use mur_model::Setting;
 use session_core::{Asking, Awaited, Need, OpResult, Session};
@@ -120,9 +121,31 @@ impl Stage {
             selected,
             awaited,
         } = asking;
-        let input = home::asked(alloc, "f1", name, selected, op);
-        let answer = answer_to(alloc, &mut self.home, input);
+        let answer = match op {
+            Op::Create => self.made(alloc, &name),
+            op => {
+                let ask = home::ask_of(alloc, name, selected, op)?;
+                answer_to(alloc, &mut self.home, ask)
+            }
+        };
         self.finished(alloc, &awaited, answer)
+    }
+
+    /// Makes a mailbox with the UIDVALIDITY 1, unless there is one. So a backend does that the name master lets.
+    fn made(&mut self, alloc: Global, name: &MailName) -> Result<OpResult, Fault> {
+        let outcome = if self.home.phase(name).is_some() {
+            Outcome::Exists
+        } else {
+            home::make(alloc, &mut self.home, name, 1)?;
+            Outcome::None
+        };
+        let seen = Snapshot {
+            serial: 0,
+            next: 0,
+            size: 0,
+            rows: OrderedRows::new(alloc),
+        };
+        Ok(OpResult::Done(outcome, seen))
     }
 
     fn finished(
@@ -150,12 +173,9 @@ impl Stage {
 }
 
 /// What the home answers.
-fn answer_to(
-    alloc: Global,
-    home: &mut Backend,
-    input: Result<BackInput, Fault>,
-) -> Result<OpResult, Fault> {
-    let outs = home::outs_of(alloc, home, input?)?.into_vec();
+fn answer_to(alloc: Global, home: &mut Backend, ask: FrontAsk) -> Result<OpResult, Fault> {
+    let from = node_name(alloc, b"f1")?;
+    let outs = home::outs_of(alloc, home, from, ask)?.into_vec();
     match outs.into_iter().find_map(|out| result_of(out)) {
         Some(answer) => Ok(answer),
         None => Err(Fault::Unreadable("no answer")),

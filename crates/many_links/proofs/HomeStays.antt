@@ -3,7 +3,6 @@ use Rattle.std.proofs.Common.{◌≡◌, ◌≢◌, ◌&&◌, ℕ, Bool, true, f
 use Rattle.std.specs.List.{AllByRecursion}
 use Rattle.std.specs.Cmp.Lexicographic.{pointwise}
 use Rattle.backend_core.specs.declared.backend.Backend.{Backend}
-use Rattle.backend_core.specs.declared.input.BackInput.TheVariants.{FromFront}
 use Rattle.backend_core.specs.declared.op_plan.OpPlan.{OpPlan}
 use Rattle.backend_core.specs.AskPlan.{ask_plan, op_plan}
 use Rattle.backend_core.specs.HomeLaws.{is_open_here}
@@ -84,7 +83,7 @@ no_plan home ask Delete of none = refl
 no_plan home ask (Xfer server partition) of none = refl
 
 nothing_planned : (home : Backend) (from : List ℕ) (ask : FrontAsk) → is_of_messages ask.op ≡ false → name_kind ask.op ≡ None
-    → (plan_of home (FromFront from ask)).home ≡ home
+    → (plan_of home from ask).home ≡ home
 unfolding plan_of ask_plan
 nothing_planned home from ask of none =
     ap (λ (plan : Option OpPlan). home_after home (owes from ask.id plan).entries) (no_plan home ask ask.op of none)

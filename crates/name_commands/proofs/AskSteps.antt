@@ -1,7 +1,6 @@
 -- A message of a node that isn't the master comes to the backend.
 use Rattle.std.proofs.Common.{◌≡◌, ◌≢◌, ℕ, Bool, true, false, cond, List, [], ◌∷◌, ◌++◌, filter, Option, None, Some, refl, sym, ap, subst, ◌∙◌, append-nil}
 use Rattle.backend_core.specs.declared.backend.Backend.{Backend}
-use Rattle.backend_core.specs.declared.input.BackInput.TheVariants.{FromFront}
 use Rattle.backend_core.specs.declared.op_plan.OpPlan.{OpPlan}
 use Rattle.backend_core.specs.AskPlan.{ask_plan}
 use Rattle.backend_core.specs.OpPlan.{told_after}
@@ -92,7 +91,7 @@ module _ (whose : Whose) (master : Master) (name : List ℕ) (node : BackNode) (
 
   module _ (ask : FrontAsk) where
     abbrev served : BackActed
-    served = done_by (serves node (back_plan node.home (FromFront from ask)))
+    served = done_by (serves node (back_plan node.home from ask))
 
     messages_placed : (place : NamePlace) → TalkShows whose node up down place
         → TalkShows whose served.state (up ++ messages_to master.me served.outs) down place

@@ -106,10 +106,10 @@ module _ (murder : Murder) (given : Given) (store : Store) (front master first :
   its_own = work_own c.setting c.was c.it (Mailbox c.name c.work) c.need
 
   missed : c.work ≢ Make → box_at store c.name ≡ None → (serial : ℕ)
-      → IsMissed store c.name c.work serial (worked_at store c.name c.work serial)
+      → IsMissed c.name c.work (worked_at store c.name c.work serial)
   missed ne none serial =
-      subst (λ (b : Option Content). IsMissed store c.name c.work serial (work_on c.name c.work serial (is_full store) b)) (sym none)
-      (misses store c.name c.work serial (is_full store) ne)
+      subst (λ (b : Option Content). IsMissed c.name c.work (work_on c.name c.work serial (is_full store) b)) (sym none)
+      (misses c.name c.work serial (is_full store) ne)
 
   missing : (cause : Why) → c.work ≢ Make → found_at ≡ None → IsMissing murder given store front master first c cause
   unfolding store_after

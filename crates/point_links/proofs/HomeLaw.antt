@@ -1,5 +1,5 @@
 -- A backend takes the ask of a command at a mailbox: where it has the name open it does what the one store does, and else the command is sent on.
-use Rattle.std.proofs.Common.{◌≡◌, ℕ, ◌+◌, ◌&&◌, Bool, true, false, List, Option, None}
+use Rattle.std.proofs.Common.{◌≡◌, ℕ, ◌&&◌, Bool, true, false, List, Option, None}
 use Rattle.std.proofs.Common.{Some, refl, sym, ◌∙◌, ap, subst}
 use Rattle.asking_core.specs.Answered.{answered}
 use Rattle.back_links.specs.BackEvents.{IsFitting, fits_by}
@@ -111,16 +111,15 @@ module _ (murder : Murder) (given : Given) (store : Store) (c : ClientCommand) (
     done_at : IsCarriedOut node from plain
     done_at = subst (λ (a : FrontAsk). IsCarriedOut node from a) ask_is open_at
 
-    serves : ServesAlike store home c.name c.work (worked_at store c.name c.work (home.last_serial + 1)) step
+    serves : ServesAlike store home c.name c.work (worked 0) step
     serves =
-        serves_others store home c.id (user_of c.was) c.name c.work
+        serves_others store home c.id (user_of c.was) c.name c.work 0
         (store_of_home store home c.name (open_is_the_stores murder given store name node c.name comes.holds comes.there is_here).alike)
         comes.no_make
 
     -- of a UIDVALIDITY the work reads nothing
-    same : (serial : ℕ) → worked_at store c.name c.work (home.last_serial + 1) ≡ worked serial
-    same serial =
-        same_work c.name c.work (home.last_serial + 1) serial (is_full store) (is_full store) (box_at store c.name) comes.no_make
+    same : (serial : ℕ) → worked 0 ≡ worked serial
+    same serial = same_work c.name c.work 0 serial (is_full store) (is_full store) (box_at store c.name) comes.no_make
 
     abbrev left : Left
     left = (worked 0).left
@@ -132,9 +131,7 @@ module _ (murder : Murder) (given : Given) (store : Store) (c : ClientCommand) (
     later = store_after store c.name left
 
     still : HaveAlike later step.home c.name
-    still =
-        subst (λ (w : Worked). HaveAlike (store_after store c.name w.left) step.home c.name) (same 0)
-        (alike_after (store_after store c.name (worked_at store c.name c.work (home.last_serial + 1)).left) step.home c.name serves.still)
+    still = alike_after later step.home c.name serves.still
 
     -- what the backend has after the step
     store_with_it : IsStoreWith store later (node_takes node from (Ask ask)).state.home ask.name
@@ -162,7 +159,7 @@ module _ (murder : Murder) (given : Given) (store : Store) (c : ClientCommand) (
       then_holds = serves_keeps_many murder given store later name node from ask comes.holds comes.there comes.other serving store_with_it;
       carries = λ serial. record {
         free = may_work store c.name serial c.work comes.no_make;
-        later_is = ap (λ (w : Worked). store_after store c.name w.left) (sym (same 0) ∙ same serial);
+        later_is = ap (λ (w : Worked). store_after store c.name w.left) (same serial);
         stays = λ h. ap (λ (w : Worked). w.left) (sym (same serial)) ∙ serves.unless h;
       };
       told = λ master serial. body_done c master serves.body (turn_at store c.name c.work serial)

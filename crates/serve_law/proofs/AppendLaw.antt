@@ -10,7 +10,6 @@ use Rattle.mail_store.specs.Append.{appended, append_fault}
 use Rattle.mail_store.specs.declared.fault.StoreFault.{StoreFault}
 use Rattle.mur_model.specs.Needed.{Append as append_work}
 use Rattle.mur_model.specs.declared.store.Store.{Store}
-use Rattle.mur_model.specs.Act.{MayWork}
 use Rattle.mur_model.specs.Append.{append_on, append_to as append_to_box}
 use Rattle.mur_model.specs.Left.{store_after}
 use Rattle.session_core.specs.Append.{reply_to_append, reply_to_appended, reply_to_uids}
@@ -18,7 +17,7 @@ use Rattle.mur_model.specs.Asking.{asked_for}
 use Rattle.session_core.specs.Finish.{turn_of}
 use Rattle.session_core.specs.Results.{result_of, turn_by}
 use Rattle.backend_core.specs.OpenBox.{open_content}
-use Rattle.serve_law.proofs.HomeStore.{IsAtHome, opened, changed_alike, changed_gives, kept_alike, kept_gives}
+use Rattle.serve_law.proofs.HomeStore.{IsAtHome, opened, changed_alike, kept_alike}
 use Rattle.serve_law.proofs.ServedAlike.{ServesAlike, apart, not_refused}
 
 abbrev pub AppendsAlike : Store → Backend → List ℕ → Message → Option Held → Type 0
@@ -34,23 +33,19 @@ fault_by : (store : Store) (home : Backend) (name : List ℕ) (message : Message
           Some (append_within_limits held.content (message ∷ []) fault).response.body;
       counts = (append_within_limits held.content (message ∷ []) fault).response.counts;
     })
-unfolding append_within_limits append_to_box store_after asked_for turn_by result_of turn_of reply_to_append reply_to_appended reply_to_uids MayWork
+unfolding append_within_limits append_to_box store_after asked_for turn_by result_of turn_of reply_to_append reply_to_appended reply_to_uids
 fault_by store home name message held (Some fault) is = record {
-  free = tt;
   body = _;
   is_body = refl;
   shown = λ session own. refl;
   still = kept_alike store home name held is;
-  gives = kept_gives store home name held held.content;
   unless = λ _. refl;
 }
 fault_by store home name message held None is = record {
-  free = tt;
   body = _;
   is_body = refl;
   shown = λ session own. refl;
   still = changed_alike store home name held (appended held.content (message ∷ [])) is;
-  gives = changed_gives store home name held (appended held.content (message ∷ [])) (appended held.content (message ∷ []));
   unless = λ h. absurd (apart h);
 }
 

@@ -1,5 +1,5 @@
 -- A home answers that an operation on messages was done only where the name is open, and just those steps count always.
-use Rattle.std.proofs.Common.{◌≡◌, ◌≢◌, ℕ, Bool, true, false, List, Option, None, Some, refl, sym, subst}
+use Rattle.std.proofs.Common.{◌≡◌, ℕ, Bool, true, false, List, Option, None, Some, refl, sym, subst}
 use Rattle.backend_core.specs.Append.{append_step, append_within_limits}
 use Rattle.backend_core.specs.Expunge.{expunge_step, expunge_to}
 use Rattle.backend_core.specs.Flags.{flags_step, flags_to, flags_unless}
@@ -15,7 +15,7 @@ use Rattle.backend_core.specs.Summaries.{summaries_at, summaries_step, summaries
 use Rattle.backend_core.specs.declared.backend.Backend.{Backend}
 use Rattle.backend_core.specs.declared.response.Response.{Response}
 use Rattle.imap_types.specs.declared.op.Op.{Op}
-use Rattle.imap_types.specs.declared.op.Op.TheVariants.{Look, Read, Summaries, Flags, Expunge, Append, Create}
+use Rattle.imap_types.specs.declared.op.Op.TheVariants.{Look, Read, Summaries, Flags, Expunge, Append}
 use Rattle.link_msg.specs.declared.ask.FrontAsk.{FrontAsk}
 use Rattle.link_msg.specs.declared.counts.Counts.TheVariants.{Always, IfAnswered}
 use Rattle.link_msg.specs.declared.outcome.Outcome.{Outcome}
@@ -107,25 +107,24 @@ unfolding summaries_step summaries_at refusal IsDone
 summaries_done home selected uids None = record { only_open = λ h. absurd h; counted = λ h. absurd h; only_done = λ h. absurd (apart h) }
 summaries_done home selected uids (Some held) = summary_done home uids held held.phase (is_other selected held.content) refl
 
-op_done : (home : Backend) (ask : FrontAsk) (op : Op) → op ≢ Create → IsDoneWhereOpen (held_at home ask.name) (op_step home ask op)
+op_done : (home : Backend) (ask : FrontAsk) (op : Op) → IsDoneWhereOpen (held_at home ask.name) (op_step home ask op)
 unfolding op_step append_step read_step flags_step expunge_step IsDone
-op_done home ask Create ne = absurd (ne refl)
-op_done home ask (Append messages) ne =
+op_done home ask (Append messages) =
     served_done home ask.name ask.selected (λ content. append_within_limits content messages (append_fault content messages)) (held_at home ask.name)
     (λ content. did_append content messages (append_fault content messages))
-op_done home ask (Read uids sees) ne =
+op_done home ask (Read uids sees) =
     served_done home ask.name ask.selected (λ content. read_to content uids sees) (held_at home ask.name)
     (λ content. record { outcome = _; seen = _; is = refl })
-op_done home ask (Flags uids mode flags) ne =
+op_done home ask (Flags uids mode flags) =
     served_done home ask.name ask.selected (λ content. flags_to content uids mode flags) (held_at home ask.name)
     (λ content. did_flags content uids mode flags (has_too_many_flags (rows_stored content uids mode flags)))
-op_done home ask (Expunge only) ne =
+op_done home ask (Expunge only) =
     served_done home ask.name ask.selected (λ content. expunge_to content only) (held_at home ask.name)
     (λ content. record { outcome = _; seen = _; is = refl })
-op_done home ask Look ne = looks_done home ask.selected (held_at home ask.name)
-op_done home ask (Summaries uids) ne = summaries_done home ask.selected uids (held_at home ask.name)
-op_done home ask op ne = record { only_open = λ h. absurd h; counted = λ h. absurd h; only_done = λ h. absurd (apart h) }
+op_done home ask Look = looks_done home ask.selected (held_at home ask.name)
+op_done home ask (Summaries uids) = summaries_done home ask.selected uids (held_at home ask.name)
+op_done home ask op = record { only_open = λ h. absurd h; counted = λ h. absurd h; only_done = λ h. absurd (apart h) }
 
-pub done_where_open : (home : Backend) (ask : FrontAsk) → ask.op ≢ Create → IsDoneWhereOpen (held_at home ask.name) (home_step home ask)
+pub done_where_open : (home : Backend) (ask : FrontAsk) → IsDoneWhereOpen (held_at home ask.name) (home_step home ask)
 unfolding home_step
-done_where_open home ask ne = op_done home ask ask.op ne
+done_where_open home ask = op_done home ask ask.op

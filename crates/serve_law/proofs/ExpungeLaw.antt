@@ -12,7 +12,7 @@ use Rattle.mur_model.specs.Viewing.{work_there}
 use Rattle.session_core.specs.Finish.{turn_of}
 use Rattle.session_core.specs.Results.{result_of, turn_by}
 use Rattle.session_core.specs.Viewed.{viewed_done, viewed_in, viewed_told, viewed_turn}
-use Rattle.serve_law.proofs.HomeStore.{IsAtHome, changed_alike, changed_gives}
+use Rattle.serve_law.proofs.HomeStore.{IsAtHome, changed_alike}
 use Rattle.serve_law.proofs.ServedAlike.{apart}
 use Rattle.serve_law.proofs.ViewedAlike.{DoesAlike, operates, ViewsAlike}
 
@@ -22,7 +22,6 @@ unfolding turn_by result_of turn_of viewed_in viewed_turn viewed_told viewed_don
 expunges store home name view only held at = record {
   shown = refl;
   still = changed_alike store home name held (expunged held.content only) at;
-  gives = changed_gives store home name held (expunged held.content only) (expunged held.content only);
   unless = λ h. absurd (apart h);
 }
 

@@ -28,7 +28,7 @@ use Rattle.session_core.specs.Finish.{turn_of}
 use Rattle.session_core.specs.Results.{result_of, turn_by}
 use Rattle.session_core.specs.Viewed.{viewed_done, viewed_in, viewed_told, viewed_turn}
 use Rattle.backend_core.specs.OpenBox.{open_content}
-use Rattle.serve_law.proofs.HomeStore.{IsAtHome, changed_alike, changed_gives, kept_alike, kept_gives}
+use Rattle.serve_law.proofs.HomeStore.{IsAtHome, changed_alike, kept_alike}
 use Rattle.serve_law.proofs.ServedAlike.{ServesAlike, apart}
 use Rattle.serve_law.proofs.ViewedAlike.{AnswersAlike, operates, LooksAlike, looks_alike, SummariesAlike, summaries_alike, ViewsAlike}
 use Rattle.backend_core.specs.Step.{op_step}
@@ -43,13 +43,11 @@ unfolding turn_by result_of turn_of viewed_in viewed_turn viewed_told viewed_don
 reads_by store home name view it held true s at = rw s (record {
   shown = refl;
   still = changed_alike store home name held (read_in held.content it.uids true) at;
-  gives = changed_gives store home name held (read_in held.content it.uids true) (read_in held.content it.uids true);
   unless = λ h. absurd (apart h);
 })
 reads_by store home name view it held false s at = rw s (record {
   shown = refl;
   still = kept_alike store home name held at;
-  gives = kept_gives store home name held held.content;
   unless = λ _. refl;
 })
 

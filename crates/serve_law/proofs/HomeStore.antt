@@ -1,19 +1,13 @@
--- What a home has of a name, beside what the store has of it; and the UIDVALIDITYs that were given.
-use Rattle.std.proofs.Common.{◌≡◌, ℕ, ◌≤◌, List, length, Some, arith, ◌≢◌, None, refl, ◌∙◌}
-use Rattle.std.specs.Prelude.{All}
-use Rattle.std.proofs.lemmas.List.Elements.{All-weaker}
-use Rattle.std.proofs.lemmas.Map.{length-set_value}
-use Rattle.std.specs.BTreeMap.{is_at}
+-- What a home has of a name, beside what the store has of it.
+use Rattle.std.proofs.Common.{◌≡◌, ℕ, List, Some, ◌≢◌, None, refl}
 use Rattle.backend_core.specs.declared.backend.Backend.{Backend}
 use Rattle.node_record.specs.declared.held.Held.{Held}
 use Rattle.backend_core.specs.HomeStep.{held_at, with_content}
 use Rattle.mur_base.specs.declared.home.Phase.TheVariants.{Open as open_here}
-use Rattle.mur_model.specs.declared.store.Pair.{Pair}
 use Rattle.mur_model.specs.declared.store.Store.{Store}
 use Rattle.mur_model.specs.Left.{Left, kept, made, changed, store_after}
 use Rattle.mur_model.specs.Store.{box_at, with_box}
 use Rattle.backend_core.specs.OpenBox.{open_content, open_box}
-use Rattle.store_law.specs.Serials.{GivesLowSerials}
 use Rattle.std.specs.Ordering.{nat_cmp}
 use Rattle.std.specs.Cmp.Lexicographic.{slice_cmp}
 use Rattle.mail_message.specs.Boxes.{Content}
@@ -30,40 +24,9 @@ pub data IsStoreOf (store : Store) (home : Backend) (name : List ℕ) : Type 0 w
   is_missing : box_at store name ≡ None → held_at home name ≡ None → IsStoreOf store home name
   is_there : (held : Held) → IsAtHome store home name held → IsStoreOf store home name
 
--- of the UIDVALIDITYs that the store gave the home's last is the greatest, and says how many; each was given to a mailbox that is still there, at both
-pub record AreSerialsTo (store : Store) (home : Backend) : Type 0 where
-  pub serials : All (λ (pair : Pair). pair.serial ≤ home.last_serial) store.given
-  pub counted : home.last_serial ≡ length store.given
-  pub boxes : length store.boxes ≡ length store.given
-  pub held : length home.held ≡ length store.given
-
 pub opened : (held : Held) (content : Content) → held.phase ≡ open_here → open_content (Some (record held { content = content })) ≡ Some content
 unfolding open_box
 opened held content e = rw e refl
-
-pub low_serials : (store : Store) (home : Backend) → AreSerialsTo store home → GivesLowSerials store
-low_serials store home are =
-    All-weaker (λ (pair : Pair). pair.serial ≤ home.last_serial) (λ (pair : Pair). pair.serial ≤ length store.given)
-    (λ pair h. omega (arith, h, are.counted)) store.given are.serials
-
--- another content of a mailbox makes none
-pub changed_gives : (store : Store) (home : Backend) (name : List ℕ) (held : Held) (content other : Content) → AreSerialsTo store home
-    → AreSerialsTo (with_box store name content) (with_content home name held other)
-changed_gives store home name held content other are = record {
-  serials = are.serials;
-  counted = are.counted;
-  boxes = length-set_value (is_at (slice_cmp nat_cmp name)) store.boxes content ∙ are.boxes;
-  held = length-set_value (is_at (slice_cmp nat_cmp name)) home.held (record held { content = other }) ∙ are.held;
-}
-
-pub kept_gives : (store : Store) (home : Backend) (name : List ℕ) (held : Held) (other : Content) → AreSerialsTo store home
-    → AreSerialsTo store (with_content home name held other)
-kept_gives store home name held other are = record {
-  serials = are.serials;
-  counted = are.counted;
-  boxes = are.boxes;
-  held = length-set_value (is_at (slice_cmp nat_cmp name)) home.held (record held { content = other }) ∙ are.held;
-}
 
 -- another content at home and in the store
 pub changed_alike : (store : Store) (home : Backend) (name : List ℕ) (held : Held) (content : Content) → IsAtHome store home name held

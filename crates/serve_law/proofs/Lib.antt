@@ -1,6 +1,5 @@
 pub mod HomeStore
 pub mod ServedAlike
-pub mod CreateLaw
 pub mod AppendLaw
 pub mod StatusLaw
 pub mod SelectLaw

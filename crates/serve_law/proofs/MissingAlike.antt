@@ -1,6 +1,6 @@
 -- A name that the store hasn't is one that its home hasn't: the home's NotNow is told as the store replies, and both stay as they were. A line a
 -- command.
-use Rattle.std.proofs.Common.{◌≡◌, ◌≢◌, ℕ, ◌+◌, Bool, true, false, List, [], ◌∷◌, None, Some, refl, sym, ◌∙◌, ap, subst}
+use Rattle.std.proofs.Common.{◌≡◌, ◌≢◌, ℕ, Bool, true, false, List, [], ◌∷◌, None, Some, refl, sym, ◌∙◌, ap, subst}
 use Rattle.backend_core.specs.declared.backend.Backend.{Backend}
 use Rattle.backend_core.specs.Append.{append_step}
 use Rattle.backend_core.specs.Expunge.{expunge_step}
@@ -14,7 +14,7 @@ use Rattle.backend_core.specs.Step.{home_step, op_step}
 use Rattle.backend_core.specs.Summaries.{summaries_at, summaries_step}
 use Rattle.link_msg.specs.declared.answer.AnswerBody.TheVariants.{NotNow}
 use Rattle.link_msg.specs.declared.ask.FrontAsk.{FrontAsk}
-use Rattle.mur_model.specs.Act.{MayWork, work_on}
+use Rattle.mur_model.specs.Act.{work_on}
 use Rattle.mur_model.specs.Append.{append_on}
 use Rattle.mur_model.specs.Asking.{asked_for, fetch_op, search_op, view_op}
 use Rattle.mur_model.specs.Fetch.{sees}
@@ -42,7 +42,7 @@ use Rattle.session_core.specs.Results.{result_of, turn_by}
 use Rattle.session_core.specs.Select.{select_turn}
 use Rattle.session_core.specs.Status.{reply_to_status}
 use Rattle.session_core.specs.Viewed.{viewed_in, viewed_turn}
-use Rattle.serve_law.proofs.HomeStore.{AreSerialsTo, IsStoreOf}
+use Rattle.serve_law.proofs.HomeStore.{IsStoreOf}
 use Rattle.serve_law.proofs.HomeStore.IsStoreOf.{is_missing}
 use Rattle.serve_law.proofs.ServedAlike.{ServesAlike}
 
@@ -81,36 +81,32 @@ work_lacks home ask name (select_work it) ne none = ap (look_step home ask.selec
 work_lacks home ask name (viewed_work view it) ne none = view_lacks home ask view it none
 
 -- what the store does with a name that it hasn't
-pub record IsMissed (store : Store) (name : List ℕ) (work : Work) (serial : ℕ) (worked : Worked) : Type 0 where
-  pub free : MayWork store name serial work
+pub record IsMissed (name : List ℕ) (work : Work) (worked : Worked) : Type 0 where
   pub stays : worked.left ≡ kept
   pub shown : (session : Sess) → IsOfWork session work → turn_of session (asked_for name work).awaited Missing ≡ Some worked.turn
 
-pub misses : (store : Store) (name : List ℕ) (work : Work) (serial : ℕ) (full : Bool) → work ≢ Make
-    → IsMissed store name work serial (work_on name work serial full None)
-unfolding work_on MayWork asked_for turn_of append_on reply_to_append status_on reply_to_status select_on select_turn viewed_on viewed_in viewed_turn IsOfWork
-misses store name Make serial full ne = absurd (ne refl)
-misses store name (append_work message) serial full ne = record { free = tt; stays = refl; shown = λ session own. refl }
-misses store name (status_work shown items) serial full ne = record { free = tt; stays = refl; shown = λ session own. refl }
-misses store name (select_work it) serial full ne = record { free = tt; stays = refl; shown = λ session own. refl }
-misses store name (viewed_work view it) serial full ne = record { free = tt; stays = refl; shown = λ session own. ap (λ s. viewed_in s it Missing) own }
+pub misses : (name : List ℕ) (work : Work) (serial : ℕ) (full : Bool) → work ≢ Make
+    → IsMissed name work (work_on name work serial full None)
+unfolding work_on asked_for turn_of append_on reply_to_append status_on reply_to_status select_on select_turn viewed_on viewed_in viewed_turn IsOfWork
+misses name Make serial full ne = absurd (ne refl)
+misses name (append_work message) serial full ne = record { stays = refl; shown = λ session own. refl }
+misses name (status_work shown items) serial full ne = record { stays = refl; shown = λ session own. refl }
+misses name (select_work it) serial full ne = record { stays = refl; shown = λ session own. refl }
+misses name (viewed_work view it) serial full ne = record { stays = refl; shown = λ session own. ap (λ s. viewed_in s it Missing) own }
 
-pub misses_alike : (store : Store) (home : Backend) (ask : FrontAsk) (work : Work) (full : Bool) → work ≢ Make → ask.op ≡ (asked_for ask.name work).op
+pub misses_alike : (store : Store) (home : Backend) (ask : FrontAsk) (work : Work) (serial : ℕ) (full : Bool) → work ≢ Make → ask.op ≡ (asked_for ask.name work).op
     → box_at store ask.name ≡ None → held_at home ask.name ≡ None
-    → ServesAlike store home ask.name work (work_on ask.name work (home.last_serial + 1) full None) (home_step home ask)
+    → ServesAlike store home ask.name work (work_on ask.name work serial full None) (home_step home ask)
 unfolding home_step store_after turn_by result_of
-misses_alike store home ask work full ne op box none =
+misses_alike store home ask work serial full ne op box none =
     let name : List ℕ = ask.name in
-    let is = misses store name work (home.last_serial + 1) full ne in
-    subst (λ s. ServesAlike store home name work (work_on name work (home.last_serial + 1) full None) s)
+    let is = misses name work serial full ne in
+    subst (λ s. ServesAlike store home name work (work_on name work serial full None) s)
     (sym (ap (op_step home ask) op ∙ work_lacks home ask name work ne none))
     (record {
-      free = is.free;
       body = NotNow;
       is_body = refl;
       shown = is.shown;
       still = subst (λ l. IsStoreOf (store_after store name l) home name) (sym is.stays) (is_missing box none);
-      gives = subst (λ l. AreSerialsTo store home → AreSerialsTo (store_after store name l) home) (sym is.stays)
-          (λ given. given);
       unless = λ _. is.stays;
     })

@@ -10,7 +10,6 @@ use Rattle.mail_message.specs.Boxes.{snapshot_of}
 use Rattle.mur_model.specs.Needed.{Select as select_work}
 use Rattle.mur_model.specs.declared.commands.select.Opening.{Opening}
 use Rattle.mur_model.specs.declared.store.Store.{Store}
-use Rattle.mur_model.specs.Act.{MayWork}
 use Rattle.mur_model.specs.Left.{store_after}
 use Rattle.mur_model.specs.Select.{select_on}
 use Rattle.mur_model.specs.Asking.{asked_for}
@@ -28,14 +27,12 @@ SelectsAlike store home name it found =
 
 seen : (store : Store) (home : Backend) (name : List ℕ) (it : Opening) (held : Held) → IsAtHome store home name held
     → ServesAlike store home name (select_work it) (select_on it name (Some held.content)) (answers home (done nothing (snapshot_of held.content)))
-unfolding select_on store_after asked_for turn_by result_of turn_of select_turn select_done MayWork
+unfolding select_on store_after asked_for turn_by result_of turn_of select_turn select_done
 seen store home name it held is = record {
-  free = tt;
   body = _;
   is_body = refl;
   shown = λ session own. refl;
   still = is_there held is;
-  gives = λ given. given;
   unless = λ h. absurd (apart h);
 }
 

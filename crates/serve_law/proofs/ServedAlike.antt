@@ -1,5 +1,5 @@
 -- What a home answers and leaves is what the one store replies and leaves, for work at a mailbox.
-use Rattle.std.proofs.Common.{◌≡◌, ℕ, ◌+◌, List, Some, None, refl, ap}
+use Rattle.std.proofs.Common.{◌≡◌, ℕ, List, Some, None, refl, ap}
 use Rattle.backend_core.specs.declared.backend.Backend.{Backend}
 use Rattle.node_record.specs.declared.held.Held.{Held}
 use Rattle.backend_core.specs.HomeStep.{HomeStep, answers}
@@ -9,7 +9,6 @@ use Rattle.mur_base.specs.declared.home.Phase.TheVariants.{Open as open_here}
 use Rattle.mur_model.specs.Needed.{Work}
 use Rattle.mur_model.specs.declared.session.Sess.{Sess}
 use Rattle.mur_model.specs.declared.store.Store.{Store}
-use Rattle.mur_model.specs.Act.{MayWork}
 use Rattle.mur_model.specs.Left.{Worked, store_after, kept}
 use Rattle.mur_model.specs.Asking.{asked_for}
 use Rattle.mur_model.proofs.OwnView.{IsOfWork}
@@ -19,19 +18,17 @@ use Rattle.mail_message.specs.Boxes.{snapshot_of}
 use Rattle.backend_core.specs.Look.{look_step, look_at, look_unless}
 use Rattle.backend_core.specs.Response.{done}
 use Rattle.link_msg.specs.declared.outcome.Outcome.TheVariants.{None as nothing}
-use Rattle.serve_law.proofs.HomeStore.{AreSerialsTo, IsStoreOf}
+use Rattle.serve_law.proofs.HomeStore.{IsStoreOf}
 
 pub apart : Always ≡ IfAnswered → ⊥
 apart h = cc
 
 -- work at a mailbox on both sides
 pub record ServesAlike (store : Store) (home : Backend) (name : List ℕ) (work : Work) (worked : Worked) (step : HomeStep) : Type 0 where
-  pub free : MayWork store name (home.last_serial + 1) work
   pub body : AnswerBody
   pub is_body : step.body ≡ Some body
   pub shown : (session : Sess) → IsOfWork session work → turn_behind session (asked_for name work).awaited body ≡ Some worked.turn
   pub still : IsStoreOf (store_after store name worked.left) step.home name
-  pub gives : AreSerialsTo store home → AreSerialsTo (store_after store name worked.left) step.home
   pub unless : step.counts ≡ IfAnswered → worked.left ≡ kept
 
 -- a home serves a mailbox that is open to a session without one selected

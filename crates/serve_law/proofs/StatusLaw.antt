@@ -10,7 +10,6 @@ use Rattle.mail_message.specs.Boxes.{snapshot_of}
 use Rattle.imap_types.specs.declared.command.StatusItem.{StatusItem}
 use Rattle.mur_model.specs.Needed.{Status as status_work}
 use Rattle.mur_model.specs.declared.store.Store.{Store}
-use Rattle.mur_model.specs.Act.{MayWork}
 use Rattle.mur_model.specs.Left.{store_after}
 use Rattle.mur_model.specs.Status.{status_on}
 use Rattle.mur_model.specs.Asking.{asked_for}
@@ -29,14 +28,12 @@ LooksAlike store home name shown items found =
 seen : (store : Store) (home : Backend) (name shown : List ℕ) (items : List StatusItem) (held : Held) → IsAtHome store home name held
     → ServesAlike store home name (status_work shown items) (status_on shown items (Some held.content))
     (answers home (done nothing (snapshot_of held.content)))
-unfolding status_on store_after asked_for turn_by result_of turn_of reply_to_status reply_to_counted MayWork
+unfolding status_on store_after asked_for turn_by result_of turn_of reply_to_status reply_to_counted
 seen store home name shown items held is = record {
-  free = tt;
   body = _;
   is_body = refl;
   shown = λ session own. refl;
   still = is_there held is;
-  gives = λ given. given;
   unless = λ h. absurd (apart h);
 }
 

@@ -15,7 +15,7 @@ use Rattle.mur_model.specs.Viewing.{work_there}
 use Rattle.session_core.specs.Finish.{turn_of}
 use Rattle.session_core.specs.Results.{result_of, turn_by}
 use Rattle.session_core.specs.Viewed.{viewed_done, viewed_in, viewed_told, viewed_turn}
-use Rattle.serve_law.proofs.HomeStore.{IsAtHome, changed_alike, changed_gives, kept_alike, kept_gives}
+use Rattle.serve_law.proofs.HomeStore.{IsAtHome, changed_alike, kept_alike}
 use Rattle.serve_law.proofs.ServedAlike.{apart}
 use Rattle.serve_law.proofs.ViewedAlike.{AnswersAlike, operates, ViewsAlike}
 
@@ -28,13 +28,11 @@ unfolding turn_by result_of turn_of viewed_in viewed_turn viewed_told viewed_don
 stores_by store home name view it held true at = record {
   shown = refl;
   still = kept_alike store home name held at;
-  gives = kept_gives store home name held held.content;
   unless = λ _. refl;
 }
 stores_by store home name view it held false at = record {
   shown = refl;
   still = changed_alike store home name held (stored held.content it.uids it.mode it.flags) at;
-  gives = changed_gives store home name held (stored held.content it.uids it.mode it.flags) (stored held.content it.uids it.mode it.flags);
   unless = λ h. absurd (apart h);
 }
 

@@ -20,7 +20,6 @@ use Rattle.mur_model.specs.Needed.{Viewed as viewed_work}
 use Rattle.mur_model.specs.declared.session.Turn.{Turn}
 use Rattle.mur_model.specs.declared.store.Store.{Store}
 use Rattle.mur_model.specs.declared.view.View.{View}
-use Rattle.mur_model.specs.Act.{MayWork}
 use Rattle.mur_model.specs.Left.{Worked, store_after, kept}
 use Rattle.mur_model.specs.Selected.{gone}
 use Rattle.mur_model.specs.Viewing.{found_gone, viewed_on, work_there}
@@ -32,7 +31,7 @@ use Rattle.session_core.specs.Finish.{turn_of}
 use Rattle.session_core.specs.Results.{result_of, turn_by, turn_behind}
 use Rattle.session_core.specs.Viewed.{viewed_done, viewed_in, viewed_told, viewed_turn}
 use Rattle.backend_core.specs.OpenBox.{open_content}
-use Rattle.serve_law.proofs.HomeStore.{AreSerialsTo, IsAtHome, IsStoreOf, opened}
+use Rattle.serve_law.proofs.HomeStore.{IsAtHome, IsStoreOf, opened}
 use Rattle.serve_law.proofs.HomeStore.IsStoreOf.{is_there}
 use Rattle.serve_law.proofs.ServedAlike.{ServesAlike}
 
@@ -43,20 +42,17 @@ pub record AnswersAlike (store : Store) (home : Backend) (name : List ℕ) (view
     : Type 0 where
   pub shown : turn_behind (Selected view) (Viewed it) response.body ≡ Some worked.turn
   pub still : IsStoreOf (store_after store name worked.left) behind name
-  pub gives : AreSerialsTo store home → AreSerialsTo (store_after store name worked.left) behind
   pub unless : response.counts ≡ IfAnswered → worked.left ≡ kept
 
 serves_as : (store : Store) (home : Backend) (name : List ℕ) (view : View) (it : ViewWork) (worked : Worked) (behind : Backend) (response : Response)
     → AnswersAlike store home name view it worked behind response
     → ServesAlike store home name (viewed_work view it) worked (answers behind response)
-unfolding asked_for IsOfWork MayWork
+unfolding asked_for IsOfWork
 serves_as store home name view it worked behind response same = record {
-  free = tt;
   body = response.body;
   is_body = refl;
   shown = λ session own. ap (λ s. turn_behind s (Viewed it) response.body) own ∙ same.shown;
   still = same.still;
-  gives = same.gives;
   unless = same.unless;
 }
 
@@ -70,7 +66,7 @@ another : (store : Store) (home : Backend) (name : List ℕ) (view : View) (it :
 unfolding store_after
 another store home name view it held is =
     serves_as store home name view it found_gone home (done gone_there no_snapshot)
-    (record { shown = tells_gone view it; still = is_there held is; gives = λ given. given; unless = λ _. refl })
+    (record { shown = tells_gone view it; still = is_there held is; unless = λ _. refl })
 
 -- ---- by the UIDVALIDITY
 
@@ -143,7 +139,7 @@ unfolding turn_by result_of turn_of viewed_in viewed_turn store_after
 tells_of store home name view it held outcome turn is shown at =
     subst (λ w. ServesAlike store home name (viewed_work view it) w (answers home (done outcome (snapshot_of held.content)))) (sym is)
     (serves_as store home name view it (record { left = kept; turn = turn }) home (done outcome (snapshot_of held.content))
-    (record { shown = shown; still = is_there held at; gives = λ given. given; unless = λ _. refl }))
+    (record { shown = shown; still = is_there held at; unless = λ _. refl }))
 
 abbrev pub LooksAlike : View → ViewWork → Type 0
 LooksAlike view it =

@@ -1,5 +1,5 @@
 -- What a session makes of the answer of a mailbox's home is what one store replies that has the same mailbox (RFC 9051, 6).
-use Rattle.std.specs.Prelude.{◌≡◌, ◌≤◌, List, ℕ, length, None, Some, All}
+use Rattle.std.specs.Prelude.{◌≡◌, List, ℕ, None, Some}
 use Rattle.backend_core.specs.declared.backend.Backend.{Backend}
 use Rattle.backend_core.specs.HomeStep.{HomeStep, held_at}
 use Rattle.imap_types.specs.declared.reply.Reply.{Reply as ReplyOf}
@@ -15,7 +15,6 @@ use Rattle.mur_model.specs.declared.need.Need.{Need}
 use Rattle.mur_model.specs.declared.need.Need.TheVariants.{Reply, Leave}
 use Rattle.mur_model.specs.declared.session.Sess.{Sess}
 use Rattle.mur_model.specs.declared.session.Sess.TheVariants.{Ended}
-use Rattle.mur_model.specs.declared.store.Pair.{Pair}
 use Rattle.mur_model.specs.declared.store.Store.{Store}
 use Rattle.node_record.specs.declared.held.Held.{Held}
 use Rattle.session_core.specs.Finish.{Finished, finish}
@@ -26,13 +25,6 @@ use Rattle.session_core.specs.declared.result.OpResult.{OpResult}
 pub data HaveAlike (store : Store) (home : Backend) (name : List ℕ) : Type 0 where
   neither : box_at store name ≡ None → held_at home name ≡ None → HaveAlike store home name
   both : (held : Held) → held_at home name ≡ Some held → held.phase ≡ open_here → box_at store name ≡ Some held.content → HaveAlike store home name
-
--- the home gave the UIDVALIDITYs that the store gave: as many, and none above its last one; and both have as many mailboxes as were given one
-pub record GaveThose (store : Store) (home : Backend) : Type 0 where
-  pub at_most : All (λ (pair : Pair). pair.serial ≤ home.last_serial) store.given
-  pub counted : home.last_serial ≡ length store.given
-  pub boxes : length store.boxes ≡ length store.given
-  pub held : length home.held ≡ length store.given
 
 -- a frontend's ask for what a session asked
 abbrev pub ask_of : AskId → List ℕ → List ℕ → Asking → FrontAsk

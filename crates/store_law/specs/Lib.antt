@@ -1,7 +1,6 @@
 pub mod NoneLost
 pub mod Appended
 pub mod Begun
-pub mod Serials
 pub mod Refusals
 pub mod OthersUnseen
 pub mod FlagByFlag

@@ -9,7 +9,6 @@ use Rattle.back_node.specs.Node.{is_my_master}
 use Rattle.back_node.specs.Takes.{UpToEntry, answer_out, ask_by, line_by, line_out, name_ask, name_kind, node_takes, passed_over, taken_up, talks}
 use Rattle.back_node.proofs.AtHome.{done_by}
 use Rattle.backend_core.specs.declared.backend.Backend.{Backend}
-use Rattle.backend_core.specs.declared.input.BackInput.TheVariants.{FromFront}
 use Rattle.backend_core.specs.declared.plan.Owed.{Owed}
 use Rattle.backend_core.specs.HomeLaws.{is_open_here}
 use Rattle.backend_core.specs.Plan.{answer_outs as plan_outs, back_plan, owed_outs}
@@ -123,7 +122,7 @@ module _ (node : BackNode) (from : List ℕ) where
 
   ask_gives : (ask : FrontAsk) (kind : Option AskKind) → GivesNone (done_by (ask_by node from ask kind))
   ask_gives ask (Some kind) = talk_gives node (asked_step node.flows node.home.held (name_ask from ask kind))
-  ask_gives ask None = λ clients. owed_gives clients _ (back_plan node.home (FromFront from ask)).owed
+  ask_gives ask None = λ clients. owed_gives clients _ (back_plan node.home from ask).owed
 
   pub gives_none : (message : LinkMsg) → GivesNone (node_takes node from message)
   unfolding taken_up

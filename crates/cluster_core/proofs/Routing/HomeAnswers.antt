@@ -15,7 +15,6 @@ use Rattle.backend_core.specs.Step.{home_step}
 use Rattle.cluster_core.specs.Headline.Backends.{IsBackend}
 use Rattle.cluster_core.specs.Headline.Outside.{table_by, table_at}
 use Rattle.imap_talk.specs.Heard.{Heard}
-use Rattle.imap_types.specs.declared.op.Op.{Op}
 use Rattle.imap_types.specs.declared.op.Op.TheVariants.{Create}
 use Rattle.link_msg.specs.declared.answer.AnswerBody.{AnswerBody}
 use Rattle.link_msg.specs.declared.answer.AnswerBody.TheVariants as answer
@@ -99,16 +98,13 @@ op_is : (c : ClientCommand) → c.work ≡ Make → (its_ask c).op ≡ Create
 unfolding asked_for
 op_is c makes = ap (λ (a : Asking). a.op) c.asking_is ∙ ap (λ (w : Work). (asked_for c.name w).op) makes
 
-not_create : (op : Op) → is_of_messages op ≡ true → op ≢ Create
-not_create op of e = (let no : false ≡ true = sym (ap is_of_messages e) ∙ of in cc)
-
 not_done : (server : Option (List ℕ)) → says_done (elsewhere_by server) ≡ false
 unfolding says_done
 not_done None = refl
 not_done (Some server) = refl
 
-carried_out : (node : BackNode) (from : List ℕ) (ask : FrontAsk) → is_of_messages ask.op ≡ true → IsCarriedOut node from ask → AnswersSo node from ask true
-carried_out node from ask of carried =
+carried_out : (node : BackNode) (from : List ℕ) (ask : FrontAsk) → IsCarriedOut node from ask → AnswersSo node from ask true
+carried_out node from ask carried =
     let its = done_body (home_step node.home ask).body carried.done in
     record {
       body = its.body;
@@ -116,7 +112,7 @@ carried_out node from ask of carried =
       outs = carried.outs ∙ outs_of from ask (home_step node.home ask).counts (home_step node.home ask).body its.body its.is;
       so = record {
         done = its.done;
-        always = λ here. (done_where_open node.home ask (not_create ask.op of)).counted its.is_done;
+        always = λ here. (done_where_open node.home ask).counted its.is_done;
         only = λ here. (let no : true ≡ false = here in cc);
       };
     }
@@ -193,7 +189,7 @@ module _ (config : Config) (heard : ℕ → Heard) (world : World) (are : AreNod
 
   answers_by : (is_here : Bool) → is_open_here (held_at home.home ask.name) ≡ is_here → AnswersSo home from ask is_here
   answers_by true e =
-      carried_out home from ask messages
+      carried_out home from ask
       ((open_is_the_stores (murder_of world law.master) law.given law.story.course.store to home ask.name law.many tells.there e).served from ask refl messages)
   answers_by false e = sent_on home from ask messages e
 

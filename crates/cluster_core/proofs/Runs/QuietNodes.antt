@@ -14,7 +14,6 @@ use Rattle.back_node.specs.Node.{is_my_master}
 use Rattle.back_node.specs.Takes.{UpToEntry, answer_out, ask_by, line_by, line_out, name_ask, name_kind, node_takes, only_entry, passed_over, serves, talks, taken_up}
 use Rattle.back_node.proofs.OnlyEntry.{IsOfOpen, message_entries}
 use Rattle.backend_core.specs.declared.backend.Backend.{Backend}
-use Rattle.backend_core.specs.declared.input.BackInput.TheVariants.{FromFront}
 use Rattle.backend_core.specs.declared.op_plan.OpPlan.{OpPlan}
 use Rattle.backend_core.specs.declared.op_plan.Telling.{Telling}
 use Rattle.backend_core.specs.declared.op_plan.Telling.TheVariants as telling
@@ -242,7 +241,7 @@ only_none held [] none all = none
 only_none held (it ∷ entries) none all = absurd (not_in_none it (subst (λ h. IsOfOpen h it) none all.0))
 
 serves_quiet : (node : BackNode) (from : List ℕ) (ask : FrontAsk) → name_kind ask.op ≡ None → IsQuietTalk node.home.held node.flows
-    → BackIsQuiet (done_by (serves node (back_plan node.home (FromFront from ask))))
+    → BackIsQuiet (done_by (serves node (back_plan node.home from ask)))
 unfolding ask_plan
 serves_quiet node from ask none quiet =
     let plan = op_plan node.home ask ask.op in

@@ -1,16 +1,6 @@
-use Rattle.std.proofs.Common.{◌≡◌, sym, subst}
-use Rattle.std.specs.List.{AllByRecursion}
-use Rattle.std.proofs.lemmas.Result.{IfOk-weaker}
-use Rattle.node_record.specs.Held.{EntryLeavesNext}
-use Rattle.backend_core.specs.declared.input.BackInput.TheVariants.{FromFront}
-use Rattle.backend_core.specs.declared.plan.BackPlan.{BackPlan}
-use Rattle.backend_core.specs.Plan.{back_plan}
-use Rattle.backend_core.proofs.PlanNext.{next_planned}
+use Rattle.std.proofs.Common.{sym, ◌∙◌}
+use Rattle.backend_core.proofs.PlanNext.{next_found}
 use Rattle.backend_core.proofs.backend.Backend.plan.Goals as goal
 
-pub returns-in-FromFront-clause-next : goal.returns-in-FromFront-clause-next
-returns-in-FromFront-clause-next c =
-    let planned = next_planned c.args.self.now (FromFront c.in-FromFront.from c.in-FromFront.ask) in
-    IfOk-weaker c.owes.result (λ plan. plan ≡ back_plan c.args.self.now (FromFront c.in-FromFront.from c.in-FromFront.ask))
-    (λ plan. AllByRecursion EntryLeavesNext plan.entries)
-    (λ plan is. subst (λ (it : BackPlan). AllByRecursion EntryLeavesNext it.entries) (sym is) planned) c.owes.ensures
+pub returns-in-Some-clause-next : goal.returns-in-Some-clause-next
+returns-in-Some-clause-next c = next_found c.args.self.now c.args.ask c.in-Some.field-0 (sym c.in_ok-entries.ensures ∙ c.in-Some.is)
