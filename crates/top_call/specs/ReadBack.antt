@@ -19,6 +19,7 @@ use Rattle.node_record.specs.declared.table.Record.{Record}
 use Rattle.node_record.specs.declared.table.State.{State}
 use Rattle.node_record.specs.declared.table.State.TheVariants.{Bare, Kept, Active}
 use Rattle.schedule_text.specs.Text.{bytes_of}
+use Rattle.text_parts.specs.Locations.{bang}
 
 -- a word that is read as this number, which is one of 64 bits as the code's numbers are
 abbrev pub ReadsNumber : List ℕ → ℕ → Type 0
@@ -73,9 +74,6 @@ abbrev pub SaysState : State → List ℕ → Type 0
 SaysState (Bare serial) word = word ≡ codes "reserved"
 SaysState (Kept acl) word = word ≡ codes "reserved"
 SaysState (Active acl) word = word ≡ codes "active"
-
-abbrev pub bang : ℕ
-bang = 33
 
 -- a byte that ends neither a word nor the front of a place nor a line
 abbrev pub GoesOn : ℕ → Type 0
