@@ -1,5 +1,5 @@
 // Names of nodes, users and mailboxes: byte texts that are checked once, where they are made.
-ghost use Rattle.std.specs.Prelude.{◌≡◌, ℕ, List, Option};
+ghost use Rattle.std.specs.Prelude.{◌≡◌, ℕ, List, length, None, Option};
 ghost use Rattle.mur_base.specs.declared.name.NameFault.{NameFault};
 ghost use Rattle.mur_base.specs.Names.{IsReadAsName};
 
@@ -86,6 +86,14 @@ impl<R: NameRule> Name<R> {
         ensures { result.now ≡ self.now }
     {
         self.text.as_slice()
+    }
+
+    /// How many bytes the name has; whoever asks learns that it keeps its rule. It takes no memory.
+    pub fn len(&self) -> usize
+        ensures size { result ≡ length self.now }
+        ensures ruled { R.fault self.now ≡ None }
+    {
+        self.text.len()
     }
 }
 

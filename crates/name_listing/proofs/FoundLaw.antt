@@ -14,14 +14,8 @@ use Rattle.mur_base.proofs.MapLaws.{names_apart, same_or_other, value_at-with_en
 use Rattle.imap_types.specs.declared.reply.Attribute.{Attribute}
 use Rattle.imap_types.specs.declared.reply.Attribute.TheVariants.{None as no_attribute, NonExistent}
 use Rattle.name_listing.specs.Listing.{Lines, ends_in_percent, is_above, is_among, listed_as}
-use Rattle.name_listing.specs.Found.{with_mailbox, with_level, with_levels, levels_from}
+use Rattle.name_listing.specs.Found.{found_lines, with_mailbox, with_level, with_levels, levels_from}
 use Rattle.name_listing.proofs.Above.{same_text, other_text, levels_above}
-
--- what is found: mailboxes, and behind a '%' at the end the levels above mailboxes
-unfoldable pub found_lines : List ℕ → List (List ℕ) → Lines
-found_lines pattern names =
-    if ends_in_percent pattern then fold (with_levels pattern) (fold (with_mailbox pattern) [] names) names
-    else fold (with_mailbox pattern) [] names
 
 -- what is told of a name
 abbrev pub told : Lines → List ℕ → Option Attribute

@@ -12,8 +12,8 @@ use Rattle.mur_base.proofs.MapOrder.{with_entry-in_order}
 use Rattle.imap_types.specs.declared.reply.Attribute.{Attribute}
 use Rattle.imap_types.specs.declared.reply.Attribute.TheVariants.{None as no_attribute, NonExistent}
 use Rattle.name_listing.specs.Listing.{Lines, ends_in_percent, IsListing}
-use Rattle.name_listing.specs.Found.{with_mailbox, with_level, with_levels, levels_from}
-use Rattle.name_listing.proofs.FoundLaw.{found_lines, found_told}
+use Rattle.name_listing.specs.Found.{found_lines, with_mailbox, with_level, with_levels, levels_from}
+use Rattle.name_listing.proofs.FoundLaw.{found_told}
 
 abbrev Rises : Lines → Type 0
 Rises lines = IsInOrder (slice_cmp nat_cmp) lines
@@ -61,7 +61,13 @@ found_listing pattern names = record {
   told = found_told pattern names;
 }
 
--- the lines are the listing, where they are what is found
+-- the lines are what is found
+pub ok_found : (pattern : List ℕ) (names : List (List ℕ)) (found : Lines) → found ≡ found_lines pattern names
+    → (result : Result Lines Memory) → IfOk result (λ lines. lines ≡ found) → IfOk result (λ lines. lines ≡ found_lines pattern names)
+ok_found pattern names found all (Ok lines) same = same ∙ all
+ok_found pattern names found all (Err fault) same = tt
+
+-- so they are the listing
 pub ok_listing : (pattern : List ℕ) (names : List (List ℕ)) (found : Lines) → found ≡ found_lines pattern names
     → (result : Result Lines Memory) → IfOk result (λ lines. lines ≡ found) → IfOk result (λ lines. IsListing pattern names lines)
 ok_listing pattern names found all (Ok lines) same = subst (IsListing pattern names) (sym (same ∙ all)) (found_listing pattern names)

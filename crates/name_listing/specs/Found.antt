@@ -7,7 +7,7 @@ use Rattle.mur_base.specs.Ascii.{dot}
 use Rattle.mur_base.specs.Map.{value_at, with_entry}
 use Rattle.mur_base.specs.Patterns.{matches}
 use Rattle.imap_types.specs.declared.reply.Attribute.TheVariants.{None as no_attribute, NonExistent}
-use Rattle.name_listing.specs.Listing.{Lines}
+use Rattle.name_listing.specs.Listing.{Lines, ends_in_percent}
 
 -- with a mailbox, where it matches
 unfoldable pub with_mailbox : List ℕ → Lines → List ℕ → Lines
@@ -28,3 +28,9 @@ levels_from front (b ∷ rest) = if b == dot then front ∷ levels_from (front +
 -- with the levels above a mailbox
 unfoldable pub with_levels : List ℕ → Lines → List ℕ → Lines
 with_levels pattern lines name = fold (with_level pattern) lines (levels_from [] name)
+
+-- what is found: mailboxes, and behind a '%' at the end the levels above mailboxes
+unfoldable pub found_lines : List ℕ → List (List ℕ) → Lines
+found_lines pattern names =
+    if ends_in_percent pattern then fold (with_levels pattern) (fold (with_mailbox pattern) [] names) names
+    else fold (with_mailbox pattern) [] names

@@ -7,12 +7,13 @@ ghost use Rattle.mur_base.specs.Names.{mail_name_fault};
 ghost use Rattle.mur_base.specs.Patterns.{matches};
 ghost use Rattle.imap_types.specs.declared.reply.Attribute.{Attribute};
 ghost use Rattle.imap_types.specs.declared.reply.Attribute.TheVariants.{None as no_attribute, NoSelect, NonExistent};
+ghost use Rattle.name_listing.specs.Found.{found_lines};
 ghost use Rattle.name_listing.specs.Listing.{Lines, IsListing, listed_as, pattern_of};
 ghost use Rattle.name_listing.specs.Told.{StandsAbove, IsOneLevel, IsToldLevel, HasNoWildcard};
 
-/// Of mailboxes a pattern has one listing, and no second.
+/// Of mailboxes a pattern has one listing: what is found.
 pub fn there_is_one_listing()
-    ensures some { (pattern : List ℕ) (names : List (List ℕ)) → (lines : Lines) × IsListing pattern names lines }
+    ensures some { (pattern : List ℕ) (names : List (List ℕ)) → IsListing pattern names (found_lines pattern names) }
     ensures one { (pattern : List ℕ) (names : List (List ℕ)) (one other : Lines) → IsListing pattern names one
         → IsListing pattern names other → one ≡ other }
 {}

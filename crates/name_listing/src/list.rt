@@ -4,6 +4,7 @@ ghost use Rattle.std.specs.Ordering.{nat_cmp};
 ghost use Rattle.std.specs.Cmp.Lexicographic.{slice_cmp};
 ghost use Rattle.mur_base.specs.declared.limits.TheConstants.{NAME_LIMIT};
 ghost use Rattle.mur_base.specs.Map.{IsInOrder};
+ghost use Rattle.name_listing.specs.Found.{found_lines};
 ghost use Rattle.name_listing.specs.Listing.{IsListing};
 ghost use Rattle.name_listing.specs.Told.{line_of};
 
@@ -20,7 +21,8 @@ pub type Lines = Items<(Bytes, Attribute)>;
 /// their levels, each of which is looked up and compared with the pattern; only what is listed is copied.
 pub fn listing(alloc: Global, names: &[Bytes], pattern: &Pattern) -> Result<Lines, Memory>
     requires { All (λ name. length name ≤ NAME_LIMIT) names.now }
-    ensures { IfOk result (λ lines. IsListing pattern.now names.now lines) }
+    ensures found { IfOk result (λ lines. lines ≡ found_lines pattern.now names.now) }
+    ensures listing { IfOk result (λ lines. IsListing pattern.now names.now lines) }
 {
     let mut found = Found::new(alloc);
     put_mailboxes(names, pattern.as_bytes(), &mut found)?;

@@ -3,8 +3,7 @@ use Rattle.std.specs.Prelude.{codes}
 use Rattle.mur_base.specs.Inbox.{is_level_end, behind_inbox}
 use Rattle.mur_base.specs.Patterns.{matches, behind_byte, behind_some, behind_one, covers, is_wildcard}
 use Rattle.name_listing.specs.Listing.{ends_in_percent, pattern_of}
-use Rattle.name_listing.specs.Found.{with_mailbox, with_level, with_levels, levels_from}
-use Rattle.name_listing.proofs.FoundLaw.{found_lines}
+use Rattle.name_listing.specs.Found.{found_lines, with_mailbox, with_level, with_levels, levels_from}
 use Rattle.name_listing.proofs.FoundOrder.{found_listing}
 use Rattle.name_listing.proofs.laws.some_listings.Goals as goal
 

@@ -1,9 +1,8 @@
 use Rattle.std.proofs.Common.{◌≡◌, ◌∙◌, true, false, [], arith}
 use Rattle.std.specs.List.{fold}
 use Rattle.name_listing.specs.Listing.{ends_in_percent}
-use Rattle.name_listing.specs.Found.{with_mailbox, with_levels}
-use Rattle.name_listing.proofs.FoundLaw.{found_lines}
-use Rattle.name_listing.proofs.FoundOrder.{ok_listing, found_all, found_same}
+use Rattle.name_listing.specs.Found.{found_lines, with_mailbox, with_levels}
+use Rattle.name_listing.proofs.FoundOrder.{ok_found, ok_listing, found_all, found_same}
 use Rattle.name_listing.proofs.list.listing.Goals.{then-ends_in_percent+in_ok-put_levels, else-ends_in_percent}
 use Rattle.name_listing.proofs.list.listing.Goals as goal
 
@@ -23,4 +22,7 @@ returns c =
           let ends : ends_in_percent pattern ≡ false = grind (arith, w.if-ends_in_percent.false, c.ends_in_percent.ensures) in
           w.found-is ∙ found_same pattern names one ends first
     ] in
-    ok_listing pattern names c.if-ends_in_percent.found found c.in_order.result c.in_order.ensures.lines
+    record {
+      found = ok_found pattern names c.if-ends_in_percent.found found c.in_order.result c.in_order.ensures.lines;
+      listing = ok_listing pattern names c.if-ends_in_percent.found found c.in_order.result c.in_order.ensures.lines;
+    }
