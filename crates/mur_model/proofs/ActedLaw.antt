@@ -17,7 +17,7 @@ use Rattle.mur_model.specs.Act.{Acted, act_by, act_of, need_of, session_after, w
 use Rattle.mur_model.specs.Acting.{IsActed, IsWorked}
 use Rattle.mur_model.specs.Asking.{HasWork, appended_for, asked_for, viewed_for, work_for}
 use Rattle.mur_model.specs.Need.{begun_of, told_with}
-use Rattle.mur_model.specs.Needed.{Needed, Refusal, Turned, Mailbox, Work, Make, Append, Status, Select, Viewed}
+use Rattle.mur_model.specs.Needed.{Needed, Refusal, Turned, Mailbox, Names, Work, Make, Append, Status, Select, Viewed}
 use Rattle.mur_model.proofs.OwnView.{IsOfNeeded, IsOfWork, need_own}
 
 asked_back : (session : Sess) (name : List ℕ) (work : Work) → IsOfWork session work
@@ -42,6 +42,7 @@ unfolding HasWork begun_of IsOfNeeded
 has_work session (Refusal verdict) own = tt
 has_work session (Turned turn) own = told_work session turn.reply turn.session
 has_work session (Mailbox name work) own = rw (asked_back session name work own) refl
+has_work session (Names it) own = tt
 
 pub begun_has_work : (setting : Setting) (session : Sess) (it : Command) (begun : Begun) → begun ≡ begun_of (need_of setting session it)
     → HasWork session begun.need
@@ -65,6 +66,7 @@ acted_as store session serial (Refusal verdict) acted own is = is
 acted_as store session serial (Turned turn) acted own is = told_acted store session serial turn.reply turn.session acted is
 acted_as store session serial (Mailbox name work) acted own is =
     subst (λ w. IfSome w (λ it. acted ≡ act_by store session serial (Mailbox name it))) (asked_back session name work own) is
+acted_as store session serial (Names it) acted own is = is
 
 pub acted_at : (store left : Store) (session next : Sess) (serial : ℕ) (name : List ℕ) (found : Option Work) (turn : Turn) (reply : Reply)
     → IfSome found (λ work. IsWorked store name (worked_at store name work serial) left turn) → next ≡ session_after session turn.session → reply ≡ turn.reply

@@ -6,7 +6,7 @@ use Rattle.mur_model.specs.declared.need.Begun.{Begun}
 use Rattle.mur_model.specs.declared.session.Sess.{Sess}
 use Rattle.mur_model.specs.declared.session.Sess.TheVariants.{Off, In, Selected, Ended}
 use Rattle.mur_model.specs.Need.{begun_of, told_with}
-use Rattle.mur_model.specs.Needed.{Needed, Refusal, Turned, Mailbox}
+use Rattle.mur_model.specs.Needed.{Needed, Refusal, Turned, Mailbox, Names}
 use Rattle.mur_model.specs.Waits.{begins_by, begins_session}
 
 told_begins : (reply : Reply) (later : Option Sess) → begins_session (told_with reply later).session ≡ begins_session later
@@ -22,6 +22,7 @@ unfolding begun_of begins_by begins_session
 begins_so (Refusal verdict) = refl
 begins_so (Turned turn) = told_begins turn.reply turn.session
 begins_so (Mailbox name work) = refl
+begins_so (Names it) = refl
 
 pub begins_as : (made : Result Begun Memory) (result : Result Bool Memory) (needed : Needed) → IfOk made (λ begun. begun ≡ begun_of needed)
     → IfOk result (λ begins. IsOkAnd made (λ begun. begins ≡ begins_session begun.session)) → IfOk result (λ begins. begins ≡ begins_by needed)

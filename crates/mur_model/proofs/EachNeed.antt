@@ -15,7 +15,8 @@ use Rattle.imap_types.specs.declared.command.Command.{Command}
 use Rattle.imap_types.specs.declared.command.Command.TheVariants as command
 use Rattle.imap_types.specs.declared.command.StatusItem.{StatusItem}
 use Rattle.mur_model.specs.declared.commands.fetch.Fetching.{Fetching}
-use Rattle.mur_model.specs.Needed.{Needed, Refusal, Turned, Mailbox, Work, Make, Append as append_work, Status as status_work, Select as select_work, at_mailbox, no_such_number, read_only}
+use Rattle.mur_model.specs.declared.commands.list.Listing.{Listing}
+use Rattle.mur_model.specs.Needed.{Needed, Refusal, Turned, Mailbox, Names, Work, Make, Append as append_work, Status as status_work, Select as select_work, at_mailbox, no_such_number, read_only}
 use Rattle.mur_model.specs.declared.work.NewsFor.{NewsFor}
 use Rattle.mur_model.specs.declared.work.NewsFor.TheVariants as news_for
 use Rattle.mur_model.specs.declared.work.ViewWork.TheVariants as view_work
@@ -40,6 +41,8 @@ use Rattle.mur_model.specs.Expunge.{expunge, expunge_named}
 use Rattle.mur_model.specs.Fetch.{fetch_named}
 use Rattle.mur_model.specs.Keys.{have_all_numbers, keys_at}
 use Rattle.mur_model.specs.Left.{replied}
+use Rattle.name_listing.specs.Listing.{asks_separator, pattern_of}
+use Rattle.mur_model.specs.Listing.{list, listing_by, separator_told}
 use Rattle.mur_model.specs.Login.{begun_by, login, login_as, login_by, login_failed}
 use Rattle.mur_model.specs.NamedRows.{last_uid, named_uids, names_messages}
 use Rattle.mur_model.specs.Plain.{acts_as, authenticate, authenticate_as, authenticate_by, authenticate_with, cut_at_nul, decoded}
@@ -68,6 +71,8 @@ selecting false text = command.Examine text
 pub record OfBegun (setting : Setting) (Asked : Command → Type 0) (Of : Needed → Type 0) : Type 0 where
   pub answers : OfAnswers Of
   pub enable : Of enable
+  pub separator : Of separator_told
+  pub names : (user pattern : List ℕ) → Of (Names (listing_by setting user pattern))
   pub unselected : (user : List ℕ) (was_selected : Bool) (why : NoText) → Of (Turned (unselected user was_selected why))
   pub make : (name : List ℕ) → mail_name_fault name ≡ None → Of (Mailbox name Make)
   pub append : (name text : List ℕ) (flags : Flags) (date : Option (List ℕ)) (body : List ℕ) → Asked (command.Append text flags date body)
@@ -221,6 +226,13 @@ each_select {setting} of user name text is_writable was_selected None asked name
     let it = opening user name is_writable was_selected in
     each_select_by of name it (has_rights setting.users user name) (of.select user name text is_writable was_selected asked named)
 
+each_list : {setting : Setting} {Asked : Command → Type 0} {Of : Needed → Type 0} (of : OfBegun setting Asked Of) (user reference mailbox : List ℕ)
+    → Of (list setting user reference mailbox)
+unfolding list
+each_list {setting} {Asked} {Of} of user reference mailbox =
+    let pattern = pattern_of reference mailbox in
+    either Of (asks_separator mailbox) separator_told (Names (listing_by setting user pattern)) of.separator (of.names user pattern)
+
 each_begun : {setting : Setting} {Asked : Command → Type 0} {Of : Needed → Type 0} (of : OfBegun setting Asked Of) (user : List ℕ) (is_selected : Bool)
     (it : Command) → Asked it → Of (need_begun setting user is_selected it)
 unfolding need_begun create create_meant append status select
@@ -240,7 +252,7 @@ each_begun of user is_selected (command.Select text) asked =
 each_begun of user is_selected (command.Examine text) asked =
     each_select of user (taken_name user text) text false is_selected (mail_name_fault (taken_name user text)) asked refl
 each_begun of user is_selected (command.Delete text) asked = of.answers.refused Cannot
-each_begun of user is_selected (command.List reference pattern) asked = of.answers.refused Cannot
+each_begun of user is_selected (command.List reference mailbox) asked = each_list of user reference mailbox
 each_begun of user is_selected (command.Copy by_uid set text) asked = of.answers.refused Cannot
 each_begun of user is_selected (command.Xfer text server partition) asked = of.answers.refused Cannot
 each_begun of user is_selected (command.LeftOut line) asked = of.answers.refused Cannot
@@ -312,6 +324,8 @@ each_need {setting} of session viewed it asked = either_taken of.answers setting
 pub record OfWorks (Of : Needed → Type 0) : Type 0 where
   pub answers : OfAnswers Of
   pub enable : Of enable
+  pub separator : Of separator_told
+  pub names : (it : Listing) → Of (Names it)
   pub unselected : (user : List ℕ) (was_selected : Bool) (why : NoText) → Of (Turned (unselected user was_selected why))
   pub left : (view : View) (name : List ℕ) → IsPlain name → Of (Turned (left_by view name))
   pub work : (name : List ℕ) (it : Work) → Of (Mailbox name it)
@@ -324,6 +338,8 @@ begun_by_works : {Of : Needed → Type 0} (setting : Setting) → OfWorks Of →
 begun_by_works setting of = record {
   answers = of.answers;
   enable = of.enable;
+  separator = of.separator;
+  names = λ user pattern. of.names _;
   unselected = of.unselected;
   make = λ name named. of.work name _;
   append = λ name text flags date body asked. of.work name _;

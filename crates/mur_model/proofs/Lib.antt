@@ -14,6 +14,7 @@ mod KeysLaw
 mod BeginsLaw
 pub mod EachNeed
 pub mod OwnView
+mod ShownFit
 pub mod MadeNames
 mod ActedLaw
 mod FetchedAlike

@@ -23,6 +23,8 @@ unfolding MakesNamed MadeHasName
 begun_named setting = record {
   answers = of_refusals (λ verdict. tt) (λ name plain. tt) (λ name user plain. tt) tt tt;
   enable = tt;
+  separator = tt;
+  names = λ user pattern. tt;
   unselected = λ user was_selected why. tt;
   make = λ name named. named;
   append = λ name text flags date body asked. tt;

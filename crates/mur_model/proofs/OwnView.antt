@@ -27,6 +27,8 @@ unfolding IsOfNeeded IsOfWork
 begun_own setting session = record {
   answers = answers_own session;
   enable = tt;
+  separator = tt;
+  names = λ user pattern. tt;
   unselected = λ user was_selected why. tt;
   make = λ name named. tt;
   append = λ name text flags date body asked. tt;

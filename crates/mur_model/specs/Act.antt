@@ -5,7 +5,7 @@ use Rattle.std.specs.Prelude.{◌≡◌, ℕ, ⊤, Bool, true, false, if◌then�
 use Rattle.mail_message.specs.Boxes.{Content}
 use Rattle.imap_types.specs.declared.command.Command.{Command}
 use Rattle.imap_types.specs.declared.command.Command.TheVariants as command
-use Rattle.mur_model.specs.Needed.{Needed, Refusal, Turned, Mailbox, Work, Make, Append as append_work, Status as status_work, Select as select_work, Viewed as viewed_work, at_mailbox}
+use Rattle.mur_model.specs.Needed.{Needed, Refusal, Turned, Mailbox, Names, Work, Make, Append as append_work, Status as status_work, Select as select_work, Viewed as viewed_work, at_mailbox}
 use Rattle.mur_model.specs.declared.work.ViewWork.TheVariants as work
 use Rattle.imap_types.specs.declared.reply.BadText.TheVariants.{State, Syntax}
 use Rattle.imap_types.specs.declared.reply.NoText.TheVariants.{Cannot}
@@ -24,6 +24,7 @@ use Rattle.mur_model.specs.Create.{create, create_on}
 use Rattle.mur_model.specs.Expunge.{expunge}
 use Rattle.mur_model.specs.Fetch.{fetch}
 use Rattle.mur_model.specs.Left.{Worked, replied, store_after}
+use Rattle.mur_model.specs.Listing.{list, list_reply, names_in}
 use Rattle.mur_model.specs.Login.{login}
 use Rattle.mur_model.specs.Plain.{authenticate}
 use Rattle.imap_types.specs.Reply.{reply_of, completed}
@@ -70,7 +71,7 @@ need_begun setting user is_selected (command.Status text items) = status setting
 need_begun setting user is_selected (command.Select text) = select setting user text true is_selected
 need_begun setting user is_selected (command.Examine text) = select setting user text false is_selected
 need_begun setting user is_selected (command.Delete text) = cannot_yet
-need_begun setting user is_selected (command.List reference pattern) = cannot_yet
+need_begun setting user is_selected (command.List reference mailbox) = list setting user reference mailbox
 need_begun setting user is_selected (command.Copy by_uid set text) = cannot_yet
 need_begun setting user is_selected (command.Xfer text server partition) = cannot_yet
 need_begun setting user is_selected (command.LeftOut line) = Refusal (no_reply Cannot)
@@ -134,6 +135,7 @@ act_by store session serial (Turned turn) = record { store = store; session = se
 act_by store session serial (Mailbox name work) =
     let worked = worked_at store name work serial in
     record { store = store_after store name worked.left; session = session_after session (worked.turn).session; reply = (worked.turn).reply }
+act_by store session serial (Names it) = record { store = store; session = session; reply = list_reply it (names_in store) }
 
 -- a command in a session; the serial is the UIDVALIDITY of the mailbox that a CREATE makes
 unfoldable pub act_of : Setting → Store → Sess → Command → ℕ → Acted
@@ -150,6 +152,7 @@ unfoldable pub MayAct : Store → ℕ → Needed → Type 0
 MayAct store serial (Refusal verdict) = ⊤
 MayAct store serial (Turned turn) = ⊤
 MayAct store serial (Mailbox name work) = MayWork store name serial work
+MayAct store serial (Names it) = ⊤
 
 -- the serial is free where the command makes a mailbox
 abbrev pub MayGive : Setting → Store → Sess → Command → ℕ → Type 0

@@ -8,7 +8,7 @@ use Rattle.mur_model.specs.declared.need.Asking.{Asking}
 use Rattle.mur_model.specs.declared.need.Awaited.{Awaited}
 use Rattle.mur_model.specs.declared.need.Awaited.TheVariants as awaited
 use Rattle.mur_model.specs.declared.need.Need.{Need}
-use Rattle.mur_model.specs.declared.need.Need.TheVariants.{Reply, Leave, Home}
+use Rattle.mur_model.specs.declared.need.Need.TheVariants.{Reply, Leave, Home, Names}
 use Rattle.mur_model.specs.declared.session.Sess.{Sess}
 use Rattle.mur_model.specs.declared.session.Sess.TheVariants.{Selected}
 use Rattle.mur_model.specs.declared.view.View.{View}
@@ -74,3 +74,4 @@ unfoldable pub HasWork : Sess → Need → Type 0
 HasWork session (Reply reply) = ⊤
 HasWork session (Leave reply) = ⊤
 HasWork session (Home name asking) = IsSome (work_for session asking.op asking.awaited)
+HasWork session (Names it) = ⊤

@@ -18,6 +18,7 @@ pub mod Beside
 pub mod ClientView
 pub mod Selected
 pub mod Needed
+pub mod Listing
 pub mod NamedRows
 pub mod Noop
 pub mod Close

@@ -1,4 +1,4 @@
--- What a command needs of the store (RFC 9051, 6): nothing, as it is refused or as this comes of it at once; or work at a mailbox.
+-- What a command needs of the store (RFC 9051, 6): nothing, as it is refused or as this comes of it at once; work at a mailbox; or the names of all.
 use Rattle.std.specs.Prelude.{ℕ, List}
 use Rattle.imap_types.specs.declared.command.StatusItem.{StatusItem}
 use Rattle.imap_types.specs.declared.reply.BadText.TheVariants.{Message as no_message}
@@ -6,6 +6,7 @@ use Rattle.imap_types.specs.declared.reply.NoText.TheVariants.{Cannot}
 use Rattle.imap_types.specs.declared.reply.Verdict.{Verdict}
 use Rattle.imap_types.specs.declared.reply.Verdict.TheVariants.{No as no_reply, Bad as bad_reply}
 use Rattle.mail_message.specs.declared.message.Message.{Message}
+use Rattle.mur_model.specs.declared.commands.list.Listing.{Listing}
 use Rattle.mur_model.specs.declared.commands.select.Opening.{Opening}
 use Rattle.mur_model.specs.declared.session.Turn.{Turn}
 use Rattle.mur_model.specs.declared.view.View.{View}
@@ -24,6 +25,7 @@ pub data Needed : Type 0 where
   Refusal : Verdict → Needed
   Turned : Turn → Needed
   Mailbox : List ℕ → Work → Needed
+  Names : Listing → Needed
 
 -- work at the mailbox of a view
 abbrev pub at_mailbox : View → ViewWork → Needed

@@ -20,7 +20,7 @@ use Rattle.mur_model.specs.declared.view.View.{View}
 use Rattle.mur_model.specs.Act.{session_after}
 use Rattle.mur_model.specs.Answer.{Answered}
 use Rattle.mur_model.specs.Left.{replied}
-use Rattle.mur_model.specs.Needed.{Needed, Refusal, Turned, Mailbox}
+use Rattle.mur_model.specs.Needed.{Needed, Refusal, Turned, Mailbox, Names}
 
 -- the text, by the cause that the command's point tells
 unfoldable pub cause_text : What → Option NoText
@@ -49,3 +49,4 @@ unfoldable pub NeedsMailbox : Needed → Type 0
 NeedsMailbox (Refusal verdict) = ⊥
 NeedsMailbox (Turned turn) = ⊥
 NeedsMailbox (Mailbox name work) = ⊤
+NeedsMailbox (Names it) = ⊥

@@ -4,6 +4,7 @@ ghost use Rattle.mur_model.specs.Act.{worked_at, act_by, act_of, session_after};
 ghost use Rattle.mur_model.specs.Asking.{HasWork, appended_for, viewed_for, work_for};
 ghost use Rattle.mur_model.specs.Acting.{IsActed, IsWorked};
 ghost use Rattle.mur_model.specs.Left.{replied};
+ghost use Rattle.mur_model.specs.Listing.{list_reply, names_in};
 ghost use Rattle.mur_model.specs.Needed.{Mailbox, Make};
 ghost use Rattle.mur_model.specs.Status.{status_on};
 ghost use Rattle.mur_model.specs.Store.{box_at};
@@ -11,6 +12,7 @@ ghost use Rattle.mur_model.specs.Store.{box_at};
 use crate::beginning::begin;
 use crate::commands::append::append_at;
 use crate::commands::create::make;
+use crate::commands::list::{Listing, names_in};
 use crate::commands::select::select_at;
 use crate::commands::status::status_at;
 use crate::need::{Asking, Awaited, Begun, Need};
@@ -54,7 +56,19 @@ fn act_by(
     match need {
         Need::Reply(reply) | Need::Leave(reply) => Ok(turned(sess, Turn { session, reply })),
         Need::Home(name, asking) => act_at(alloc, store, sess, &name, asking, serial),
+        Need::Names(it) => {
+            let reply = list_by(alloc, store, &it)?;
+            Ok(turned(sess, Turn { session, reply }))
+        }
     }
+}
+
+// What a LIST is answered.
+fn list_by(alloc: Global, store: &Store, it: &Listing) -> Result<Reply, Memory>
+    ensures { IfOk result (λ reply. reply ≡ list_reply it.now (names_in store.now)) }
+{
+    let names = names_in(alloc, store)?;
+    it.reply(alloc, names.as_slice())
 }
 
 /// Does at a mailbox what its home would be asked.

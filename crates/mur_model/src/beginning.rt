@@ -12,6 +12,7 @@ use crate::commands::enable::enable;
 use crate::commands::expunge::expunge;
 use crate::commands::fetch::fetch;
 use crate::commands::idle::{idled_in, idled_selected};
+use crate::commands::list::list;
 use crate::commands::login::login;
 use crate::commands::logout::logout;
 use crate::commands::noop::{news_asks, nothing_new};
@@ -121,11 +122,10 @@ fn begin_begun(
         Command::Status(text, items) => status(alloc, with, user, text.as_slice(), items),
         Command::Select(text) => select(alloc, with, user, text.as_slice(), true, is_selected),
         Command::Examine(text) => select(alloc, with, user, text.as_slice(), false, is_selected),
-        Command::Delete(_)
-        | Command::List(..)
-        | Command::Copy(..)
-        | Command::Xfer(..)
-        | Command::LeftOut(_) => Ok(Begun::refused(alloc, Verdict::No(NoText::Cannot))),
+        Command::List(reference, mailbox) => {
+            list(alloc, with, user, reference.as_slice(), mailbox.as_slice())
+        }
+        Command::Delete(_) | Command::Copy(..) | Command::Xfer(..) | Command::LeftOut(_) => Ok(Begun::refused(alloc, Verdict::No(NoText::Cannot))),
         _ => Ok(not_yet(alloc)),
     }
 }

@@ -10,6 +10,7 @@ pub mod fetch;
 pub mod fetch_rows;
 pub mod fetch_summaries;
 pub mod idle;
+pub mod list;
 pub mod login;
 pub mod logout;
 pub mod noop;

@@ -5,6 +5,7 @@ ghost use Rattle.mur_model.specs.Need.{begun_of};
 ghost use Rattle.mur_model.specs.Needed.{at_mailbox, no_such_number, read_only, Refusal, Turned};
 ghost use Rattle.mur_model.specs.declared.need.Need.TheVariants.{Home as home};
 
+use crate::commands::list::Listing;
 use crate::commands::select::Opening;
 use crate::session::{Sess, Turn};
 use crate::view::View;
@@ -44,6 +45,8 @@ pub enum Need {
     Leave(Reply),
     /// The home of this mailbox is asked.
     Home(MailName, Asking),
+    /// The names of all mailboxes are asked for (RFC 9051, 6.3.9).
+    Names(Listing),
 }
 
 /// What comes of a command, or of the home's answer to it, for its session.

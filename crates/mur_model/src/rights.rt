@@ -16,8 +16,9 @@ pub fn user_named<'a>(users: &'a Users, name: &[u8]) -> Option<&'a User>
         .find(|user| user.name.as_bytes() == name)
 }
 
+/// Whether a user is an administrator. It looks at each user.
 #[tactic(auto, unfolding(crate::specs::Rights::is_admin_user))]
-fn is_admin(users: &Users, user: &UserName) -> bool
+pub fn is_admin(users: &Users, user: &UserName) -> bool
     ensures { result ≡ is_admin users.now user.now }
 {
     match user_named(users, user.as_bytes()) {

@@ -1,0 +1,18 @@
+-- The names that LIST shows are no longer than names may be.
+use Rattle.std.proofs.Common.{◌≡◌, ℕ, ◌≤◌, List, [], ◌∷◌, ◌++◌, length, None, sym, subst}
+use Rattle.std.specs.Prelude.{All}
+use Rattle.std.proofs.lemmas.List.Elements.{All-nil, All-cons, All-append}
+use Rattle.mur_base.specs.Inbox.{shown_name}
+use Rattle.mur_base.specs.Names.{mail_name_fault}
+use Rattle.mur_base.specs.declared.limits.TheConstants.{NAME_LIMIT}
+use Rattle.name_listing.proofs.ShownFits.{shown_fits}
+
+abbrev CanBeListed : List ℕ → Type 0
+CanBeListed name = length name ≤ NAME_LIMIT
+
+pub more_fit : (user name : List ℕ) (list new : List (List ℕ)) → mail_name_fault name ≡ None → new ≡ list ++ shown_name user name ∷ []
+    → All (λ (name : List ℕ). length name ≤ NAME_LIMIT) list → All (λ (name : List ℕ). length name ≤ NAME_LIMIT) new
+more_fit user name list new ruled put fits =
+    subst (All CanBeListed) (sym put)
+    (All-append CanBeListed list (shown_name user name ∷ []) fits
+    (All-cons CanBeListed (shown_name user name) [] (shown_fits user name ruled) (All-nil CanBeListed)))
