@@ -125,7 +125,9 @@ fn begin_begun(
         Command::List(reference, mailbox) => {
             list(alloc, with, user, reference.as_slice(), mailbox.as_slice())
         }
-        Command::Delete(_) | Command::Copy(..) | Command::Xfer(..) | Command::LeftOut(_) => Ok(Begun::refused(alloc, Verdict::No(NoText::Cannot))),
+        Command::Delete(_) | Command::Copy(..) | Command::Xfer(..) | Command::LeftOut(_) => Ok(
+            Begun::refused(alloc, Verdict::No(NoText::Cannot)),
+        ),
         _ => Ok(not_yet(alloc)),
     }
 }
