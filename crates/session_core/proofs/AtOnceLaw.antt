@@ -2,7 +2,7 @@
 use Rattle.std.proofs.Common.{◌≡◌, List, Option, None, Some, refl}
 use Rattle.std.specs.Prelude.{⊤}
 use Rattle.imap_types.specs.declared.command.Command.{Command}
-use Rattle.mur_model.specs.Needed.{Needed, Refusal, Turned, Mailbox}
+use Rattle.mur_model.specs.Needed.{Needed, Refusal, Turned, Mailbox, Names}
 use Rattle.imap_types.specs.declared.reply.Reply.{Reply}
 use Rattle.imap_types.specs.declared.reply.ReplyLine.{ReplyLine}
 use Rattle.mur_model.specs.declared.session.Sess.{Sess}
@@ -25,12 +25,14 @@ unfoldable pub IsQuiet : Needed → Type 0
 IsQuiet (Refusal verdict) = ⊤
 IsQuiet (Turned turn) = LeavesQuietly turn.session turn.reply
 IsQuiet (Mailbox name work) = ⊤
+IsQuiet (Names it) = ⊤
 
--- and no home is asked
+-- and nothing is asked
 unfoldable pub IsAtOnce : Needed → Type 0
 IsAtOnce (Refusal verdict) = ⊤
 IsAtOnce (Turned turn) = LeavesQuietly turn.session turn.reply
 IsAtOnce (Mailbox name work) = ⊥
+IsAtOnce (Names it) = ⊥
 
 at_once : OfAnswers IsAtOnce
 unfolding IsAtOnce LeavesQuietly known_after
@@ -48,6 +50,8 @@ unfolding IsQuiet LeavesQuietly known_after
 quiet_works = record {
   answers = quiet_answers;
   enable = λ known. refl;
+  separator = λ known. refl;
+  names = λ it. tt;
   unselected = λ user was_selected why. tt;
   left = λ view name plain. tt;
   work = λ name it. tt;

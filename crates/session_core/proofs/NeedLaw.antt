@@ -3,7 +3,7 @@ use Rattle.std.proofs.Common.{◌≡◌, Option, None, Some, sym, ◌∙◌, ap,
 use Rattle.std.proofs.lemmas.Result.{IfOk-weaker}
 use Rattle.mur_base.specs.declared.memory.Memory.{Memory}
 use Rattle.imap_types.specs.declared.command.Command.{Command}
-use Rattle.mur_model.specs.Needed.{Needed, Refusal, Turned, Mailbox}
+use Rattle.mur_model.specs.Needed.{Needed, Refusal, Turned, Mailbox, Names}
 use Rattle.imap_types.specs.declared.reply.BadText.TheVariants.{State}
 use Rattle.imap_types.specs.declared.reply.Verdict.TheVariants.{Bad as bad_reply}
 use Rattle.imap_types.specs.declared.reply.Reply.{Reply}
@@ -39,12 +39,14 @@ unfolding MayNeed begun_of
 begun_fits session (Refusal verdict) begun = tt
 begun_fits session (Turned turn) begun = told_fits session turn.reply turn.session
 begun_fits session (Mailbox name work) begun = begun
+begun_fits session (Names it) begun = tt
 
 at_once_fits : (session : Sess) (needed : Needed) → IsAtOnce needed → Fits (begun_by_need session needed)
 unfolding MayNeed begun_of IsAtOnce
 at_once_fits session (Refusal verdict) at_once = tt
 at_once_fits session (Turned turn) at_once = told_fits session turn.reply turn.session
 at_once_fits session (Mailbox name work) at_once = absurd at_once
+at_once_fits session (Names it) at_once = absurd at_once
 
 pub may_need : (setting : Setting) (session : Sess) (it : Command) → Fits (begin setting session it)
 unfolding IsAtOnce HasBegun need_of is_in

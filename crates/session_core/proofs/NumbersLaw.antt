@@ -19,7 +19,7 @@ use Rattle.mail_message.specs.RowOrder.{row_at}
 use Rattle.mur_base.specs.declared.memory.Memory.{Memory}
 use Rattle.imap_types.specs.declared.command.Command.{Command}
 use Rattle.imap_types.specs.declared.command.StatusItem.{StatusItem}
-use Rattle.mur_model.specs.Needed.{Needed, Refusal, Turned, Mailbox}
+use Rattle.mur_model.specs.Needed.{Needed, Refusal, Turned, Mailbox, Names}
 use Rattle.mur_model.specs.declared.setting.Setting.{Setting}
 use Rattle.mur_model.specs.declared.commands.fetch.Fetching.{Fetching}
 use Rattle.mur_model.specs.declared.work.ViewWork.{ViewWork}
@@ -310,6 +310,7 @@ begun_leaves known session (Refusal verdict) quiet knows = knows
 begun_leaves known session (Turned turn) quiet knows =
     told_leaves known session turn.reply turn.session (quiet_leaves known session turn.reply turn.session quiet knows)
 begun_leaves known session (Mailbox name work) quiet knows = knows
+begun_leaves known session (Names it) quiet knows = knows
 
 apart_knows : (known : Known) (session_behind : Behind) (session : Sess) (need : Need) → record { session = session; need = need } ≡ session_behind
     → KnowsBehind known session_behind.session session_behind.need → KnowsBehind known session need

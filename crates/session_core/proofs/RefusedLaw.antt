@@ -20,7 +20,7 @@ use Rattle.mur_model.specs.declared.view.View.{View}
 use Rattle.mur_model.specs.Act.{need_begun, need_in, need_of, need_selected, need_taken}
 use Rattle.mur_model.specs.Asking.{asked_for}
 use Rattle.mur_model.specs.Need.{told_with}
-use Rattle.mur_model.specs.Needed.{Needed, Refusal, Turned, Mailbox, Work, Make, Append, Status, Select, Viewed}
+use Rattle.mur_model.specs.Needed.{Needed, Refusal, Turned, Mailbox, Names, Work, Make, Append, Status, Select, Viewed}
 use Rattle.mur_model.specs.Relocation.{cause_text, refused_for}
 use Rattle.mur_model.specs.Rights.{has_rights}
 use Rattle.mur_model.specs.Select.{opening, select, select_as, select_by}
@@ -48,6 +48,7 @@ Refuses session it name work = (why : NoText) → told_turn session (moved_turn 
 abbrev RefusesNeeded : Sess → Command → Needed → Type 0
 RefusesNeeded session it (Refusal verdict) = ⊤
 RefusesNeeded session it (Turned turn) = ⊤
+RefusesNeeded session it (Names listing) = ⊤
 RefusesNeeded session it (Mailbox name work) = Refuses session it name work
 
 -- ---- a SELECT, an EXAMINE
@@ -111,6 +112,8 @@ unfolding NoSelecting
 none_begun setting = record {
   answers = none_answers;
   enable = tt;
+  separator = tt;
+  names = λ user pattern. tt;
   unselected = λ user was_selected why. tt;
   make = λ name named. tt;
   append = λ name text flags date body asked. tt;
@@ -140,6 +143,7 @@ other_refuses : (session : Sess) (it : Command) (needed : Needed) → SelectsNon
 unfolding NoSelecting asked_for moved_turn
 other_refuses session it (Refusal verdict) none selecting = tt
 other_refuses session it (Turned turn) none selecting = tt
+other_refuses session it (Names listing) none selecting = tt
 other_refuses session it (Mailbox name Make) none selecting = λ why. sym (stays_told session it why none)
 other_refuses session it (Mailbox name (Append message)) none selecting = λ why. sym (stays_told session it why none)
 other_refuses session it (Mailbox name (Status shown items)) none selecting = λ why. sym (stays_told session it why none)

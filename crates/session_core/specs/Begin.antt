@@ -6,7 +6,7 @@ use Rattle.mur_model.specs.declared.session.Sess.TheVariants.{Off, In, Selected,
 use Rattle.mur_model.specs.declared.setting.Setting.{Setting}
 use Rattle.mur_model.specs.Act.{need_of}
 use Rattle.mur_model.specs.declared.need.Need.{Need}
-use Rattle.mur_model.specs.declared.need.Need.TheVariants.{Reply, Leave, Home}
+use Rattle.mur_model.specs.declared.need.Need.TheVariants.{Reply, Leave, Home, Names}
 use Rattle.session_core.specs.Need.{Behind, begun_by_need}
 
 abbrev pub begin : Setting → Sess → Command → Behind
@@ -30,3 +30,4 @@ unfoldable pub MayNeed : Sess → Need → Type 0
 MayNeed session (Reply reply) = ⊤
 MayNeed session (Leave reply) = ⊤
 MayNeed session (Home name asking) = HasBegun session
+MayNeed session (Names it) = ⊤

@@ -10,7 +10,7 @@ use Rattle.mur_model.specs.ClientView.{Agrees, Known, known_after_all, uids}
 use Rattle.mur_model.specs.declared.need.Awaited.{Awaited}
 use Rattle.mur_model.specs.declared.need.Awaited.TheVariants.{Select, Viewed}
 use Rattle.mur_model.specs.declared.need.Need.{Need}
-use Rattle.mur_model.specs.declared.need.Need.TheVariants.{Reply, Leave, Home}
+use Rattle.mur_model.specs.declared.need.Need.TheVariants.{Reply, Leave, Home, Names}
 
 -- where a mailbox is selected, its client knows the numbers of the view
 unfoldable pub Knows : Known → Sess → Type 0
@@ -22,6 +22,7 @@ unfoldable pub KnowsBehind : Known → Sess → Need → Type 0
 KnowsBehind known session (Reply reply) = Knows (known_after_all known reply.lines) session
 KnowsBehind known session (Leave reply) = Knows (known_after_all known reply.lines) session
 KnowsBehind known session (Home name asking) = Knows known session
+KnowsBehind known session (Names it) = Knows known session
 
 -- of a mailbox that is selected nothing is known before (RFC 9051, 6.3.2)
 unfoldable pub known_before : Awaited → Known → Known
@@ -37,6 +38,7 @@ unfoldable pub TellsNoExpunge : Need → Type 0
 TellsNoExpunge (Reply reply) = HasNoExpunge reply.lines
 TellsNoExpunge (Leave reply) = HasNoExpunge reply.lines
 TellsNoExpunge (Home name asking) = ⊤
+TellsNoExpunge (Names it) = ⊤
 
 -- a FETCH, a STORE or a SEARCH by numbers, which may not change while it is answered (RFC 9051, 7.5.1)
 unfoldable pub IsByNumbers : Awaited → Type 0
