@@ -18,14 +18,14 @@ use Rattle.link_msg.specs.declared.how.How.{How}
 use Rattle.link_msg.specs.declared.how.How.TheVariants as how
 use Rattle.mur_base.specs.declared.point.AskId.{AskId}
 use Rattle.mur_model.specs.declared.need.Need.{Need}
-use Rattle.mur_model.specs.declared.need.Need.TheVariants.{Reply, Leave, Home}
+use Rattle.mur_model.specs.declared.need.Need.TheVariants.{Reply, Leave, Home, Names}
 use Rattle.mur_model.specs.declared.session.Sess.{Sess}
 use Rattle.mur_model.specs.declared.setting.Setting.{Setting}
 use Rattle.session_core.specs.Begin.{HasBegun, MayNeed, begin}
 use Rattle.session_core.proofs.NeedLaw.{may_need}
 use Rattle.front_core.specs.declared.connection.Connection.{Connection}
 use Rattle.front_core.specs.declared.connection.Stage.{Stage}
-use Rattle.front_core.specs.declared.connection.Stage.TheVariants.{Reading, Waits, Ended}
+use Rattle.front_core.specs.declared.connection.Stage.TheVariants.{Reading, Waits, Lists, Ended}
 use Rattle.front_core.specs.Answered.{answer_by, answer_comes, by_then, clears_at, goes_on_by, need_behind, ok_by, ok_comes, reading_again}
 use Rattle.front_core.specs.Begun.{BegunAt, IsBegun}
 use Rattle.front_core.specs.Ended.{released_at, with_released}
@@ -41,6 +41,7 @@ module _ (setting : Setting) (ways : Ways) (conn : ℕ) where
   need_begun c tag (Reply reply) begun fits = begun
   need_begun c tag (Leave reply) begun fits = tt
   need_begun c tag (Home name asking) begun fits = fits
+  need_begun c tag (Names it) begun fits = tt
 
   request_begun : (c : Connection) (request : Request) → c.stage ≡ Reading → IsBegun (request_in setting ways conn c request).connection
   unfolding request_in answers_now
@@ -60,6 +61,7 @@ module _ (setting : Setting) (ways : Ways) (conn : ℕ) where
   unfolding comes_at
   comes_begun c input Reading is begun = input_in_begun c input is
   comes_begun c input (Waits tag it) is begun = begun
+  comes_begun c input (Lists tag it) is begun = begun
   comes_begun c input Ended is begun = begun
 
   pub inputs_begun : (c : Connection) (inputs : List Input) → IsBegun c → IsBegun (inputs_come setting ways conn c inputs).connection
@@ -72,6 +74,7 @@ module _ (setting : Setting) (ways : Ways) (conn : ℕ) where
   behind_begun c tag told (Reply reply) fits = inputs_begun (reading_again c) c.waiting tt
   behind_begun c tag told (Leave reply) fits = tt
   behind_begun c tag told (Home name asking) fits = fits
+  behind_begun c tag told (Names it) fits = tt
 
   then_begun : (c : Connection) (tag : Tag) (it : Waiting) (session : Sess) (later : Waiting) (what : Then) → c.stage ≡ Waits tag it → IsBegun c
       → FitAt c.session it session later what → IsBegun (by_then setting ways conn (record c { session = session }) tag later what).connection
@@ -92,6 +95,7 @@ module _ (setting : Setting) (ways : Ways) (conn : ℕ) where
   answer_begun_by c answer true (Waits tag it) is begun =
       went_begun c tag it (answered ways.master (next_of conn c) c.session it answer.body) is begun
       (answered_fit ways.master (next_of conn c) c.session it answer.body)
+  answer_begun_by c answer true (Lists tag it) is begun = begun
   answer_begun_by c answer true Reading is begun = begun
   answer_begun_by c answer true Ended is begun = begun
   answer_begun_by c answer false stage is begun = begun
@@ -110,6 +114,7 @@ module _ (setting : Setting) (ways : Ways) (conn : ℕ) where
   ok_begun_by : (c : Connection) (fits : Bool) (stage : Stage) → c.stage ≡ stage → IsBegun c → IsBegun (ok_by setting ways conn c fits stage).connection
   unfolding ok_by
   ok_begun_by c true (Waits tag it) is begun = clears_begun c tag it it.at is begun
+  ok_begun_by c true (Lists tag it) is begun = inputs_begun (reading_again c) c.waiting tt
   ok_begun_by c true Reading is begun = begun
   ok_begun_by c true Ended is begun = begun
   ok_begun_by c false stage is begun = begun
@@ -124,12 +129,14 @@ released_by : (c : Connection) (stage : Stage) → IsBegun c → IsBegun (releas
 unfolding released_at
 released_by c Reading begun = begun
 released_by c (Waits tag it) begun = begun
+released_by c (Lists tag it) begun = begun
 released_by c Ended begun = tt
 
 was_by : (c : Connection) (stage : Stage) → c.stage ≡ stage → IsBegun (released_at c stage) → IsBegun c
 unfolding released_at
 was_by c Reading is begun = begun
 was_by c (Waits tag it) is begun = begun
+was_by c (Lists tag it) is begun = begun
 was_by c Ended is begun = subst (λ (s : Stage). BegunAt s c.session) (sym is) tt
 
 pub released_begun : (one other : Turned) → with_released one ≡ with_released other → IsBegun other.connection → IsBegun one.connection

@@ -20,13 +20,13 @@ use Rattle.imap_types.specs.declared.request.Request.TheVariants.{Command as a_c
 use Rattle.mur_model.specs.declared.setting.Setting.{Setting}
 use Rattle.front_core.specs.declared.connection.Connection.{Connection}
 use Rattle.front_core.specs.declared.connection.Stage.{Stage}
-use Rattle.front_core.specs.declared.connection.Stage.TheVariants.{Reading, Waits, Ended}
+use Rattle.front_core.specs.declared.connection.Stage.TheVariants.{Reading, Waits, Lists, Ended}
 use Rattle.front_core.specs.Answered.{answer_comes, answer_by, by_then, clears_at, need_behind, ok_comes, ok_by, reading_again}
 use Rattle.front_core.specs.Front.{is_asked}
 use Rattle.front_core.specs.Room.{commands_of}
 use Rattle.front_core.specs.Taken.{Ways, answers_now, answers_last, next_of, turned_by_need, request_in, input_in, comes_at, input_comes, inputs_come}
 use Rattle.mur_model.specs.declared.need.Need.{Need}
-use Rattle.mur_model.specs.declared.need.Need.TheVariants.{Reply, Leave, Home}
+use Rattle.mur_model.specs.declared.need.Need.TheVariants.{Reply, Leave, Home, Names}
 use Rattle.session_core.specs.Begin.{begin}
 
 module _ (setting : Setting) (ways : Ways) (conn : ℕ) where
@@ -35,6 +35,7 @@ module _ (setting : Setting) (ways : Ways) (conn : ℕ) where
   need_counts c tag (Reply reply) = omega arith
   need_counts c tag (Leave reply) = omega arith
   need_counts c tag (Home name asking) = omega arith
+  need_counts c tag (Names it) = omega arith
 
   request_counts : (c : Connection) (request : Request) → commands_of (request_in setting ways conn c request).connection ≤ commands_of c + 1
   unfolding request_in answers_now
@@ -54,6 +55,7 @@ module _ (setting : Setting) (ways : Ways) (conn : ℕ) where
   unfolding comes_at
   comes_counts c input Reading = input_in_counts c input
   comes_counts c input (Waits tag it) = omega (arith, length-append c.waiting (input ∷ []))
+  comes_counts c input (Lists tag it) = omega (arith, length-append c.waiting (input ∷ []))
   comes_counts c input Ended = omega arith
 
   -- an input is at most one command more
@@ -72,6 +74,7 @@ module _ (setting : Setting) (ways : Ways) (conn : ℕ) where
   behind_counts c tag it told (Reply reply) is = omega (arith, inputs_count (reading_again c) c.waiting, ap is_asked is)
   behind_counts c tag it told (Leave reply) is = omega (arith, ap is_asked is)
   behind_counts c tag it told (Home name asking) is = omega (arith, ap is_asked is)
+  behind_counts c tag it told (Names listing) is = omega (arith, ap is_asked is)
 
   then_counts : (c : Connection) (tag : Tag) (it later : Waiting) (what : Then) → c.stage ≡ Waits tag it
       → commands_of (by_then setting ways conn c tag later what).connection ≤ commands_of c
@@ -88,6 +91,7 @@ module _ (setting : Setting) (ways : Ways) (conn : ℕ) where
       let next = answered ways.master (next_of conn c) c.session it answer.body in
       then_counts (record c { session = next.session }) tag it next.waiting next.then is
   answer_counts_by c answer true Reading is = omega arith
+  answer_counts_by c answer true (Lists tag it) is = omega arith
   answer_counts_by c answer true Ended is = omega arith
   answer_counts_by c answer false stage is = omega arith
 
@@ -106,6 +110,7 @@ module _ (setting : Setting) (ways : Ways) (conn : ℕ) where
   ok_counts_by : (c : Connection) (fits : Bool) (stage : Stage) → c.stage ≡ stage → commands_of (ok_by setting ways conn c fits stage).connection ≤ commands_of c
   unfolding ok_by
   ok_counts_by c true (Waits tag it) is = clears_counts c tag it it.at is
+  ok_counts_by c true (Lists tag it) is = omega (arith, inputs_count (reading_again c) c.waiting, ap is_asked is)
   ok_counts_by c true Reading is = omega arith
   ok_counts_by c true Ended is = omega arith
   ok_counts_by c false stage is = omega arith

@@ -15,7 +15,7 @@ use Rattle.mur_base.specs.Map.{with_entry, with_value}
 use Rattle.mur_base.proofs.MapLaws.{numbers_apart, same_or_other, value_at-with_entry, value_at-with_entry-other, value_at-with_value, value_at-with_value-other}
 use Rattle.front_core.specs.declared.connection.Connection.{Connection}
 use Rattle.front_core.specs.declared.connection.Stage.{Stage}
-use Rattle.front_core.specs.declared.connection.Stage.TheVariants.{Reading, Waits, Ended}
+use Rattle.front_core.specs.declared.connection.Stage.TheVariants.{Reading, Waits, Lists, Ended}
 use Rattle.front_core.specs.declared.front.Front.{Front}
 use Rattle.front_core.specs.Answered.{answer_comes, ok_comes}
 use Rattle.front_core.specs.Ended.{released, released_at}
@@ -50,6 +50,7 @@ released_by : (connection : Connection) (stage : Stage) → commands_of (release
 unfolding released_at
 released_by connection Reading = omega arith
 released_by connection (Waits tag it) = omega arith
+released_by connection (Lists tag it) = omega arith
 released_by connection Ended = omega arith
 
 -- what is let go counts no more
@@ -81,6 +82,7 @@ bytes_by_counts : (front : Front) (conn : ℕ) (bytes : List ℕ) (most : ℕ) (
 unfolding bytes_by
 bytes_by_counts front conn bytes most connection Reading there has = read_counts front conn bytes most connection there has
 bytes_by_counts front conn bytes most connection (Waits tag it) there has = read_counts front conn bytes most connection there has
+bytes_by_counts front conn bytes most connection (Lists tag it) there has = read_counts front conn bytes most connection there has
 bytes_by_counts front conn bytes most connection Ended there has = more_counts front most (length bytes) has
 
 bytes_at_counts : (front : Front) (conn : ℕ) (bytes : List ℕ) (most : ℕ) (found : Option Connection) → connection_at front conn ≡ found

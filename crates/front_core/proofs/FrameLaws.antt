@@ -7,11 +7,11 @@ use Rattle.imap_types.specs.declared.request.Request.{Request}
 use Rattle.imap_types.specs.declared.request.Request.TheVariants.{Command as a_command, Unknown as unknown, TooBig as too_big}
 use Rattle.mur_model.specs.declared.setting.Setting.{Setting}
 use Rattle.mur_model.specs.declared.need.Need.{Need}
-use Rattle.mur_model.specs.declared.need.Need.TheVariants.{Reply, Leave, Home}
+use Rattle.mur_model.specs.declared.need.Need.TheVariants.{Reply, Leave, Home, Names}
 use Rattle.session_core.specs.Begin.{begin}
 use Rattle.front_core.specs.declared.connection.Connection.{Connection}
 use Rattle.front_core.specs.declared.connection.Stage.{Stage}
-use Rattle.front_core.specs.declared.connection.Stage.TheVariants.{Reading, Waits, Ended}
+use Rattle.front_core.specs.declared.connection.Stage.TheVariants.{Reading, Waits, Lists, Ended}
 use Rattle.front_core.specs.Reading.{Reading as Read}
 use Rattle.front_core.specs.Taken.{Turned, Ways, answers_now, answers_last, turned_by_need, request_in, input_in, comes_at, input_comes}
 
@@ -30,6 +30,7 @@ module _ (setting : Setting) (ways : Ways) (conn : ℕ) (reader : Read) where
     need_apart c tag (Reply reply) = refl
     need_apart c tag (Leave reply) = refl
     need_apart c tag (Home name asking) = refl
+    need_apart c tag (Names it) = refl
 
     request_apart : (c : Connection) (request : Request)
         → request_in setting ways conn (record c { reader = reader; waiting = waiting }) request
@@ -61,6 +62,7 @@ reader_by : (setting : Setting) (ways : Ways) (conn : ℕ) (c : Connection) (inp
 unfolding comes_at
 reader_by setting ways conn c input Reading = ap (λ (t : Turned). t.connection.reader) (input_keeps setting ways conn c input)
 reader_by setting ways conn c input (Waits tag it) = refl
+reader_by setting ways conn c input (Lists tag it) = refl
 reader_by setting ways conn c input Ended = refl
 
 -- an input that comes keeps the reader
@@ -76,6 +78,7 @@ comes_by setting ways conn reader c input Reading =
     input_apart setting ways conn reader c.waiting c input
     ∙ ap (λ w. holding reader w (input_in setting ways conn c input)) (sym (waiting_kept setting ways conn c input))
 comes_by setting ways conn reader c input (Waits tag it) = refl
+comes_by setting ways conn reader c input (Lists tag it) = refl
 comes_by setting ways conn reader c input Ended = refl
 
 pub comes_apart : (setting : Setting) (ways : Ways) (conn : ℕ) (reader : Read) (c : Connection) (input : Input)

@@ -1,19 +1,26 @@
 -- Inputs that come one after another.
 use Rattle.std.proofs.Common.{◌≡◌, ℕ, List, [], ◌∷◌, ◌++◌, refl, sym, ◌∙◌, ap, append_assoc}
+use Rattle.std.specs.Prelude.{⊤}
 use Rattle.std.proofs.lemmas.List.{append-nil}
-use Rattle.asking_core.specs.declared.waiting.Waiting.{Waiting}
 use Rattle.imap_talk.specs.declared.inputs.Input.{Input}
 use Rattle.link_msg.specs.declared.out.Out.{Out}
-use Rattle.imap_types.specs.declared.command.Tag.{Tag}
 use Rattle.mur_model.specs.declared.setting.Setting.{Setting}
 use Rattle.front_core.specs.declared.connection.Connection.{Connection}
-use Rattle.front_core.specs.declared.connection.Stage.TheVariants.{Reading, Waits, Ended}
+use Rattle.front_core.specs.declared.connection.Stage.{Stage}
+use Rattle.front_core.specs.declared.connection.Stage.TheVariants.{Reading, Waits, Lists, Ended}
 use Rattle.front_core.specs.Reading.{Reading as Read}
-use Rattle.front_core.specs.Taken.{Turned, Ways, input_in, comes_at, input_comes, inputs_come, behind_outs}
+use Rattle.front_core.specs.Taken.{Turned, Ways, input_in, comes_at, input_comes, inputs_come, behind_outs, waits_behind}
 use Rattle.front_core.proofs.FrameLaws.{reading, comes_apart}
 
 pub behind_behind : (first second : List Out) (turned : Turned) → behind_outs first (behind_outs second turned) ≡ behind_outs (first ++ second) turned
 behind_behind first second turned = ap (λ outs. record turned { outs = outs }) (sym (append_assoc first second turned.outs))
+
+-- inputs wait behind a command that waits
+abbrev pub HoldsBack : Stage → Type 0
+HoldsBack Reading = ⊥
+HoldsBack (Waits tag it) = ⊤
+HoldsBack (Lists tag it) = ⊤
+HoldsBack Ended = ⊥
 
 module _ (setting : Setting) (ways : Ways) (conn : ℕ) where
   pub come_apart : (reader : Read) (c : Connection) (inputs : List Input)
@@ -38,19 +45,25 @@ module _ (setting : Setting) (ways : Ways) (conn : ℕ) where
       ap (behind_outs turned.outs) (come_append turned.connection first rest)
       ∙ behind_behind turned.outs behind.outs (inputs_come setting ways conn behind.connection rest)
 
-  waits : (c : Connection) (input : Input) (tag : Tag) (it : Waiting) → c.stage ≡ Waits tag it
-      → input_comes setting ways conn c input ≡ record { connection = record c { waiting = c.waiting ++ input ∷ [] }; outs = [] }
-  unfolding input_comes comes_at
-  waits c input tag it is = ap (comes_at setting ways conn c input) is
+  waits_at : (c : Connection) (input : Input) (stage : Stage) → HoldsBack stage → comes_at setting ways conn c input stage ≡ waits_behind c input
+  unfolding comes_at
+  waits_at c input Reading holds = absurd holds
+  waits_at c input (Waits tag it) holds = refl
+  waits_at c input (Lists tag it) holds = refl
+  waits_at c input Ended holds = absurd holds
+
+  waits : (c : Connection) (input : Input) → HoldsBack c.stage → input_comes setting ways conn c input ≡ waits_behind c input
+  unfolding input_comes
+  waits c input holds = waits_at c input c.stage holds
 
   -- behind a command that waits all of them wait
-  pub asked_waits : (c : Connection) (inputs : List Input) (tag : Tag) (it : Waiting) → c.stage ≡ Waits tag it
+  pub held_back : (c : Connection) (inputs : List Input) → HoldsBack c.stage
       → inputs_come setting ways conn c inputs ≡ record { connection = record c { waiting = c.waiting ++ inputs }; outs = [] }
   unfolding inputs_come
-  asked_waits c [] tag it is = ap (λ w. record { connection = record c { waiting = w }; outs = [] }) (sym (append-nil c.waiting))
-  asked_waits c (input ∷ inputs) tag it is =
-      ap (λ (t : Turned). behind_outs t.outs (inputs_come setting ways conn t.connection inputs)) (waits c input tag it is)
-      ∙ asked_waits (record c { waiting = c.waiting ++ input ∷ [] }) inputs tag it is
+  held_back c [] holds = ap (λ w. record { connection = record c { waiting = w }; outs = [] }) (sym (append-nil c.waiting))
+  held_back c (input ∷ inputs) holds =
+      ap (λ (t : Turned). behind_outs t.outs (inputs_come setting ways conn t.connection inputs)) (waits c input holds)
+      ∙ held_back (record c { waiting = c.waiting ++ input ∷ [] }) inputs holds
       ∙ ap (λ w. record { connection = record c { waiting = w }; outs = [] }) (append_assoc c.waiting (input ∷ []) inputs)
 
   drops : (c : Connection) (input : Input) → c.stage ≡ Ended → input_comes setting ways conn c input ≡ record { connection = c; outs = [] }

@@ -57,7 +57,7 @@ use Rattle.mur_model.specs.declared.setting.Setting.{Setting}
 use Rattle.session_core.specs.Begin.{begin}
 use Rattle.front_core.specs.declared.connection.Connection.{Connection}
 use Rattle.front_core.specs.declared.connection.Stage.{Stage}
-use Rattle.front_core.specs.declared.connection.Stage.TheVariants.{Reading, Waits, Ended}
+use Rattle.front_core.specs.declared.connection.Stage.TheVariants.{Reading, Waits, Lists, Ended}
 use Rattle.front_core.specs.declared.front.Front.{Front}
 use Rattle.front_core.specs.Answered.{answer_by, answer_comes, by_then, clears_at, need_behind, ok_by, ok_comes, reading_again}
 use Rattle.front_core.specs.Ended.{released}
@@ -218,6 +218,10 @@ module _ (own : ℕ → Type 0) (may : List ℕ → LinkMsg → Type 0) (ways : 
   asks_let connection tag name asking =
       (begun_may may ways (next_of conn connection) connection.session (to_begin name asking) may_ask, tt)
 
+  -- the NOOP of a LIST
+  lists_let : (connection : Connection) → AreLet (Link ways.master (Line (noop_line (next_of conn connection))) ∷ [])
+  lists_let connection = (may_ask.master (noop_line (next_of conn connection)), tt)
+
   now_let : (connection : Connection) (session : Sess) (tag : Tag) (reply : Reply) → AreLet (answers_now conn connection session tag reply).outs
   unfolding answers_now
   now_let connection session tag reply = (it_is, (tt, tt))
@@ -231,6 +235,7 @@ module _ (own : ℕ → Type 0) (may : List ℕ → LinkMsg → Type 0) (ways : 
   need_let connection tag (needs.Reply reply) = now_let connection connection.session tag reply
   need_let connection tag (needs.Leave reply) = last_let connection tag reply
   need_let connection tag (needs.Home name asking) = asks_let connection tag name asking
+  need_let connection tag (needs.Names it) = lists_let connection
 
   request_let : (setting : Setting) (connection : Connection) (request : Request) → AreLet (request_in setting ways conn connection request).outs
   unfolding request_in
@@ -249,6 +254,7 @@ module _ (own : ℕ → Type 0) (may : List ℕ → LinkMsg → Type 0) (ways : 
   unfolding comes_at
   comes_let setting connection input Reading = input_let setting connection input
   comes_let setting connection input (Waits tag it) = tt
+  comes_let setting connection input (Lists tag it) = tt
   comes_let setting connection input Ended = tt
 
   pub inputs_let : (setting : Setting) (connection : Connection) (inputs : List Input) → AreLet (inputs_come setting ways conn connection inputs).outs
@@ -265,6 +271,7 @@ module _ (own : ℕ → Type 0) (may : List ℕ → LinkMsg → Type 0) (ways : 
       (it_is, (tt, inputs_let setting (reading_again connection) connection.waiting))
   behind_let setting connection tag how (needs.Leave reply) = (it_is, (tt, (tt, tt)))
   behind_let setting connection tag how (needs.Home name asking) = asks_let connection tag name asking
+  behind_let setting connection tag how (needs.Names it) = lists_let connection
 
   then_let : (setting : Setting) (connection : Connection) (tag : Tag) (it : Waiting) (what : Then) → GoesThere may what
       → AreLet (by_then setting ways conn connection tag it what).outs
@@ -299,6 +306,7 @@ module _ (own : ℕ → Type 0) (may : List ℕ → LinkMsg → Type 0) (ways : 
   ok_by_let : (setting : Setting) (connection : Connection) (fits : Bool) (stage : Stage) → AreLet (ok_by setting ways conn connection fits stage).outs
   unfolding ok_by
   ok_by_let setting connection true (Waits tag it) = clears_let setting connection tag it it.at
+  ok_by_let setting connection true (Lists tag it) = (it_is, (tt, inputs_let setting (reading_again connection) connection.waiting))
   ok_by_let setting connection fits stage = tt
 
   pub ok_let : (setting : Setting) (connection : Connection) (id : AskId) → AreLet (ok_comes setting ways conn connection id).outs
@@ -388,6 +396,7 @@ module _ (own : ℕ → Type 0) (may : List ℕ → LinkMsg → Type 0) (front :
     bytes_own_by conn bytes connection Ended here = nothing_own
     bytes_own_by conn bytes connection Reading here = read_own conn bytes connection here
     bytes_own_by conn bytes connection (Waits tag it) here = read_own conn bytes connection here
+    bytes_own_by conn bytes connection (Lists tag it) here = read_own conn bytes connection here
 
     bytes_own_at : (conn : ℕ) (bytes : List ℕ) (found : Option Connection) → connection_at front conn ≡ found
         → LetsItsOwn own may front (front_bytes_at front conn bytes found)

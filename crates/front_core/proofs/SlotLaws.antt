@@ -10,7 +10,7 @@ use Rattle.mur_base.specs.Map.{with_value}
 use Rattle.mur_model.specs.declared.setting.Setting.{Setting}
 use Rattle.front_core.specs.declared.connection.Connection.{Connection}
 use Rattle.front_core.specs.declared.connection.Stage.{Stage}
-use Rattle.front_core.specs.declared.connection.Stage.TheVariants.{Reading, Waits, Ended}
+use Rattle.front_core.specs.declared.connection.Stage.TheVariants.{Reading, Waits, Lists, Ended}
 use Rattle.front_core.specs.declared.front.Front.{Front}
 use Rattle.front_core.specs.Answered.{answer_by, answer_comes, ok_by, ok_comes}
 use Rattle.front_core.specs.Ended.{ended, released_at, with_released}
@@ -31,6 +31,7 @@ by_stage : (front : Front) (conn : ℕ) (bytes : List ℕ) (connection : Connect
 unfolding bytes_at bytes_by stage_has_ended
 by_stage front conn bytes connection Reading there = refl
 by_stage front conn bytes connection (Waits tag it) there = refl
+by_stage front conn bytes connection (Lists tag it) there = refl
 by_stage front conn bytes connection Ended there =
     ap (λ connections. record { front = record front { connections = connections }; outs = [] })
     (set_value_same (is_at (nat_cmp conn)) front.connections connection there)

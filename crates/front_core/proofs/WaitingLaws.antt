@@ -1,29 +1,31 @@
 -- The inputs that waited, one by one: those that the next command makes wait stay where they are.
-use Rattle.std.proofs.Common.{◌≡◌, ℕ, ◌+◌, ◌≤◌, List, [], ◌∷◌, ◌++◌, length, true, false, refl, sym, ◌∙◌, ap, arith}
+use Rattle.std.proofs.Common.{◌≡◌, ℕ, ◌+◌, ◌≤◌, List, [], ◌∷◌, ◌++◌, length, true, false, refl, sym, ◌∙◌, ap, arith, subst}
 use Rattle.std.proofs.lemmas.List.{append-nil}
 use Rattle.imap_talk.specs.declared.inputs.Input.{Input}
 use Rattle.link_msg.specs.declared.out.Out.{Out}
 use Rattle.mur_model.specs.declared.setting.Setting.{Setting}
 use Rattle.front_core.specs.declared.connection.Connection.{Connection}
 use Rattle.front_core.specs.declared.connection.Stage.{Stage}
-use Rattle.front_core.specs.declared.connection.Stage.TheVariants.{Reading, Waits, Ended}
+use Rattle.front_core.specs.declared.connection.Stage.TheVariants.{Reading, Waits, Lists, Ended}
 use Rattle.front_core.specs.Room.{commands_of}
 use Rattle.front_core.specs.Stages.{is_reading, stage_has_ended}
 use Rattle.front_core.specs.Taken.{Turned, Ways, input_in, inputs_come, behind_outs}
 use Rattle.front_core.proofs.CommandLaws.{input_in_counts}
 use Rattle.front_core.proofs.FrameLaws.{input_apart, input_keeps, waiting_kept}
-use Rattle.front_core.proofs.FramesLaws.{behind_behind, asked_waits, ended_drops, read_on}
+use Rattle.front_core.proofs.FramesLaws.{HoldsBack, behind_behind, held_back, ended_drops, read_on}
 
 stage_read : (stage : Stage) → is_reading stage ≡ true → stage ≡ Reading
 unfolding is_reading
 stage_read Reading h = refl
 stage_read (Waits tag it) h = cc
+stage_read (Lists tag it) h = cc
 stage_read Ended h = cc
 
 pub stage_ended : (stage : Stage) → stage_has_ended stage ≡ true → stage ≡ Ended
 unfolding stage_has_ended
 stage_ended Reading h = cc
 stage_ended (Waits tag it) h = cc
+stage_ended (Lists tag it) h = cc
 stage_ended Ended h = refl
 
 module _ (setting : Setting) (ways : Ways) (conn : ℕ) where
@@ -58,14 +60,18 @@ module _ (setting : Setting) (ways : Ways) (conn : ℕ) where
       ∙ ap (λ all. record { connection = record c { waiting = [] }; outs = all }) (append-nil outs)
       ∙ ap (λ w. record { connection = record c { waiting = w }; outs = outs }) (sym over))
 
+  all_stay : (outs : List Out) (c : Connection) → HoldsBack c.stage → record { connection = c; outs = outs } ≡ waiting_comes outs c
+  all_stay outs c holds = sym (
+      ap (behind_outs outs) (held_back setting ways conn (record c { waiting = [] }) c.waiting holds)
+      ∙ ap (λ all. record { connection = c; outs = all }) (append-nil outs))
+
   stays_by : (outs : List Out) (c : Connection) (stage : Stage) → c.stage ≡ stage → is_reading stage ≡ false → stage_has_ended stage ≡ false
       → record { connection = c; outs = outs } ≡ waiting_comes outs c
   unfolding is_reading stage_has_ended
   stays_by outs c Reading is reads ends = cc
   stays_by outs c Ended is reads ends = cc
-  stays_by outs c (Waits tag it) is reads ends = sym (
-      ap (behind_outs outs) (asked_waits setting ways conn (record c { waiting = [] }) c.waiting tag it is)
-      ∙ ap (λ all. record { connection = c; outs = all }) (append-nil outs))
+  stays_by outs c (Waits tag it) is reads ends = all_stay outs c (subst HoldsBack (sym is) tt)
+  stays_by outs c (Lists tag it) is reads ends = all_stay outs c (subst HoldsBack (sym is) tt)
 
   -- the inputs stay where they are behind a command that waits
   pub waiting_stays : (outs : List Out) (c : Connection) → is_reading c.stage ≡ false → stage_has_ended c.stage ≡ false

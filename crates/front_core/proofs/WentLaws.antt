@@ -13,7 +13,7 @@ use Rattle.imap_types.specs.declared.command.Tag.{Tag}
 use Rattle.mur_base.specs.declared.point.AskId.{AskId}
 use Rattle.mur_base.specs.declared.point.What.{What}
 use Rattle.mur_model.specs.declared.need.Need.{Need}
-use Rattle.mur_model.specs.declared.need.Need.TheVariants.{Reply, Leave, Home}
+use Rattle.mur_model.specs.declared.need.Need.TheVariants.{Reply, Leave, Home, Names}
 use Rattle.mur_model.specs.declared.session.Sess.{Sess}
 use Rattle.mur_model.specs.declared.session.Turn.{Turn}
 use Rattle.mur_model.specs.declared.setting.Setting.{Setting}
@@ -104,6 +104,7 @@ module _ (setting : Setting) (ways : Ways) (conn : ℕ) (c : Connection) (tag : 
   need_done session later told (Reply reply) = refl
   need_done session later told (Leave reply) = refl
   need_done session later told (Home name asking) = refl
+  need_done session later told (Names it) = refl
 
   stays : (session : Sess) (it later : Waiting) → c.stage ≡ Waits tag it → later ≡ it → carried session later ≡ record c { session = session }
   stays session it later is same = ap (λ (s : Stage). record c { session = session; stage = s }) (ap (Waits tag) same ∙ sym is)

@@ -8,6 +8,7 @@ use Rattle.asking_core.specs.declared.then.Then.TheVariants as then
 use Rattle.asking_core.specs.declared.waiting.At.{At}
 use Rattle.asking_core.specs.declared.waiting.At.TheVariants.{Home, Barrier}
 use Rattle.asking_core.specs.declared.waiting.Waiting.{Waiting}
+use Rattle.feed_core.specs.Listing.{mailbox_names}
 use Rattle.imap_reply.specs.ReplyText.{reply_text}
 use Rattle.imap_types.specs.declared.command.Tag.{Tag}
 use Rattle.link_msg.specs.declared.answer.BackAnswer.{BackAnswer}
@@ -16,13 +17,15 @@ use Rattle.link_msg.specs.declared.how.How.TheVariants.{Behind, Reserved}
 use Rattle.link_msg.specs.declared.out.Out.{Out}
 use Rattle.link_msg.specs.declared.out.Out.TheVariants.{Client, Close, Told}
 use Rattle.mur_base.specs.declared.point.AskId.{AskId}
+use Rattle.mur_model.specs.Listing.{list_reply}
+use Rattle.mur_model.specs.declared.commands.list.Listing.{Listing}
 use Rattle.mur_model.specs.declared.need.Need.{Need}
 use Rattle.mur_model.specs.declared.need.Need.TheVariants as needs
 use Rattle.mur_model.specs.declared.setting.Setting.{Setting}
 use Rattle.front_core.specs.declared.connection.Connection.{Connection}
 use Rattle.front_core.specs.declared.connection.Stage.{Stage}
-use Rattle.front_core.specs.declared.connection.Stage.TheVariants.{Reading, Waits, Ended}
-use Rattle.front_core.specs.Taken.{Turned, Ways, asks, behind_outs, inputs_come, next_of, waits_with}
+use Rattle.front_core.specs.declared.connection.Stage.TheVariants.{Reading, Waits, Lists, Ended}
+use Rattle.front_core.specs.Taken.{Turned, Ways, asks, behind_outs, inputs_come, lists, next_of, waits_with}
 
 -- the connection behind the reply of its command, before the inputs that waited
 abbrev pub reading_again : Connection → Connection
@@ -52,6 +55,7 @@ abbrev pub need_behind : Setting → Ways → ℕ → Connection → Tag → How
 need_behind setting ways conn connection tag how (needs.Reply reply) = reads_on setting ways conn connection how (reply_text tag reply)
 need_behind setting ways conn connection tag how (needs.Leave reply) = ends_with conn connection how (reply_text tag reply)
 need_behind setting ways conn connection tag how (needs.Home name asking) = asks ways conn connection tag name asking
+need_behind setting ways conn connection tag how (needs.Names it) = lists ways conn connection tag it
 
 -- the same of the command that the connection's stage tells
 abbrev pub need_at : Setting → Ways → ℕ → Connection → How → Need → Stage → Turned
@@ -90,8 +94,19 @@ clears_at setting ways conn connection tag it (Home server) = unchanged connecti
 clears_at setting ways conn connection tag it (Barrier why) = goes_on_by setting ways conn connection tag
     (cleared ways.recs ways.master ways.first (next_of conn connection) connection.session it why)
 
+-- a LIST is answered from the records of then
+abbrev pub lists_at : Setting → Ways → ℕ → Connection → Tag → Listing → Turned
+lists_at setting ways conn connection tag it =
+    reads_on setting ways conn connection Behind (reply_text tag (list_reply it (mailbox_names ways.recs)))
+
+-- the same of the LIST that the connection's stage tells
+unfoldable pub listed_by : Setting → Ways → ℕ → Connection → Stage → Turned
+listed_by setting ways conn connection (Lists tag it) = lists_at setting ways conn connection tag it
+listed_by setting ways conn connection stage = unchanged connection
+
 unfoldable pub ok_by : Setting → Ways → ℕ → Connection → Bool → Stage → Turned
 ok_by setting ways conn connection true (Waits tag it) = clears_at setting ways conn connection tag it it.at
+ok_by setting ways conn connection true (Lists tag it) = lists_at setting ways conn connection tag it
 ok_by setting ways conn connection fits stage = unchanged connection
 
 unfoldable pub ok_comes : Setting → Ways → ℕ → Connection → AskId → Turned

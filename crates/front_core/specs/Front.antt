@@ -16,7 +16,7 @@ use Rattle.mur_base.specs.Map.{value_at, with_entry, with_value}
 use Rattle.mur_model.specs.declared.setting.Setting.{Setting}
 use Rattle.front_core.specs.declared.connection.Connection.{Connection}
 use Rattle.front_core.specs.declared.connection.Stage.{Stage}
-use Rattle.front_core.specs.declared.connection.Stage.TheVariants.{Reading, Waits, Ended}
+use Rattle.front_core.specs.declared.connection.Stage.TheVariants.{Reading, Waits, Lists, Ended}
 use Rattle.front_core.specs.declared.front.Front.{Front}
 use Rattle.front_core.specs.Answered.{answer_comes, ok_comes}
 use Rattle.front_core.specs.Ended.{ended, released, with_released}
@@ -83,6 +83,8 @@ bytes_by front conn bytes connection Ended = still front
 bytes_by front conn bytes connection Reading = with_turned front conn
     (inputs_come front.setting (ways_of front) conn (having_read front.setting connection bytes) (inputs_of_more front.setting connection.reader bytes))
 bytes_by front conn bytes connection (Waits tag it) = with_turned front conn
+    (inputs_come front.setting (ways_of front) conn (having_read front.setting connection bytes) (inputs_of_more front.setting connection.reader bytes))
+bytes_by front conn bytes connection (Lists tag it) = with_turned front conn
     (inputs_come front.setting (ways_of front) conn (having_read front.setting connection bytes) (inputs_of_more front.setting connection.reader bytes))
 
 unfoldable pub front_bytes_at : Front → ℕ → List ℕ → Option Connection → Stepped
@@ -158,6 +160,7 @@ deliver front from message = still front
 abbrev pub is_asked : Stage → ℕ
 is_asked Reading = 0
 is_asked (Waits tag it) = 1
+is_asked (Lists tag it) = 1
 is_asked Ended = 0
 
 -- no connection waits for the answer of this node

@@ -5,6 +5,7 @@ use Rattle.asking_core.specs.Begins.{Begun, first_sent}
 use Rattle.asking_core.specs.declared.waiting.At.TheVariants.{Barrier}
 use Rattle.asking_core.specs.declared.waiting.Sent.{Sent}
 use Rattle.asking_core.specs.declared.waiting.Waiting.{Waiting}
+use Rattle.ask_routes.specs.Barrier.{noop_line}
 use Rattle.ask_routes.specs.declared.next.Why.TheVariants.{Missing}
 use Rattle.feed_core.specs.Feed.{Recs}
 use Rattle.imap_reply.specs.ByeLine.{bye_line}
@@ -15,6 +16,7 @@ use Rattle.imap_talk.specs.declared.inputs.Input.{Input}
 use Rattle.imap_talk.specs.declared.inputs.Input.TheVariants.{GoesOn, Asks, Faults}
 use Rattle.link_msg.specs.declared.how.How.TheVariants.{Here}
 use Rattle.link_msg.specs.declared.out.Out.{Out}
+use Rattle.link_msg.specs.declared.message.LinkMsg.TheVariants.{Line}
 use Rattle.link_msg.specs.declared.out.Out.TheVariants.{Client, Close, Link, Told}
 use Rattle.imap_types.specs.declared.command.Tag.{Tag}
 use Rattle.imap_types.specs.declared.reply.BadText.TheVariants.{Syntax}
@@ -24,12 +26,13 @@ use Rattle.imap_types.specs.declared.reply.Verdict.TheVariants.{Bad as bad_reply
 use Rattle.imap_types.specs.declared.request.Request.{Request}
 use Rattle.imap_types.specs.declared.request.Request.TheVariants.{Command as a_command, Unknown as unknown, TooBig as too_big}
 use Rattle.mur_base.specs.declared.point.AskId.{AskId}
+use Rattle.mur_model.specs.declared.commands.list.Listing.{Listing}
 use Rattle.mur_model.specs.declared.session.Sess.{Sess}
 use Rattle.mur_model.specs.declared.setting.Setting.{Setting}
 use Rattle.imap_types.specs.Reply.{reply_of, refused}
 use Rattle.front_core.specs.declared.connection.Connection.{Connection}
 use Rattle.front_core.specs.declared.connection.Stage.{Stage}
-use Rattle.front_core.specs.declared.connection.Stage.TheVariants.{Reading, Waits, Ended}
+use Rattle.front_core.specs.declared.connection.Stage.TheVariants.{Reading, Waits, Lists, Ended}
 use Rattle.mur_model.specs.declared.need.Asking.{Asking}
 use Rattle.mur_model.specs.declared.need.Need.{Need}
 use Rattle.mur_model.specs.declared.need.Need.TheVariants as needs
@@ -84,11 +87,19 @@ abbrev pub asks : Ways → ℕ → Connection → Tag → List ℕ → Asking �
 asks ways conn connection tag name asking = begins_with connection tag
     (first_sent ways.recs ways.master ways.first (next_of conn connection) connection.session (to_begin name asking))
 
+-- a LIST begins to wait for the master's OK to a NOOP: what the master told before may be on its way
+abbrev pub lists : Ways → ℕ → Connection → Tag → Listing → Turned
+lists ways conn connection tag it = record {
+  connection = record connection { stage = Lists tag it };
+  outs = Link ways.master (Line (noop_line (next_of conn connection))) ∷ [];
+}
+
 -- by what the session needs behind a command
 unfoldable pub turned_by_need : Ways → ℕ → Connection → Tag → Need → Turned
 turned_by_need ways conn connection tag (needs.Reply reply) = answers_now conn connection connection.session tag reply
 turned_by_need ways conn connection tag (needs.Leave reply) = answers_last conn connection tag reply
 turned_by_need ways conn connection tag (needs.Home name asking) = asks ways conn connection tag name asking
+turned_by_need ways conn connection tag (needs.Names it) = lists ways conn connection tag it
 
 abbrev pub begun_in : Ways → ℕ → Connection → Tag → Behind → Turned
 begun_in ways conn connection tag behind = turned_by_need ways conn (record connection { session = behind.session }) tag behind.need
@@ -105,11 +116,15 @@ input_in setting ways conn connection (GoesOn why) = record { connection = conne
 input_in setting ways conn connection (Faults fault) =
     record { connection = record connection { stage = Ended }; outs = Client conn (bye_line (bye_of fault)) ∷ Close conn ∷ [] }
 
+-- an input waits behind a command that waits
+abbrev pub waits_behind : Connection → Input → Turned
+waits_behind connection input = record { connection = record connection { waiting = connection.waiting ++ input ∷ [] }; outs = [] }
+
 -- an input that comes, by what the connection is at
 unfoldable pub comes_at : Setting → Ways → ℕ → Connection → Input → Stage → Turned
 comes_at setting ways conn connection input Reading = input_in setting ways conn connection input
-comes_at setting ways conn connection input (Waits tag it) =
-    record { connection = record connection { waiting = connection.waiting ++ input ∷ [] }; outs = [] }
+comes_at setting ways conn connection input (Waits tag it) = waits_behind connection input
+comes_at setting ways conn connection input (Lists tag it) = waits_behind connection input
 comes_at setting ways conn connection input Ended = record { connection = connection; outs = [] }
 
 unfoldable pub input_comes : Setting → Ways → ℕ → Connection → Input → Turned

@@ -54,6 +54,7 @@ impl Connection {
                 let then = it.cleared(routes, &mut self.session, why)?;
                 self.does(desk, then)
             }
+            Stage::Lists(_, _) if id.command == self.answered + 1 => self.listed(desk),
             _ => Ok(Outs::new(desk.alloc)),
         }
     }
@@ -80,7 +81,7 @@ impl Connection {
     {
         match &self.stage {
             Stage::Waits(_, _) => sent_out(alloc, sent),
-            Stage::Reading | Stage::Ended => Ok(Outs::new(alloc)),
+            Stage::Reading | Stage::Lists(_, _) | Stage::Ended => Ok(Outs::new(alloc)),
         }
     }
 
@@ -111,6 +112,15 @@ impl Connection {
                 };
                 let mut outs = Outs::new(desk.alloc);
                 self.asks(desk, tag, name, asking, &mut outs)?;
+                Ok(outs)
+            }
+            Need::Names(it) => {
+                let stage = mem::replace(&mut self.stage, Stage::Reading);
+                let Stage::Waits(tag, _) = stage else {
+                    unreachable!();
+                };
+                let mut outs = Outs::new(desk.alloc);
+                self.lists(desk, tag, it, &mut outs)?;
                 Ok(outs)
             }
         }
@@ -145,7 +155,7 @@ impl Connection {
 
     /// The client is given its reply, and the inputs that waited come.
     #[tactic(auto, using(std::proofs::lemmas::Grind::common_steps))]
-    fn reads_on(&mut self, desk: Desk, how: How, reply: Bytes) -> Result<Outs, Memory>
+    pub(crate) fn reads_on(&mut self, desk: Desk, how: How, reply: Bytes) -> Result<Outs, Memory>
         requires room { commands_of (reading_again self.old) + length self.old.waiting < 2 ^ 64 }
         ensures { IfOk result (λ outs. record { connection = self.new; outs = outs }
             ≡ reads_on desk.entry.setting.now (ways_by desk.entry.replica.now.records desk.entry.master.now desk.entry.first.now) desk.entry.conn self.old how reply) }

@@ -7,7 +7,7 @@ use crate::parked::Parked;
 use crate::reader::Reader;
 use imap_talk::Input;
 use mur_base::{NodeName, Queue};
-use mur_model::Tag;
+use mur_model::{Listing, Tag};
 use session_core::Session;
 use std::alloc::Global;
 
@@ -18,6 +18,8 @@ pub enum Stage {
     Reading,
     /// A command under this tag waits, for the answer of a server or for the master's OK.
     Waits(Tag, Parked),
+    /// A LIST under this tag waits for the master's OK.
+    Lists(Tag, Listing),
     /// Nothing more is taken or given.
     Ended,
 }
@@ -64,7 +66,7 @@ impl Connection {
     {
         match &self.stage {
             Stage::Waits(_, it) => it.has_asked(node),
-            Stage::Reading | Stage::Ended => false,
+            Stage::Reading | Stage::Lists(_, _) | Stage::Ended => false,
         }
     }
 

@@ -19,6 +19,7 @@ mod asks;
 mod connection;
 mod desk;
 mod front;
+mod listing;
 mod parked;
 mod piece;
 mod reader;

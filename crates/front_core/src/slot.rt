@@ -65,7 +65,7 @@ impl Slot {
         ensures { result ≡ released connection.value }
     {
         match connection.stage {
-            Stage::Reading | Stage::Waits(_, _) => Slot {
+            Stage::Reading | Stage::Waits(_, _) | Stage::Lists(_, _) => Slot {
                 held: Held::Live(connection),
             },
             Stage::Ended => Slot {

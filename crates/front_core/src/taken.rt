@@ -33,7 +33,7 @@ impl Connection {
     {
         match self.stage {
             Stage::Reading => self.input_in(desk, input, outs),
-            Stage::Waits(_, _) => self.waiting.push(input),
+            Stage::Waits(_, _) | Stage::Lists(_, _) => self.waiting.push(input),
             Stage::Ended => Ok(()),
         }
     }
@@ -101,6 +101,7 @@ impl Connection {
             Need::Reply(reply) => self.answers(desk, &tag, reply, outs),
             Need::Leave(reply) => self.answers_last(desk, &tag, reply, outs),
             Need::Home(name, asking) => self.asks(desk, tag, name, asking, outs),
+            Need::Names(it) => self.lists(desk, tag, it, outs),
         }
     }
 

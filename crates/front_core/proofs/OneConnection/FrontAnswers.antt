@@ -2,16 +2,17 @@
 -- answer of the connection; or it begins to wait, for an answer of a server or for the master's OK.
 use Rattle.std.proofs.Common.{◌≡◌, ℕ, true, false, List, Option, None, Some, refl, sym, ◌∙◌, ap}
 use Rattle.front_core.specs.declared.connection.Connection.{Connection}
-use Rattle.front_core.specs.Taken.{Ways, answers_now, answers_last, asks, begun_in, turned_by_need, request_in}
+use Rattle.front_core.specs.Taken.{Ways, answers_now, answers_last, asks, begun_in, lists, turned_by_need, request_in}
 use Rattle.imap_types.specs.declared.command.Command.{Command}
 use Rattle.imap_types.specs.declared.command.Tag.{Tag}
-use Rattle.mur_model.specs.Needed.{Needed, Refusal, Turned as turned_at_once, Mailbox, Work}
+use Rattle.mur_model.specs.Needed.{Needed, Refusal, Turned as turned_at_once, Mailbox, Names, Work}
 use Rattle.imap_types.specs.declared.reply.BadText.TheVariants.{Syntax}
 use Rattle.imap_types.specs.declared.reply.NoText.TheVariants.{Limit}
 use Rattle.imap_types.specs.declared.reply.Reply.{Reply}
 use Rattle.imap_types.specs.declared.reply.Verdict.TheVariants.{Bad as bad_reply}
 use Rattle.imap_types.specs.declared.request.Request.{Request}
 use Rattle.imap_types.specs.declared.request.Request.TheVariants.{Command as a_command, Unknown as unknown, TooBig as too_big}
+use Rattle.mur_model.specs.declared.commands.list.Listing.{Listing}
 use Rattle.mur_model.specs.declared.session.Sess.{Sess}
 use Rattle.mur_model.specs.declared.session.Sess.TheVariants.{Off, In, Selected, Ended as session_ended}
 use Rattle.mur_model.specs.declared.setting.Setting.{Setting}
@@ -44,6 +45,9 @@ pub data IsTaken (setting : Setting) (ways : Ways) (conn : ℕ) (session : Sess)
   asked : (tag : Tag) (it : Command) (name : List ℕ) (work : Work) → request ≡ a_command tag it → need_of setting session it ≡ Mailbox name work
       → ((connection : Connection) → connection.session ≡ session
       → request_in setting ways conn connection request ≡ asks ways conn connection tag name (asked_for name work))
+      → IsTaken setting ways conn session request
+  listed : (tag : Tag) (it : Command) (listing : Listing) → request ≡ a_command tag it → need_of setting session it ≡ Names listing
+      → ((connection : Connection) → connection.session ≡ session → request_in setting ways conn connection request ≡ lists ways conn connection tag listing)
       → IsTaken setting ways conn session request
 
 -- the frontend does what the session needs behind the command
@@ -103,6 +107,10 @@ need_taken setting ways conn session tag it (Mailbox name work) e lasts =
     asked tag it name work refl e
     (λ connection s. begun_so setting ways conn session tag it _ e connection s
     ∙ ap (λ x. asks ways conn (record connection { session = x }) tag name (asked_for name work)) (sym s))
+need_taken setting ways conn session tag it (Names listing) e lasts =
+    listed tag it listing refl e
+    (λ connection s. begun_so setting ways conn session tag it _ e connection s
+    ∙ ap (λ x. lists ways conn (record connection { session = x }) tag listing) (sym s))
 
 pub request_taken : (setting : Setting) (ways : Ways) (conn : ℕ) (session : Sess) (request : Request) → has_ended session ≡ false
     → IsTaken setting ways conn session request

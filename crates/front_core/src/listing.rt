@@ -1,0 +1,54 @@
+// A LIST waits for the master's OK, and is answered from the replica (RFC 9051, 6.3.9).
+ghost use Rattle.std.specs.Prelude.{◌≡◌, ◌+◌, ◌<◌, ◌^◌, IfOk, OnOk};
+ghost use Rattle.front_core.specs.Answered.{listed_by};
+ghost use Rattle.front_core.specs.Room.{commands_of};
+ghost use Rattle.front_core.specs.Taken.{behind_outs, lists, ways_by};
+
+use crate::connection::{Connection, Stage};
+use crate::desk::Desk;
+use crate::replies::reply_bytes;
+use ask_routes::noop_line;
+use link_msg::{How, LinkMsg, Out, Outs};
+use mur_base::{AskId, Copied, Memory};
+use mur_model::{Listing, Tag};
+
+impl Connection {
+    /// Sends the master a NOOP, under the number that the command will have. For want of memory the connection is spent.
+    pub(crate) fn lists(
+        &mut self,
+        desk: Desk,
+        tag: Tag,
+        it: Listing,
+        outs: &mut Outs,
+    ) -> Result<(), Memory>
+        requires room { self.old.answered + 1 < 2 ^ 64 }
+        ensures { OnOk result (record { connection = self.new; outs = outs.new }
+            ≡ behind_outs outs.old (lists (ways_by desk.entry.replica.now.records desk.entry.master.now desk.entry.first.now) desk.entry.conn self.old tag it)) }
+    {
+        let id = AskId {
+            conn: desk.conn,
+            command: self.answered + 1,
+        };
+        let line = noop_line(desk.alloc, &id)?;
+        let to = desk.master.copy(desk.alloc)?;
+        self.stage = Stage::Lists(tag, it);
+        outs.push(Out::Link(to, LinkMsg::Line(line)))
+    }
+
+    /// Answers a LIST that waited: all that the master told before its OK was taken. Its time grows as the number of mailboxes. For want of memory
+    /// the connection is spent.
+    #[tactic(auto, unfolding(crate::specs::Answered::listed_by))]
+    pub(crate) fn listed(&mut self, desk: Desk) -> Result<Outs, Memory>
+        requires room { commands_of self.old < 2 ^ 64 }
+        ensures { IfOk result (λ outs. record { connection = self.new; outs = outs }
+            ≡ listed_by desk.entry.setting.now (ways_by desk.entry.replica.now.records desk.entry.master.now desk.entry.first.now) desk.entry.conn self.old self.old.stage) }
+    {
+        let Stage::Lists(tag, it) = &self.stage else {
+            return Ok(Outs::new(desk.alloc));
+        };
+        let names = desk.replica.names(desk.alloc)?;
+        let reply = it.reply(desk.alloc, names.as_slice())?;
+        let text = reply_bytes(desk.alloc, tag, reply)?;
+        self.reads_on(desk, How::Behind, text)
+    }
+}
