@@ -18,7 +18,7 @@ use Rattle.mail_store.specs.Expunge.{expunged_uids}
 use Rattle.mail_store.specs.Store.{flag_changes, has_too_many_flags, rows_stored}
 use Rattle.mail_store.specs.declared.fault.StoreFault.{StoreFault}
 use Rattle.mur_base.proofs.MapLaws.{names_apart, same_or_other, value_at-with_value}
-use Rattle.mur_model.specs.Needed.{Needed, Refusal, Turned, Mailbox, Work, Make, Append as append_work, Status as status_work, Select as select_work, Viewed as viewed_work}
+use Rattle.mur_model.specs.Needed.{Needed, Refusal, Turned, Mailbox, Names, Work, Make, Append as append_work, Status as status_work, Select as select_work, Viewed as viewed_work}
 use Rattle.mur_model.specs.declared.commands.store.FlagStore.{FlagStore}
 use Rattle.mur_model.specs.declared.session.Sess.{Sess}
 use Rattle.mur_model.specs.declared.store.Store.{Store}
@@ -210,3 +210,4 @@ act_grows store session serial (Mailbox name work) =
     left_grows store name (work_on name work serial (is_full store) (box_at store name)).left
     (λ box at. subst (λ (found : Option Content). LeftGrows box (work_on name work serial (is_full store) found).left) (sym at)
     (work_grows name work serial (is_full store) box))
+act_grows store session serial (Names it) = unchanged store

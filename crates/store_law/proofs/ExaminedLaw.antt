@@ -11,7 +11,7 @@ use Rattle.mail_store.specs.Expunge.{expunged}
 use Rattle.mail_store.specs.Store.{stored, rows_stored, has_too_many_flags}
 use Rattle.mur_base.proofs.MapLaws.{names_apart, same_or_other, value_at-with_entry-other, value_at-with_value, value_at-with_value-other}
 use Rattle.imap_types.specs.declared.command.Command.{Command}
-use Rattle.mur_model.specs.Needed.{Needed, Refusal, Turned, Mailbox, Work, Make, Append as append_work, Status as status_work, Select as select_work, Viewed as viewed_work}
+use Rattle.mur_model.specs.Needed.{Needed, Refusal, Turned, Mailbox, Names, Work, Make, Append as append_work, Status as status_work, Select as select_work, Viewed as viewed_work}
 use Rattle.mur_model.specs.declared.commands.fetch.Fetching.{Fetching}
 use Rattle.mur_model.specs.declared.commands.store.FlagStore.{FlagStore}
 use Rattle.mur_model.specs.declared.session.Sess.TheVariants.{Selected as selected}
@@ -158,6 +158,7 @@ need_stays store view it serial (Refusal verdict) reads more own fits = λ name.
 need_stays store view it serial (Turned turn) reads more own fits = λ name. stays_by (box_at store name) (box_at store name) refl
 need_stays store view it serial (Mailbox name work) reads more own fits =
     found_stays store view it name work serial (box_at store name) reads more refl own fits
+need_stays store view it serial (Names listing) reads more own fits = λ name. stays_by (box_at store name) (box_at store name) refl
 
 pub reads_only : (setting : Setting) (store : Store) (view : View) (it : Command) (serial : ℕ) → view.is_writable ≡ false → adds it ≡ false
     → AllStay store (act_of setting store (selected view) it serial).store

@@ -9,6 +9,8 @@ pub mod CausesTold
 pub mod StaysOwn
 pub mod BegunLaw
 pub mod OwnRights
+mod ListedAlike
+pub mod ListedLines
 pub mod OwnNeeds
 pub mod OwnSelected
 pub mod OthersUnseen
@@ -42,3 +44,4 @@ mod ViewsCover
 pub mod NewsTold
 pub mod LetsIn
 pub mod LoginLaw
+pub mod ListedLaw

@@ -17,7 +17,7 @@ use Rattle.imap_types.specs.declared.command.StatusItem.{StatusItem}
 use Rattle.imap_types.specs.declared.reply.NoText.{NoText}
 use Rattle.imap_types.specs.declared.reply.ReplyLine.{ReplyLine}
 use Rattle.imap_types.specs.declared.reply.ReplyLine.TheVariants.{Search}
-use Rattle.mur_model.specs.Needed.{Needed, Refusal, Turned, Mailbox, Work, Make, Append as append_work, Status as status_work, Select as select_work, Viewed as viewed_work}
+use Rattle.mur_model.specs.Needed.{Needed, Refusal, Turned, Mailbox, Names, Work, Make, Append as append_work, Status as status_work, Select as select_work, Viewed as viewed_work}
 use Rattle.mur_model.specs.declared.commands.fetch.Fetching.{Fetching}
 use Rattle.mur_model.specs.declared.commands.select.Opening.{Opening}
 use Rattle.mur_model.specs.declared.commands.store.FlagStore.{FlagStore}
@@ -43,6 +43,8 @@ use Rattle.mur_model.specs.Viewing.{found_gone, viewed_on, work_there}
 use Rattle.mur_model.proofs.EachNeed.{AnyCommand, OfBegun, OfViewed, OfWorks, each_by_works, each_need, of_refusals}
 use Rattle.mur_model.proofs.OwnView.{IsOfNeeded, IsOfWork, need_own}
 use Rattle.store_law.specs.Lines.{LinesSpeak, SpeaksByNumbers, known_of}
+use Rattle.mur_model.specs.Listing.{list_reply, names_in}
+use Rattle.store_law.proofs.ListedLines.{list_quiet}
 use Rattle.store_law.proofs.LinesSpoken.{SpeakAlone, news_speak, none_alone, told_uids}
 use Rattle.store_law.proofs.CommandsSpeak.{after, all_read, changes, fetch_alone, kept_same, own_alone, stored_same}
 
@@ -146,6 +148,8 @@ unfolding LinesSpeak known_after
 works_quiet = record {
   answers = of_refusals (λ verdict. tt) (λ name plain. λ box known. tt) (λ name user plain. λ box known. tt) (λ box known. tt) (λ box known. tt);
   enable = λ box known. tt;
+  separator = λ box known. tt;
+  names = λ it. tt;
   unselected = unselected_quiet;
   left = λ view name plain. λ box known. tt;
   work = λ name it. tt;
@@ -161,6 +165,8 @@ begun_at_own : (setting : Setting) → OfBegun setting AnyCommand IsAtOwn
 begun_at_own setting = record {
   answers = of_refusals (λ verdict. tt) (λ name plain. tt) (λ name user plain. tt) tt tt;
   enable = tt;
+  separator = tt;
+  names = λ user pattern. tt;
   unselected = λ user was_selected why. tt;
   make = λ name named. tt;
   append = λ name text flags date body asked. tt;
@@ -269,6 +275,7 @@ module _ (store : Store) (view : View) where
   need_speaks serial (Refusal verdict) quiet at own = quiet_speaks store [] (λ box known. tt)
   need_speaks serial (Turned turn) quiet at own = quiet_speaks store turn.reply.lines quiet
   need_speaks serial (Mailbox name work) quiet at own = work_speaks name work serial (is_full store) at own
+  need_speaks serial (Names it) quiet at own = quiet_speaks store (list_reply it (names_in store)).lines (list_quiet it (names_in store))
 
 pub speaks_by_numbers : (setting : Setting) → SpeaksByNumbers setting
 unfolding act_of

@@ -32,7 +32,7 @@ use Rattle.mur_model.specs.declared.store.Store.{Store}
 use Rattle.mur_model.specs.Act.{act_by, act_of, need_of, need_off, need_taken, session_after}
 use Rattle.mur_model.specs.Answer.{answer_of}
 use Rattle.mur_model.specs.Login.{login, login_as, login_by, login_failed}
-use Rattle.mur_model.specs.Needed.{Needed, Refusal, Turned, Mailbox}
+use Rattle.mur_model.specs.Needed.{Needed, Refusal, Turned, Mailbox, Names}
 use Rattle.mur_model.specs.Plain.{acts_as, authenticate, authenticate_as, authenticate_by, authenticate_with, cut_at, cut_at_nul, decoded, is_nul}
 use Rattle.mur_model.specs.Rights.{user_named}
 use Rattle.mur_model.specs.Traits.{is_in, traits_of}
@@ -77,6 +77,7 @@ unfoldable IsLoginNeed : List User → Command → Needed → Type 0
 IsLoginNeed users it (Refusal verdict) = ⊤
 IsLoginNeed users it (Turned turn) = BeginsOwn users it turn.session
 IsLoginNeed users it (Mailbox name work) = ⊥
+IsLoginNeed users it (Names listing) = ⊤
 
 either_need : (users : List User) (it : Command) (test : Bool) (one other : Needed) → (test ≡ true → IsLoginNeed users it one) → IsLoginNeed users it other
     → IsLoginNeed users it (if test then one else other)
@@ -219,6 +220,7 @@ unfolding act_by IsLoginNeed session_user
 begins_by users it store serial (Refusal verdict) is user e = cc
 begins_by users it store serial (Turned turn) is user e = begins_with users it turn.session is user e
 begins_by users it store serial (Mailbox name work) is user e = absurd is
+begins_by users it store serial (Names listing) is user e = cc
 
 -- a session that has ended begins no more
 ended_stays : (setting : Setting) (store : Store) (it : Command) (serial : ℕ) → (act_of setting store Ended it serial).session ≡ Ended

@@ -17,7 +17,7 @@ use Rattle.imap_types.specs.declared.command.Command.{Command}
 use Rattle.imap_types.specs.declared.command.Command.TheVariants as command
 use Rattle.imap_types.specs.declared.command.StatusItem.{StatusItem}
 use Rattle.imap_types.specs.declared.reply.Reply.{Reply}
-use Rattle.mur_model.specs.Needed.{Needed, Refusal, Turned, Mailbox, Work, Make, Append as append_work, Status as status_work, Select as select_work, Viewed as viewed_work}
+use Rattle.mur_model.specs.Needed.{Needed, Refusal, Turned, Mailbox, Names, Work, Make, Append as append_work, Status as status_work, Select as select_work, Viewed as viewed_work}
 use Rattle.mur_model.specs.declared.commands.fetch.Fetching.{Fetching}
 use Rattle.mur_model.specs.declared.commands.search.Searching.{Searching}
 use Rattle.mur_model.specs.declared.commands.store.FlagStore.{FlagStore}
@@ -45,6 +45,8 @@ use Rattle.mur_model.specs.Viewing.{found_gone, viewed_on, work_there}
 use Rattle.mur_model.proofs.EachNeed.{OfWorks, each_by_works, of_refusals}
 use Rattle.mur_model.proofs.OwnView.{IsOfNeeded, IsOfWork, need_own}
 use Rattle.store_law.specs.Mirror.{Mirror, OfView, asked, names, read_line, read_lines, unseen, with_silent}
+use Rattle.mur_model.specs.Listing.{list_reply, names_in}
+use Rattle.store_law.proofs.ListedLines.{list_still}
 use Rattle.store_law.proofs.NeedsFit.{Fits, FitsWork, Selects, StoreOf, need_fits}
 use Rattle.store_law.proofs.RisingStores.{AllRise, Rises, box_rises}
 
@@ -98,6 +100,8 @@ unfolding read_line
 works_still = record {
   answers = of_refusals (λ verdict. tt) (λ name plain. λ mirror. refl) (λ name user plain. tt) (λ mirror. refl) tt;
   enable = λ mirror. refl;
+  separator = λ mirror. refl;
+  names = λ it. tt;
   unselected = λ user was_selected why. tt;
   left = λ view name plain. tt;
   work = λ name it. tt;
@@ -248,6 +252,7 @@ module _ (R : Mirror → List Row → Type 0) (keeps : Keeps R) where
     need_behind (Turned turn) still own fits = still_behind mirror session turn.session turn.reply is still
     need_behind (Mailbox name work) still own fits =
         work_behind name work (is_full store) (box_at store name) (box_rises store name rise) own fits
+    need_behind (Names listing) still own fits = still_behind mirror session None (list_reply listing (names_in store)) is (list_still listing (names_in store))
 
   -- a silent STORE is kept in mind, and no other command
   asked_view : (is_named : ℕ → ℕ → Bool) (mirror : Mirror) (session : Sess) → OfView R mirror session → OfView R (with_silent is_named 1 mirror) session

@@ -20,12 +20,13 @@ use Rattle.mur_base.specs.declared.user.User.{User}
 use Rattle.imap_types.specs.declared.command.Command.{Command}
 use Rattle.imap_types.specs.declared.command.Command.TheVariants as command
 use Rattle.imap_types.specs.declared.command.StatusItem.{StatusItem}
-use Rattle.mur_model.specs.Needed.{Needed, Refusal, Turned, Mailbox, Work, Make, Append as append_work, Status as status_work, Select as select_work, Viewed as viewed_work, at_mailbox, no_such_number, read_only}
+use Rattle.mur_model.specs.Needed.{Needed, Refusal, Turned, Mailbox, Names, Work, Make, Append as append_work, Status as status_work, Select as select_work, Viewed as viewed_work, at_mailbox, no_such_number, read_only}
 use Rattle.mur_model.specs.declared.work.NewsFor.TheVariants as news_for
 use Rattle.mur_model.specs.declared.work.ViewWork.{ViewWork}
 use Rattle.mur_model.specs.declared.work.ViewWork.TheVariants as view_work
 use Rattle.imap_types.specs.declared.reply.BadText.TheVariants.{State, Syntax}
 use Rattle.imap_types.specs.declared.reply.Verdict.TheVariants.{Bad as bad_reply}
+use Rattle.name_listing.specs.Listing.{asks_separator, pattern_of}
 use Rattle.mur_model.specs.declared.commands.select.Opening.{Opening}
 use Rattle.mur_model.specs.declared.commands.store.FlagStore.{FlagStore}
 use Rattle.mur_model.specs.declared.session.Sess.{Sess}
@@ -42,6 +43,7 @@ use Rattle.mur_model.specs.Fetch.{each_once, fetch_named, is_body, same_item}
 use Rattle.mur_model.specs.Keys.{have_all_numbers, keys_at}
 use Rattle.mur_model.specs.Left.{replied}
 use Rattle.mur_model.specs.Login.{login, login_as, login_by, login_failed}
+use Rattle.mur_model.specs.Listing.{list, listing_by, separator_told}
 use Rattle.mur_model.specs.NamedRows.{last_uid, named_uids, names_messages}
 use Rattle.mur_model.specs.Plain.{acts_as, authenticate, authenticate_as, authenticate_by, authenticate_with, cut_at_nul, decoded}
 use Rattle.imap_types.specs.Reply.{completed}
@@ -98,6 +100,7 @@ abbrev pub Fits : Sess → Command → Needed → Type 0
 Fits session it (Refusal verdict) = ⊤
 Fits session it (Turned turn) = ⊤
 Fits session it (Mailbox name work) = FitsWork session it name work
+Fits session it (Names listing) = ⊤
 
 module _ (session : Sess) (it : Command) where
   either : (test : Bool) (one other : Needed) → (test ≡ true → Fits session it one) → Fits session it other → Fits session it (if test then one else other)
@@ -193,6 +196,11 @@ module _ (session : Sess) (it : Command) where
   select_fits setting user name is_writable was_selected None so =
       select_by_fits name (opening user name is_writable was_selected) (has_rights setting.users user name) so
 
+  list_fits : (setting : Setting) (user reference mailbox : List ℕ) → Fits session it (list setting user reference mailbox)
+  unfolding list
+  list_fits setting user reference mailbox =
+      either (asks_separator mailbox) separator_told (Names (listing_by setting user (pattern_of reference mailbox))) (λ so. tt) tt
+
   begun_fits : (setting : Setting) (user : List ℕ) (is_selected : Bool) (asked : Command) → it ≡ asked
       → Fits session it (need_begun setting user is_selected asked)
   unfolding need_begun create create_meant append status select adds
@@ -209,6 +217,7 @@ module _ (session : Sess) (it : Command) where
   begun_fits setting user is_selected (command.Examine text) same =
       select_fits setting user (taken_name user text) false is_selected (mail_name_fault (taken_name user text))
       (subst (λ (c : Command). Selects c false) (sym same) refl)
+  begun_fits setting user is_selected (command.List reference mailbox) same = list_fits setting user reference mailbox
   begun_fits setting user is_selected asked same = tt
 
   idled_fits : (line : List ℕ) (done : Needed) → Fits session it done → Fits session it (idled line done)

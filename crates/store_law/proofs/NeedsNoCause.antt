@@ -13,11 +13,12 @@ use Rattle.mur_base.specs.declared.user.User.{User}
 use Rattle.imap_types.specs.declared.command.Command.{Command}
 use Rattle.imap_types.specs.declared.command.Command.TheVariants as command
 use Rattle.imap_types.specs.declared.command.StatusItem.{StatusItem}
-use Rattle.mur_model.specs.Needed.{Needed, Refusal, Turned, Mailbox, at_mailbox, no_such_number, read_only}
+use Rattle.mur_model.specs.Needed.{Needed, Refusal, Turned, Mailbox, Names, at_mailbox, no_such_number, read_only}
 use Rattle.mur_model.specs.declared.work.NewsFor.TheVariants as news_for
 use Rattle.mur_model.specs.declared.work.ViewWork.TheVariants as view_work
 use Rattle.imap_types.specs.declared.reply.BadText.TheVariants.{State, Syntax}
 use Rattle.imap_types.specs.declared.reply.Verdict.TheVariants.{Bad as bad_reply}
+use Rattle.name_listing.specs.Listing.{asks_separator, pattern_of}
 use Rattle.mur_model.specs.declared.commands.select.Opening.{Opening}
 use Rattle.mur_model.specs.declared.session.Sess.{Sess}
 use Rattle.mur_model.specs.declared.session.Sess.TheVariants.{Off, In, Selected as selected, Ended}
@@ -34,6 +35,7 @@ use Rattle.mur_model.specs.Fetch.{fetch_named}
 use Rattle.mur_model.specs.Keys.{have_all_numbers, keys_at}
 use Rattle.mur_model.specs.Left.{replied}
 use Rattle.mur_model.specs.Login.{login, login_as, login_by, login_failed}
+use Rattle.mur_model.specs.Listing.{list, listing_by, separator_told}
 use Rattle.mur_model.specs.NamedRows.{last_uid, names_messages}
 use Rattle.mur_model.specs.Plain.{acts_as, authenticate, authenticate_as, authenticate_by, authenticate_with, cut_at_nul, decoded}
 use Rattle.imap_types.specs.Reply.{completed}
@@ -52,6 +54,7 @@ abbrev pub NeedWantsNone : Needed → Type 0
 NeedWantsNone (Refusal verdict) = wants_cause verdict ≡ false
 NeedWantsNone (Turned turn) = TurnWantsNone turn
 NeedWantsNone (Mailbox name work) = ⊤
+NeedWantsNone (Names it) = ⊤
 
 either : (test : Bool) (one other : Needed) → NeedWantsNone one → NeedWantsNone other → NeedWantsNone (if test then one else other)
 either true one other is is_other = is
@@ -145,6 +148,11 @@ unfolding select_as wants_cause
 select_is setting user name is_writable was_selected (Some fault) = refl
 select_is setting user name is_writable was_selected None = select_by_is name (opening user name is_writable was_selected) (has_rights setting.users user name)
 
+list_is : (setting : Setting) (user reference mailbox : List ℕ) → NeedWantsNone (list setting user reference mailbox)
+unfolding list wants_cause
+list_is setting user reference mailbox =
+    either (asks_separator mailbox) separator_told (Names (listing_by setting user (pattern_of reference mailbox))) refl tt
+
 begun_is : (setting : Setting) (user : List ℕ) (is_selected : Bool) (it : Command) → NeedWantsNone (need_begun setting user is_selected it)
 unfolding need_begun create create_meant append status select wants_cause
 begun_is setting user is_selected (command.Create text) =
@@ -158,6 +166,7 @@ begun_is setting user is_selected (command.Select text) =
     select_is setting user (taken_name user text) true is_selected (mail_name_fault (taken_name user text))
 begun_is setting user is_selected (command.Examine text) =
     select_is setting user (taken_name user text) false is_selected (mail_name_fault (taken_name user text))
+begun_is setting user is_selected (command.List reference mailbox) = list_is setting user reference mailbox
 begun_is setting user is_selected it = refl
 
 idled_is : (line : List ℕ) (done : Needed) → NeedWantsNone done → NeedWantsNone (idled line done)

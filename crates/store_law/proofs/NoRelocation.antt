@@ -8,7 +8,8 @@ use Rattle.mail_store.specs.Store.{stored, rows_stored, has_too_many_flags}
 use Rattle.mail_store.specs.declared.fault.StoreFault.{StoreFault}
 use Rattle.imap_types.specs.declared.command.StatusItem.{StatusItem}
 use Rattle.mur_model.specs.declared.commands.fetch.Fetching.{Fetching}
-use Rattle.mur_model.specs.Needed.{Needed, Refusal, Turned, Mailbox, Work, Make, Append as append_work, Status as status_work, Select as select_work, Viewed as viewed_work}
+use Rattle.mur_model.specs.Listing.{list_reply}
+use Rattle.mur_model.specs.Needed.{Needed, Refusal, Turned, Mailbox, Names, Work, Make, Append as append_work, Status as status_work, Select as select_work, Viewed as viewed_work}
 use Rattle.mur_model.specs.declared.work.ViewWork.{ViewWork}
 use Rattle.mur_model.specs.declared.work.ViewWork.TheVariants as view_work
 use Rattle.imap_types.specs.declared.request.Answer.{Answer}
@@ -111,10 +112,11 @@ AnswerWantsNone answer = wants_cause answer.reply.verdict ≡ false
 
 act_is : (store : Store) (session : Sess) (serial : ℕ) (need : Needed) → NeedWantsNone need
     → wants_cause (act_by store session serial need).reply.verdict ≡ false
-unfolding act_by
+unfolding act_by list_reply wants_cause
 act_is store session serial (Refusal verdict) is = is
 act_is store session serial (Turned turn) is = is
 act_is store session serial (Mailbox name work) is = work_is name work serial (is_full store) (box_at store name)
+act_is store session serial (Names it) is = refl
 
 pub answer_is : (setting : Setting) (store : Store) (session : Sess) (request : Request) (serial : ℕ)
     → AnswerWantsNone (answer_of setting store session request serial).answer

@@ -24,7 +24,7 @@ use Rattle.mail_store.proofs.FollowsLaws.{appended_follows, stored_follows, expu
 use Rattle.mur_base.proofs.MapLaws.{names_apart, same_or_other, value_at-with_value, value_at-with_value-other, value_at-with_entry-other}
 use Rattle.imap_types.specs.declared.command.Command.{Command}
 use Rattle.mur_model.specs.declared.commands.fetch.Fetching.{Fetching}
-use Rattle.mur_model.specs.Needed.{Needed, Refusal, Turned, Mailbox, Work, Make, Append as append_work, Status as status_work, Select as select_work, Viewed as viewed_work}
+use Rattle.mur_model.specs.Needed.{Needed, Refusal, Turned, Mailbox, Names, Work, Make, Append as append_work, Status as status_work, Select as select_work, Viewed as viewed_work}
 use Rattle.mur_model.specs.declared.work.ViewWork.{ViewWork}
 use Rattle.mur_model.specs.declared.work.ViewWork.TheVariants as view_work
 use Rattle.mur_model.specs.declared.session.Sess.{Sess}
@@ -278,6 +278,7 @@ module _ (session : Sess) (it : Command) where
   act_goes_on store serial (Refusal verdict) numbered fits = still_there store
   act_goes_on store serial (Turned turn) numbered fits = still_there store
   act_goes_on store serial (Mailbox name work) numbered fits = work_goes_on store name work serial (box_at store name) (numbered name) refl fits
+  act_goes_on store serial (Names it) numbered fits = still_there store
 
 -- ---- one mailbox at most changes
 
@@ -293,6 +294,7 @@ unfolding act_by
 act_changes_one store session serial (Refusal verdict) = record { at = []; others = λ other ne. refl }
 act_changes_one store session serial (Turned turn) = record { at = []; others = λ other ne. refl }
 act_changes_one store session serial (Mailbox name work) = record { at = name; others = λ other ne. others_stay store name _ other ne }
+act_changes_one store session serial (Names it) = record { at = []; others = λ other ne. refl }
 
 pub loses_none : (setting : Setting) (store : Store) → ((name : List ℕ) → IfSome (box_at store name) IsNumbered) → LosesNone setting store
 unfolding act_of

@@ -12,7 +12,7 @@ use Rattle.mur_base.specs.Names.{mail_name_fault}
 use Rattle.mur_base.specs.declared.name.NameFault.{NameFault}
 use Rattle.imap_types.specs.declared.command.Command.{Command}
 use Rattle.imap_types.specs.declared.command.Command.TheVariants as command
-use Rattle.mur_model.specs.Needed.{Needed, Refusal, Turned, Mailbox, Work, Make, Append as append_work, Status as status_work, Select as select_work, Viewed as viewed_work}
+use Rattle.mur_model.specs.Needed.{Needed, Refusal, Turned, Mailbox, Names, Work, Make, Append as append_work, Status as status_work, Select as select_work, Viewed as viewed_work}
 use Rattle.mur_model.specs.declared.commands.fetch.Fetching.{Fetching}
 use Rattle.mur_model.specs.declared.commands.store.FlagStore.{FlagStore}
 use Rattle.mur_model.specs.declared.session.Sess.{Sess}
@@ -97,6 +97,8 @@ none_selected : OfWorks NeedSelectsNone
 none_selected = record {
   answers = of_refusals (λ verdict. tt) (λ name plain. tt) (λ name user plain. tt) tt tt;
   enable = tt;
+  separator = tt;
+  names = λ it. tt;
   unselected = λ user was_selected why. tt;
   left = λ view name plain. tt;
   work = λ name it. tt;
@@ -197,6 +199,7 @@ module _ (store : Store) (session : Sess) (it : Command) (serial : ℕ) (to_chan
   need_behind (Refusal verdict) none own fits = is
   need_behind (Turned turn) none own fits = none_behind to_change session turn.session is none
   need_behind (Mailbox name work) none own fits = work_behind name work (is_full store) (box_at store name) own fits
+  need_behind (Names listing) none own fits = is
 
 opens_as_asked : (setting : Setting) (store : Store) (session : Sess) (it : Command) (serial : ℕ) (to_change : Bool) → IsOpenedSo to_change session
     → IsOpenedSo (is_to_change to_change it) (act_of setting store session it serial).session

@@ -26,9 +26,10 @@ use Rattle.mur_model.specs.Select.{select_on}
 use Rattle.mur_model.specs.Status.{status_on}
 use Rattle.mur_model.specs.Viewing.{viewed_on}
 use Rattle.mur_model.specs.Left.{Left, Worked, kept, made, changed, store_after}
-use Rattle.mur_model.specs.Needed.{Needed, Refusal, Turned, Mailbox, Work, Make, Append as append_work, Status as status_work, Select as select_work, Viewed as viewed_work}
+use Rattle.mur_model.specs.Needed.{Needed, Refusal, Turned, Mailbox, Names, Work, Make, Append as append_work, Status as status_work, Select as select_work, Viewed as viewed_work}
 use Rattle.mur_model.specs.Store.{box_at, is_full}
 use Rattle.store_law.specs.OthersUnseen.{Creates, HasOwnSelected, IsAlike, IsAnsweredAlike, IsCreate, IsFull, KeepsToItsOwn, MayMake, MayUse}
+use Rattle.store_law.proofs.ListedAlike.{both_or_neither, replied_alike}
 use Rattle.store_law.proofs.NoneLost.{others_stay}
 use Rattle.store_law.proofs.OwnNeeds.{IsOwnWork, NeedsOwn, needs_own}
 
@@ -41,11 +42,6 @@ full_by store is = leb-true MAILBOX_LIMIT (length store.boxes) is
 by_full : (store : Store) → IsFull store → is_full store ≡ true
 unfolding is_full
 by_full store is = le-leb MAILBOX_LIMIT (length store.boxes) is
-
-both_or_neither : (one other : Bool) → (one ≡ true → other ≡ true) → (other ≡ true → one ≡ true) → one ≡ other
-both_or_neither true other on back = sym (on refl)
-both_or_neither false true on back = back refl
-both_or_neither false false on back = refl
 
 same_test : (store other : Store) → (IsFull store ↔ IsFull other) → is_full store ≡ is_full other
 same_test store other same =
@@ -117,12 +113,15 @@ act_alike users session it store other serial (Mailbox name work) own boxes full
       boxes = λ n may. left_alike store other name n (worked_at store name work serial).left here (boxes n may)
           ∙ ap (λ (w : Worked). box_at (store_after other name w.left) n) same;
     }
+act_alike users session it store other serial (Names listing) own boxes full =
+    record { reply = replied_alike listing store other (λ name is. boxes name (own name is)); session = refl; boxes = boxes }
 
 act_leaves : (users : List User) (session : Sess) (it : Command) (store : Store) (serial : ℕ) (need : Needed) → NeedsOwn users session it need
     → (name : List ℕ) → ¬ MayUse users session name → box_at (act_by store session serial need).store name ≡ box_at store name
 unfolding act_by
 act_leaves users session it store serial (Refusal verdict) own name barred = refl
 act_leaves users session it store serial (Turned turn) own name barred = refl
+act_leaves users session it store serial (Names listing) own name barred = refl
 act_leaves users session it store serial (Mailbox at work) own name barred =
     others_stay store at (worked_at store at work serial).left name (λ (same : name ≡ at). barred (subst (MayUse users session) (sym same) own.0))
 
@@ -143,6 +142,7 @@ act_makes : (users : List User) (session : Sess) (it : Command) (store : Store) 
 unfolding act_by store_after
 act_makes users session it store serial (Refusal verdict) own name barred none = none
 act_makes users session it store serial (Turned turn) own name barred none = none
+act_makes users session it store serial (Names listing) own name barred none = none
 act_makes users session it store serial (Mailbox at work) own name barred none =
     ⊎_elim (λ (same : name ≡ at).
     let empty : box_at store at ≡ None = ap (box_at store) (sym same) ∙ none in

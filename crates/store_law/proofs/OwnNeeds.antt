@@ -14,6 +14,7 @@ use Rattle.imap_types.specs.declared.command.Command.TheVariants as command
 use Rattle.imap_types.specs.declared.command.StatusItem.{StatusItem}
 use Rattle.imap_types.specs.declared.reply.BadText.TheVariants.{State, Syntax}
 use Rattle.imap_types.specs.declared.reply.Verdict.TheVariants.{Bad as bad_reply}
+use Rattle.name_listing.specs.Listing.{asks_separator, pattern_of}
 use Rattle.mur_model.specs.declared.session.Sess.{Sess}
 use Rattle.mur_model.specs.declared.session.Sess.TheVariants.{Off, In, Selected as selected, Ended}
 use Rattle.mur_model.specs.declared.setting.Setting.{Setting}
@@ -29,8 +30,9 @@ use Rattle.mur_model.specs.Expunge.{expunge, expunge_named}
 use Rattle.mur_model.specs.Fetch.{fetch_named}
 use Rattle.mur_model.specs.Keys.{have_all_numbers, keys_at}
 use Rattle.mur_model.specs.Left.{replied}
+use Rattle.mur_model.specs.Listing.{list, listing_by, separator_told, tells}
 use Rattle.mur_model.specs.NamedRows.{last_uid, names_messages}
-use Rattle.mur_model.specs.Needed.{Needed, Refusal, Turned, Mailbox, Work, Make, Append as append_work, Status as status_work, Select as select_work, Viewed as viewed_work, at_mailbox, no_such_number, read_only}
+use Rattle.mur_model.specs.Needed.{Needed, Refusal, Turned, Mailbox, Names, Work, Make, Append as append_work, Status as status_work, Select as select_work, Viewed as viewed_work, at_mailbox, no_such_number, read_only}
 use Rattle.mur_model.specs.Rights.{has_rights, may_create}
 use Rattle.mur_model.specs.Select.{opening, select, select_as, select_by}
 use Rattle.mur_model.specs.Status.{status, status_as, status_by}
@@ -58,6 +60,7 @@ abbrev pub NeedsOwn : List User → Sess → Command → Needed → Type 0
 NeedsOwn users session it (Refusal verdict) = ⊤
 NeedsOwn users session it (Turned turn) = LeavesOwn users turn.session
 NeedsOwn users session it (Mailbox name work) = MayUse users session name × IsOwnWork users session it name work
+NeedsOwn users session it (Names listing) = (name : List ℕ) → tells listing name ≡ true → MayUse users session name
 
 -- ---- commands that are answered at once
 
@@ -129,6 +132,12 @@ module _ (setting : Setting) (session : Sess) (user : List ℕ)
   select_own it name is_writable was_selected (Some fault) = tt
   select_own it name is_writable was_selected None = select_by_own it name is_writable was_selected (has_rights setting.users user name) refl
 
+  list_own : (it : Command) (reference mailbox : List ℕ) → NeedsOwn setting.users session it (list setting user reference mailbox)
+  unfolding list tells has_rights
+  list_own it reference mailbox =
+      either setting.users session it (asks_separator mailbox) separator_told (Names (listing_by setting user (pattern_of reference mailbox))) tt
+      (λ name is. may name (has_right setting.users user name is))
+
   begun_own : (is_selected : Bool) (it : Command) → NeedsOwn setting.users session it (need_begun setting user is_selected it)
   unfolding need_begun create create_meant append status select HasOwnSelected
   begun_own is_selected (command.Create text) =
@@ -142,6 +151,7 @@ module _ (setting : Setting) (session : Sess) (user : List ℕ)
       select_own (command.Select text) (taken_name user text) true is_selected (mail_name_fault (taken_name user text))
   begun_own is_selected (command.Examine text) =
       select_own (command.Examine text) (taken_name user text) false is_selected (mail_name_fault (taken_name user text))
+  begun_own is_selected (command.List reference mailbox) = list_own (command.List reference mailbox) reference mailbox
   begun_own is_selected it = tt
 
 in_own : (setting : Setting) (user : List ℕ) (it : Command) → NeedsOwn setting.users (In user) it (need_in setting user it)

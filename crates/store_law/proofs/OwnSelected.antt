@@ -31,7 +31,7 @@ use Rattle.mur_model.specs.Fetch.{fetch_at, sees}
 use Rattle.mur_model.specs.History.{Course, Talk, Follows, with_session}
 use Rattle.mur_model.specs.History.Follows.{no_points, a_reply, a_loss, a_refusal}
 use Rattle.mur_model.specs.Left.{Worked}
-use Rattle.mur_model.specs.Needed.{Needed, Refusal, Turned, Mailbox, Work, Make, Append as append_work, Status as status_work, Select as select_work, Viewed as viewed_work}
+use Rattle.mur_model.specs.Needed.{Needed, Refusal, Turned, Mailbox, Names, Work, Make, Append as append_work, Status as status_work, Select as select_work, Viewed as viewed_work}
 use Rattle.mur_model.specs.Relocation.{refused_for}
 use Rattle.mur_model.specs.Select.{select_on}
 use Rattle.mur_model.specs.Status.{status_on}
@@ -131,6 +131,7 @@ module _ (users : List User) where
   act_own store session serial it (Mailbox name work) own needs =
       after_own session (worked_at store name work serial).turn.session own
       (work_own session it name work serial (is_full store) (box_at store name) needs.1)
+  act_own store session serial it (Names listing) own needs = own
 
 answer_own : (setting : Setting) (store : Store) (session : Sess) (request : Request) (serial : ℕ) → HasOwnSelected setting.users session
     → HasOwnSelected setting.users (answer_of setting store session request serial).session

@@ -26,7 +26,7 @@ use Rattle.mail_store.specs.declared.fault.StoreFault.{StoreFault}
 use Rattle.mail_store.proofs.TouchedLaws.{next-flags, next-gone}
 use Rattle.mur_base.specs.declared.point.Point.{Point}
 use Rattle.mur_model.specs.declared.commands.fetch.Fetching.{Fetching}
-use Rattle.mur_model.specs.Needed.{Needed, Refusal, Turned, Mailbox, Work, Make, Append as append_work, Status as status_work, Select as select_work, Viewed as viewed_work}
+use Rattle.mur_model.specs.Needed.{Needed, Refusal, Turned, Mailbox, Names, Work, Make, Append as append_work, Status as status_work, Select as select_work, Viewed as viewed_work}
 use Rattle.mur_model.specs.declared.work.ViewWork.{ViewWork}
 use Rattle.mur_model.specs.declared.work.ViewWork.TheVariants as view_work
 use Rattle.imap_types.specs.declared.request.Request.{Request}
@@ -214,6 +214,7 @@ act_rises store session serial (Refusal verdict) all = all
 act_rises store session serial (Turned turn) all = all
 act_rises store session serial (Mailbox name work) all =
     left_rises store name _ (work_rises name work serial (is_full store) (box_at store name) (box_rises store name all)) all
+act_rises store session serial (Names it) all = all
 
 pub answer_rises : (setting : Setting) (store : Store) (session : Sess) (request : Request) (serial : ℕ) → AllRise store
     → AllRise (answer_of setting store session request serial).store

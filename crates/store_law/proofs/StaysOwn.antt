@@ -23,6 +23,7 @@ use Rattle.imap_types.specs.Reply.{completed}
 use Rattle.mur_model.specs.declared.commands.fetch.Fetching.{Fetching}
 use Rattle.mur_model.specs.declared.commands.select.Opening.{Opening}
 use Rattle.mur_model.specs.declared.commands.store.FlagStore.{FlagStore}
+use Rattle.name_listing.specs.Listing.{asks_separator, pattern_of}
 use Rattle.mur_model.specs.declared.session.Sess.{Sess}
 use Rattle.mur_model.specs.declared.session.Sess.TheVariants.{Off, In, Selected as selected, Ended}
 use Rattle.mur_model.specs.declared.session.Turn.{Turn}
@@ -41,8 +42,9 @@ use Rattle.mur_model.specs.Expunge.{expunge_named}
 use Rattle.mur_model.specs.Fetch.{fetch_at, fetch_named, fetch_told, sees, seen_flags}
 use Rattle.mur_model.specs.Keys.{have_all_numbers, keys_at}
 use Rattle.mur_model.specs.Left.{Worked, kept, changed, replied}
+use Rattle.mur_model.specs.Listing.{list, listing_by, separator_told}
 use Rattle.mur_model.specs.NamedRows.{last_uid, names_messages}
-use Rattle.mur_model.specs.Needed.{Needed, Refusal, Turned, Mailbox, Work, Make, Append as append_work, Status as status_work, Select as select_work, Viewed as viewed_work, at_mailbox, no_such_number, read_only}
+use Rattle.mur_model.specs.Needed.{Needed, Refusal, Turned, Mailbox, Names, Work, Make, Append as append_work, Status as status_work, Select as select_work, Viewed as viewed_work, at_mailbox, no_such_number, read_only}
 use Rattle.mur_model.specs.Rights.{has_rights, may_create}
 use Rattle.mur_model.specs.Select.{opening, select, select_as, select_by, select_on}
 use Rattle.mur_model.specs.Selected.{rows_of}
@@ -153,6 +155,7 @@ unfoldable IsNeedOf : List ℕ → Needed → Type 0
 IsNeedOf user (Refusal verdict) = ⊤
 IsNeedOf user (Turned turn) = StaysOwn user turn
 IsNeedOf user (Mailbox name work) = IsWorkOf user work
+IsNeedOf user (Names it) = it.user ≡ user
 
 either_need : (user : List ℕ) (test : Bool) (one other : Needed) → IsNeedOf user one → IsNeedOf user other → IsNeedOf user (if test then one else other)
 either_need user true one other is is_other = is
@@ -203,6 +206,11 @@ select_need_as setting user name is_writable was_selected (Some fault) = refl
 select_need_as setting user name is_writable was_selected None =
     select_need user name is_writable was_selected (has_rights setting.users user name)
 
+list_need : (setting : Setting) (user reference mailbox : List ℕ) → IsNeedOf user (list setting user reference mailbox)
+unfolding list IsNeedOf
+list_need setting user reference mailbox =
+    either_need user (asks_separator mailbox) separator_told (Names (listing_by setting user (pattern_of reference mailbox))) tt refl
+
 begun_need : (setting : Setting) (user : List ℕ) (is_selected : Bool) (it : Command) → IsNeedOf user (need_begun setting user is_selected it)
 unfolding need_begun create create_meant append status select IsNeedOf
 begun_need setting user is_selected (command.Create text) =
@@ -217,6 +225,7 @@ begun_need setting user is_selected (command.Select text) =
     select_need_as setting user (taken_name user text) true is_selected (mail_name_fault (taken_name user text))
 begun_need setting user is_selected (command.Examine text) =
     select_need_as setting user (taken_name user text) false is_selected (mail_name_fault (taken_name user text))
+begun_need setting user is_selected (command.List reference mailbox) = list_need setting user reference mailbox
 begun_need setting user is_selected it = tt
 
 idled_need : (user line : List ℕ) (done : Needed) → IsNeedOf user done → IsNeedOf user (idled line done)
@@ -299,6 +308,7 @@ stays_by user store session serial (Turned turn) own is = after_turn user sessio
 stays_by user store session serial (Mailbox name work) own is =
     after_turn user session (worked_at store name work serial).turn.session own
     (work_stays user name work serial (is_full store) (box_at store name) is)
+stays_by user store session serial (Names it) own is = inl own
 
 pub stays_own : (setting : Setting) (store : Store) (session : Sess) (it : Command) (serial : ℕ) (user : List ℕ) → session_user session ≡ Some user
     → (session_user (act_of setting store session it serial).session ≡ Some user) ⊎ ((act_of setting store session it serial).session ≡ Ended)

@@ -38,7 +38,7 @@ use Rattle.mur_model.specs.Fetch.{fetch_at, flag_uids, seen_flags, sees}
 use Rattle.mur_model.specs.History.{Course, Talk, Follows, with_session}
 use Rattle.mur_model.specs.History.Follows.{no_points, a_reply, a_loss, a_refusal}
 use Rattle.mur_model.specs.Left.{Left, Worked, box_after, kept, made, changed, store_after}
-use Rattle.mur_model.specs.Needed.{Needed, Refusal, Turned, Mailbox, Work, Make, Append as append_work, Status as status_work, Select as select_work, Viewed as viewed_work}
+use Rattle.mur_model.specs.Needed.{Needed, Refusal, Turned, Mailbox, Names, Work, Make, Append as append_work, Status as status_work, Select as select_work, Viewed as viewed_work}
 use Rattle.mur_model.specs.News.{has_row, is_above, news}
 use Rattle.mur_model.specs.Relocation.{refused_for}
 use Rattle.mur_model.specs.Select.{select_on}
@@ -245,6 +245,7 @@ module _ (store : Store) (rise : AllRise store) (session : Sess) (serial : ℕ) 
   act_covered (Mailbox name work) still own here =
       work_covered name work (is_full store) (box_at store name) refl (box_rises store name rise) (act_grows store session serial (Mailbox name work))
       own here
+  act_covered (Names it) still own here = is
 
 answer_covered : (setting : Setting) (store : Store) (session : Sess) (request : Request) (serial : ℕ) → AllRise store → IsCovered store session
     → IsCovered (answer_of setting store session request serial).store (answer_of setting store session request serial).session

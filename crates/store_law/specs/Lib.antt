@@ -11,3 +11,4 @@ pub mod Mirror
 pub mod NewsTold
 pub mod Lines
 pub mod Logins
+pub mod Listed
