@@ -4,6 +4,8 @@ use Rattle.std.specs.Prelude.{◌≡◌, ℕ, true, List, [], ◌∷◌, ◌++�
 use Rattle.ask_routes.specs.declared.next.Why.{Why}
 use Rattle.asking_core.specs.Answered.{WentOn, answered}
 use Rattle.asking_core.specs.declared.waiting.At.{At}
+use Rattle.feed_core.specs.Listing.{mailbox_names}
+use Rattle.feed_links.specs.Replicas.{recs_of}
 use Rattle.imap_talk.specs.SessionEnds.{TurnEnds}
 use Rattle.imap_types.specs.declared.command.Tag.{Tag}
 use Rattle.imap_types.specs.declared.request.Answer.{Answer}
@@ -13,8 +15,10 @@ use Rattle.imap_types.specs.declared.reply.NoText.TheVariants.{BeingMoved}
 use Rattle.master_core.specs.Refusals.{is_reserved}
 use Rattle.mupdate_codec.specs.declared.command.MResponse.{MResponse}
 use Rattle.mur_model.specs.Act.{session_after}
+use Rattle.mur_model.specs.Listing.{list_reply}
 use Rattle.mur_model.specs.Needed.{Make}
 use Rattle.mur_model.specs.Relocation.{refused_for}
+use Rattle.mur_model.specs.declared.commands.list.Listing.{Listing}
 use Rattle.mur_model.specs.declared.session.Sess.{Sess}
 use Rattle.mur_model.specs.declared.session.Turn.{Turn}
 use Rattle.name_commands.specs.Moves.{ends, heard_move}
@@ -113,6 +117,21 @@ Undecided master first front c (place.is_asked server ask) = ask ≡ its_ask c
 Undecided master first front c (place.is_answered server answer) = (answer.id ≡ c.id) × IsElsewhere answer.body
 Undecided master first front c (place.is_at me at) = undecided_at front c at
 Undecided master first front c (place.is_barred at) = undecided_barrier master first c at
+
+-- ---- a LIST
+
+-- the reply by a table
+abbrev pub listed_by : Tag → Listing → MailboxTable → Answer
+listed_by tag it table = record { tag = tag; reply = list_reply it (mailbox_names (recs_of table)) }
+
+-- WHAT ITS PLACE TELLS OF A LIST THAT WAITS: its NOOP is on its way, and the one store has replied nothing; or the master's OK is, and the store has replied
+-- what there was in the table of the step in which the master took the NOOP
+pub data KnowsNames (tag : Tag) (it : Listing) (was : Sess) (told said : List Answer) (session : Sess) (here : Place) : Type 0 where
+  not_yet : said ≡ told → was ≡ session → here ≡ place.is_barred barrier.asked → KnowsNames tag it was told said session here
+  is_listed : (table : MailboxTable) → said ≡ told ++ listed_by tag it table ∷ [] → was ≡ session → here ≡ place.is_barred (barrier.answered table)
+      → KnowsNames tag it was told said session here
+
+-- ---- a command that needs a mailbox
 
 -- WHAT ITS PLACE TELLS OF A COMMAND THAT WAITS
 pub data Knows (master first front : List ℕ) (c : ClientCommand) (tag : Tag) (told said : List Answer) (session : Sess) (here : Place) : Type 0 where
