@@ -4,6 +4,7 @@ pub mod TranscriptGrows
 pub mod RequestsOf
 pub mod RequestsSound
 pub mod PlainNames
+mod ListedPlain
 pub mod TurnLines
 pub mod AnswersEnd
 pub mod SoundStores

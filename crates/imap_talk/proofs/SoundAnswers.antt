@@ -1,17 +1,18 @@
 -- The texts of each answer of a sound store to a sound request are sound, so a client reads what was meant; and the store stays sound.
 use Rattle.std.proofs.Common.{ℕ, true, ◌^◌, List, [], codes, refl}
 use Rattle.std.proofs.Common.{Option, None, Some}
-use Rattle.std.specs.Prelude.{IfSome, unwrap_or}
+use Rattle.std.specs.Prelude.{⊤, IfSome, unwrap_or}
 use Rattle.std.proofs.lemmas.List.Elements.{All-nil, All-cons}
 use Rattle.mail_message.specs.Literals.{IsPlain}
 use Rattle.imap_types.specs.declared.command.Command.{Command}
 use Rattle.imap_types.specs.declared.command.Command.TheVariants as command
+use Rattle.imap_types.specs.declared.reply.Attribute.TheVariants.{NoSelect}
 use Rattle.imap_types.specs.declared.reply.NoText.{NoText}
-use Rattle.mur_model.specs.Needed.{Needed, Refusal, Turned, Mailbox, Work}
+use Rattle.mur_model.specs.Needed.{Needed, Refusal, Turned, Mailbox, Names, Work}
 use Rattle.imap_types.specs.declared.reply.Bye.TheVariants.{Logout as logout_bye}
 use Rattle.imap_types.specs.declared.reply.Reply.{Reply}
 use Rattle.imap_types.specs.declared.reply.ReplyLine.{ReplyLine}
-use Rattle.imap_types.specs.declared.reply.ReplyLine.TheVariants.{Bye, Capability, Enabled}
+use Rattle.imap_types.specs.declared.reply.ReplyLine.TheVariants.{Bye, Capability, Enabled, Listed}
 use Rattle.imap_types.specs.declared.request.Request.{Request}
 use Rattle.imap_types.specs.declared.request.Request.TheVariants.{Command as a_command, Unknown as unknown, TooBig as too_big}
 use Rattle.mur_model.specs.declared.session.Sess.{Sess}
@@ -23,6 +24,7 @@ use Rattle.mur_model.specs.Act.{act_by, act_of, worked_at, need_of}
 use Rattle.mur_model.specs.Answer.{answer_of}
 use Rattle.mur_model.specs.AtOnce.{told_at_once}
 use Rattle.mur_model.specs.History.{Course}
+use Rattle.mur_model.specs.Listing.{list_reply, names_in}
 use Rattle.mur_model.specs.Relocation.{refused_for}
 use Rattle.mur_model.specs.Store.{box_at, is_full}
 use Rattle.mur_model.proofs.EachNeed.{OfAnswers, OfBegun, OfViewed, each_need}
@@ -32,6 +34,7 @@ use Rattle.imap_talk.specs.SoundRequests.{IsSoundRequest, IsSoundStore}
 use Rattle.imap_reply.specs.SoundTexts.{IsSoundTag, IsSoundLine, IsSoundVerdict}
 use Rattle.imap_talk.specs.TranscriptRead.{IsAnswerReadAsMeant}
 use Rattle.imap_reply.proofs.NoForgery.{read_as_meant}
+use Rattle.imap_talk.proofs.ListedPlain.{list_sound}
 use Rattle.imap_talk.proofs.PlainNames.{shown_plain}
 use Rattle.imap_talk.proofs.SoundStores.{box_is}
 use Rattle.imap_talk.proofs.SoundStores.{store_is}
@@ -42,7 +45,8 @@ use Rattle.imap_types.specs.declared.command.Tag.{Tag}
 abbrev SoundNeed : Needed → Type 0
 SoundNeed (Refusal verdict) = IsSoundVerdict verdict
 SoundNeed (Turned turn) = SoundReply turn.reply
-SoundNeed (Mailbox name work) = SoundWork work
+SoundNeed (Mailbox name work) = SoundWork name work
+SoundNeed (Names it) = ⊤
 
 abbrev IsSoundCommand : Command → Type 0
 IsSoundCommand it = IsRuled (2 ^ 64) it
@@ -74,8 +78,10 @@ unfolding IsSoundLine
 begun_sound setting date_is = record {
   answers = answers_sound;
   enable = at_once_sound Enabled (codes "ENABLE") tt refl;
+  separator = at_once_sound (Listed NoSelect []) (codes "LIST") refl refl;
+  names = λ user pattern. tt;
   unselected = unselected_sound;
-  make = λ name named. tt;
+  make = λ name named. named;
   append = λ name text flags date body sound.
       record { ruled = sound.0; dated = new_dated date setting.date date_is sound.1.0; counted = sound.1.1 };
   status = λ user name items named. shown_plain user name named;
@@ -98,16 +104,17 @@ need_sound setting session it date_is sound = each_need (begun_sound setting dat
 
 -- what comes of it
 
-worked_sound : (store : Store) (name : List ℕ) (work : Work) (serial : ℕ) → IsSoundStore store → SoundWork work
-    → SoundWorked (worked_at store name work serial)
+worked_sound : (store : Store) (name : List ℕ) (work : Work) (serial : ℕ) → IsSoundStore store → SoundWork name work
+    → SoundWorked name (worked_at store name work serial)
 worked_sound store name work serial all sound = work_sound name work serial (is_full store) (box_at store name) sound (box_is store name all)
 
 act_sound : (store : Store) (session : Sess) (serial : ℕ) (need : Needed) → IsSoundStore store → SoundNeed need
     → SoundReply (act_by store session serial need).reply
-unfolding act_by IsSoundVerdict
+unfolding act_by IsSoundVerdict list_reply
 act_sound store session serial (Refusal verdict) all sound = record { lines = All-nil IsSoundLine; verdict = sound }
 act_sound store session serial (Turned turn) all sound = sound
 act_sound store session serial (Mailbox name work) all sound = (worked_sound store name work serial all sound).reply
+act_sound store session serial (Names it) all sound = record { lines = list_sound it (names_in store) all.names; verdict = refl }
 
 act_kept : (store : Store) (session : Sess) (serial : ℕ) (need : Needed) → IsSoundStore store → SoundNeed need
     → IsSoundStore (act_by store session serial need).store
@@ -116,6 +123,7 @@ act_kept store session serial (Refusal verdict) all sound = all
 act_kept store session serial (Turned turn) all sound = all
 act_kept store session serial (Mailbox name work) all sound =
     store_is store name (worked_at store name work serial).left (worked_sound store name work serial all sound).left all
+act_kept store session serial (Names it) all sound = all
 
 sound_by : (tag : Tag) (reply : Reply) → IsSoundTag tag → SoundReply reply → IsReadAsMeant tag reply
 sound_by tag reply tagged sound = read_as_meant tag reply (record { tag_is = tagged; lines = sound.lines; verdict = sound.verdict })

@@ -1,5 +1,5 @@
 -- Messages stay sound, whatever changes at a mailbox.
-use Rattle.std.proofs.Common.{◌≡◌, ℕ, Bool, true, false, not, if◌then◌else◌, List, [], ◌∷◌, map, Option, None, Some}
+use Rattle.std.proofs.Common.{◌≡◌, ℕ, Bool, true, false, not, if◌then◌else◌, List, [], ◌∷◌, map, Option, None, Some, subst, sym}
 use Rattle.std.specs.List.{fold}
 use Rattle.std.specs.Prelude.{All, IfSome, ⊤}
 use Rattle.std.specs.Option.{option_to_list}
@@ -9,7 +9,9 @@ use Rattle.std.specs.Ordering.{nat_cmp, match_ordering}
 use Rattle.std.specs.declared.cmp.Ordering.{Ordering}
 use Rattle.std.specs.declared.cmp.Ordering.TheVariants.{Less, Equal, Greater}
 use Rattle.std.proofs.lemmas.List.Elements.{All-nil, All-cons, All-head, All-tail, All-append, All-map, All-weaker, All-filter}
-use Rattle.std.proofs.lemmas.Map.Views.{All-insert_key, All-values-insert_entry, All-values-set_value, IfSome-lookup_from_All}
+use Rattle.std.proofs.lemmas.Map.{keys-set_value}
+use Rattle.std.proofs.lemmas.Map.Views.{All-insert_key, All-keys-insert_entry, All-values-insert_entry, All-values-set_value, IfSome-lookup_from_All}
+use Rattle.mur_base.specs.Names.{mail_name_fault}
 use Rattle.mail_message.specs.Boxes.{Content, content_after, content_after_all, has_uid, message_at, messages_after, messages_at, relabelled, row_of}
 use Rattle.mail_message.specs.Boxes.{with_flags, with_message}
 use Rattle.mail_message.specs.FlagSets.{Flags, HasRuledKeywords, flags_after}
@@ -166,19 +168,30 @@ appended_is box message is all =
 
 -- the store
 
-abbrev pub IsSoundLeft : Left → Type 0
-IsSoundLeft kept = ⊤
-IsSoundLeft (made box) = IsSoundBox box
-IsSoundLeft (changed box) = IsSoundBox box
+-- a mailbox's name keeps the rules of names
+abbrev pub HasRuledName : List ℕ → Type 0
+HasRuledName name = mail_name_fault name ≡ None
+
+-- what is left at this name
+abbrev pub IsSoundLeft : List ℕ → Left → Type 0
+IsSoundLeft name kept = ⊤
+IsSoundLeft name (made box) = HasRuledName name × IsSoundBox box
+IsSoundLeft name (changed box) = IsSoundBox box
 
 pub empty_is : IsSoundStore empty_store
-empty_is = All-nil IsSoundBox
+empty_is = record { boxes = All-nil IsSoundBox; names = All-nil HasRuledName }
 
 pub box_is : (store : Store) (name : List ℕ) → IsSoundStore store → IfSome (box_at store name) IsSoundBox
-box_is store name all = IfSome-lookup_from_All IsSoundBox (is_at (slice_cmp nat_cmp name)) store.boxes all
+box_is store name all = IfSome-lookup_from_All IsSoundBox (is_at (slice_cmp nat_cmp name)) store.boxes all.boxes
 
-pub store_is : (store : Store) (name : List ℕ) (left : Left) → IsSoundLeft left → IsSoundStore store → IsSoundStore (store_after store name left)
+pub store_is : (store : Store) (name : List ℕ) (left : Left) → IsSoundLeft name left → IsSoundStore store → IsSoundStore (store_after store name left)
 unfolding store_after
 store_is store name kept is all = all
-store_is store name (made box) is all = All-values-insert_entry (slice_cmp nat_cmp) name box IsSoundBox store.boxes all is
-store_is store name (changed box) is all = All-values-set_value (is_at (slice_cmp nat_cmp name)) IsSoundBox store.boxes box all is
+store_is store name (made box) is all = record {
+  boxes = All-values-insert_entry (slice_cmp nat_cmp) name box IsSoundBox store.boxes all.boxes is.1;
+  names = All-keys-insert_entry (slice_cmp nat_cmp) name box HasRuledName store.boxes all.names is.0;
+}
+store_is store name (changed box) is all = record {
+  boxes = All-values-set_value (is_at (slice_cmp nat_cmp name)) IsSoundBox store.boxes box all.boxes is;
+  names = subst (All HasRuledName) (sym (keys-set_value (is_at (slice_cmp nat_cmp name)) store.boxes box)) all.names;
+}

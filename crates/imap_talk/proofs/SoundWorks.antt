@@ -56,7 +56,7 @@ use Rattle.mur_model.specs.Noop.{news_at, news_name}
 use Rattle.mur_model.specs.Viewing.{found_gone, viewed_on, work_there}
 use Rattle.imap_talk.specs.SoundRequests.{IsSoundMessage, IsSoundBox}
 use Rattle.imap_reply.specs.SoundTexts.{IsSoundFlag, IsSoundLine, IsSoundVerdict}
-use Rattle.imap_talk.proofs.SoundStores.{IsKeyword, IsSoundRow, IsSoundLeft, appended_is, changes_are, expunged_is, keywords_are, messages_found, rows_are}
+use Rattle.imap_talk.proofs.SoundStores.{HasRuledName, IsKeyword, IsSoundRow, IsSoundLeft, appended_is, changes_are, expunged_is, keywords_are, messages_found, rows_are}
 use Rattle.imap_talk.proofs.SoundStores.{stored_is}
 use Rattle.imap_talk.proofs.TurnLines.{OfLines, each_fetch, each_news, each_own, fetched}
 
@@ -64,8 +64,9 @@ pub record SoundReply (reply : Reply) : Type 0 where
   pub lines : All IsSoundLine reply.lines
   pub verdict : IsSoundVerdict reply.verdict
 
-pub record SoundWorked (worked : Worked) : Type 0 where
-  pub left : IsSoundLeft worked.left
+-- at the mailbox of this name
+pub record SoundWorked (name : List ℕ) (worked : Worked) : Type 0 where
+  pub left : IsSoundLeft name worked.left
   pub reply : SoundReply (worked.turn).reply
 
 -- what is told of a mailbox
@@ -162,51 +163,52 @@ SoundViewWork (view_work.Store it) = HasRuledKeywords it.flags
 SoundViewWork (view_work.Fetch it) = ⊤
 SoundViewWork (view_work.Search it) = ⊤
 
-abbrev pub SoundWork : Work → Type 0
-SoundWork Make = ⊤
-SoundWork (append_work message) = IsSoundMessage message
-SoundWork (status_work shown items) = IsPlain shown
-SoundWork (select_work it) = IsPlain it.shown
-SoundWork (viewed_work view work) = SoundViewWork work
+-- a mailbox that is made has a name by the rules
+abbrev pub SoundWork : List ℕ → Work → Type 0
+SoundWork name Make = HasRuledName name
+SoundWork name (append_work message) = IsSoundMessage message
+SoundWork name (status_work shown items) = IsPlain shown
+SoundWork name (select_work it) = IsPlain it.shown
+SoundWork name (viewed_work view work) = SoundViewWork work
 
-made_sound : (name : List ℕ) (serial : ℕ) (full : Bool) → SoundWorked (make name serial full)
+made_sound : (name : List ℕ) (serial : ℕ) (full : Bool) → HasRuledName name → SoundWorked name (make name serial full)
 unfolding make IsSoundVerdict
-made_sound name serial true = record { left = tt; reply = record { lines = All-nil IsSoundLine; verdict = tt } }
-made_sound name serial false = record { left = All-nil IsSoundMessage; reply = record { lines = All-nil IsSoundLine; verdict = refl } }
+made_sound name serial true named = record { left = tt; reply = record { lines = All-nil IsSoundLine; verdict = tt } }
+made_sound name serial false named = record { left = (named, All-nil IsSoundMessage); reply = record { lines = All-nil IsSoundLine; verdict = refl } }
 
-created_sound : (name : List ℕ) (serial : ℕ) (full : Bool) (box : Option Content) → SoundWorked (create_on name serial full box)
+created_sound : (name : List ℕ) (serial : ℕ) (full : Bool) (box : Option Content) → HasRuledName name → SoundWorked name (create_on name serial full box)
 unfolding create_on IsSoundVerdict
-created_sound name serial full (Some there) = record { left = tt; reply = record { lines = All-nil IsSoundLine; verdict = tt } }
-created_sound name serial full None = made_sound name serial full
+created_sound name serial full (Some there) named = record { left = tt; reply = record { lines = All-nil IsSoundLine; verdict = tt } }
+created_sound name serial full None named = made_sound name serial full named
 
-appended_by : (message : Message) (box : Content) (fault : Option StoreFault) → IsSoundMessage message → IsSoundBox box
-    → SoundWorked (append_to message box fault)
+appended_by : {name : List ℕ} (message : Message) (box : Content) (fault : Option StoreFault) → IsSoundMessage message → IsSoundBox box
+    → SoundWorked name (append_to message box fault)
 unfolding append_to append_reply IsSoundVerdict
 appended_by message box (Some fault) is all = record { left = tt; reply = record { lines = All-nil IsSoundLine; verdict = tt } }
 appended_by message box None is all = record { left = appended_is box message is all; reply = record { lines = All-nil IsSoundLine; verdict = refl } }
 
-appended_sound : (message : Message) (box : Option Content) → IsSoundMessage message → IfSome box IsSoundBox → SoundWorked (append_on message box)
+appended_sound : {name : List ℕ} (message : Message) (box : Option Content) → IsSoundMessage message → IfSome box IsSoundBox → SoundWorked name (append_on message box)
 unfolding append_on IsSoundVerdict
 appended_sound message None is all = record { left = tt; reply = record { lines = All-nil IsSoundLine; verdict = tt } }
 appended_sound message (Some box) is all = appended_by message box (append_fault box (message ∷ [])) is all
 
-counted_sound : (shown : List ℕ) (items : List StatusItem) (box : Option Content) → IsPlain shown → SoundWorked (status_on shown items box)
+counted_sound : {name : List ℕ} (shown : List ℕ) (items : List StatusItem) (box : Option Content) → IsPlain shown → SoundWorked name (status_on shown items box)
 unfolding status_on status_reply IsSoundLine IsSoundVerdict
 counted_sound shown items None plain = record { left = tt; reply = record { lines = All-nil IsSoundLine; verdict = tt } }
 counted_sound shown items (Some box) plain =
     record { left = tt; reply = record { lines = All-cons IsSoundLine _ [] plain (All-nil IsSoundLine); verdict = refl } }
 
-selected_sound : (it : Opening) (name : List ℕ) (box : Option Content) → IsPlain it.shown → IfSome box IsSoundBox → SoundWorked (select_on it name box)
+selected_sound : (it : Opening) (name : List ℕ) (box : Option Content) → IsPlain it.shown → IfSome box IsSoundBox → SoundWorked name (select_on it name box)
 unfolding select_on IsSoundVerdict
 selected_sound it name None plain all = record { left = tt; reply = unselected_sound it.user it.was_selected NonExistent }
 selected_sound it name (Some box) plain all =
     record { left = tt; reply = record { lines = opened_sound it (snapshot_of box) plain (rows_are box all); verdict = select_plain it.is_writable } }
 
-either_sound : (test : Bool) (one other : Worked) → SoundWorked one → SoundWorked other → SoundWorked (if test then one else other)
+either_sound : {name : List ℕ} (test : Bool) (one other : Worked) → SoundWorked name one → SoundWorked name other → SoundWorked name (if test then one else other)
 either_sound true one other is is_other = is
 either_sound false one other is is_other = is_other
 
-gone_sound : SoundWorked found_gone
+gone_sound : {name : List ℕ} → SoundWorked name found_gone
 unfolding IsSoundLine IsSoundVerdict
 gone_sound = record { left = tt; reply = record { lines = All-cons IsSoundLine (Bye Gone) [] tt (All-nil IsSoundLine); verdict = tt } }
 
@@ -215,7 +217,7 @@ unfolding news_name
 news_plain news_for.Noop = refl
 news_plain news_for.Idle = refl
 
-news_work_sound : (view : View) (why : NewsFor) (box : Content) → IsSoundBox box → SoundWorked (news_at view why box)
+news_work_sound : {name : List ℕ} (view : View) (why : NewsFor) (box : Content) → IsSoundBox box → SoundWorked name (news_at view why box)
 unfolding IsSoundVerdict
 news_work_sound view why box all =
     record { left = tt; reply = news_sound view [] (rows_of box) true [] _ (All-nil IsSoundLine) (rows_are box all) (news_plain why) }
@@ -224,10 +226,10 @@ pub left_sound : (view : View) (name : List ℕ) → IsPlain name → SoundReply
 unfolding IsSoundVerdict
 left_sound view name plain = record { lines = All-nil IsSoundLine; verdict = plain }
 
-close_sound : (view : View) (box : Content) → IsSoundBox box → SoundWorked (close_at view box)
+close_sound : {name : List ℕ} (view : View) (box : Content) → IsSoundBox box → SoundWorked name (close_at view box)
 close_sound view box all = record { left = expunged_is box None all; reply = left_sound view (codes "CLOSE") refl }
 
-expunge_sound : (view : View) (only : Option (List ℕ)) (box : Content) → IsSoundBox box → SoundWorked (expunge_at view only box)
+expunge_sound : {name : List ℕ} (view : View) (only : Option (List ℕ)) (box : Content) → IsSoundBox box → SoundWorked name (expunge_at view only box)
 unfolding IsSoundVerdict
 expunge_sound view only box all =
     let after = expunged_is box only all in
@@ -237,8 +239,8 @@ expunge_sound view only box all =
           (rows_are (expunged box only) after) (expunge_plain only);
     }
 
-stored_sound : (view : View) (it : FlagStore) (box : Content) (many : Bool) → HasRuledKeywords it.flags → IsSoundBox box
-    → SoundWorked (stored_at view it box many)
+stored_sound : {name : List ℕ} (view : View) (it : FlagStore) (box : Content) (many : Bool) → HasRuledKeywords it.flags → IsSoundBox box
+    → SoundWorked name (stored_at view it box many)
 unfolding IsSoundVerdict
 stored_sound view it box true ruled all =
     record { left = tt; reply = news_sound view [] (rows_of box) it.by_uid [] _ (All-nil IsSoundLine) (rows_are box all) tt }
@@ -263,7 +265,7 @@ told_sound view it before now each all =
 seen_ruled : HasRuledKeywords seen_flags
 seen_ruled = All-nil (λ keyword. keyword_fault keyword ≡ None)
 
-fetch_sound : (view : View) (it : Fetching) (box : Content) → IsSoundBox box → SoundWorked (fetch_at view it box)
+fetch_sound : {name : List ℕ} (view : View) (it : Fetching) (box : Content) → IsSoundBox box → SoundWorked name (fetch_at view it box)
 fetch_sound view it box all =
     let before = messages_at box.messages it.uids in
     let each = messages_found box.messages it.uids all in
@@ -278,7 +280,7 @@ search_plain : (by_uid : Bool) → IsPlain (search_name by_uid)
 search_plain true = refl
 search_plain false = refl
 
-search_sound : (view : View) (it : Searching) (box : Content) → IsSoundBox box → SoundWorked (search_at view it box)
+search_sound : {name : List ℕ} (view : View) (it : Searching) (box : Content) → IsSoundBox box → SoundWorked name (search_at view it box)
 unfolding IsSoundLine IsSoundVerdict
 search_sound view it box all =
     let numbers = numbers_told it.by_uid view.rows (found_uids it view.rows (map summary_of (messages_at box.messages (uids view.rows)))) in
@@ -288,7 +290,7 @@ search_sound view it box all =
           (All-cons IsSoundLine (Search it.by_uid numbers) [] tt (All-nil IsSoundLine)) (rows_are box all) (search_plain it.by_uid);
     }
 
-there_sound : (view : View) (work : ViewWork) (box : Content) → SoundViewWork work → IsSoundBox box → SoundWorked (work_there view work box)
+there_sound : {name : List ℕ} (view : View) (work : ViewWork) (box : Content) → SoundViewWork work → IsSoundBox box → SoundWorked name (work_there view work box)
 unfolding work_there
 there_sound view (view_work.News why) box sound all = news_work_sound view why box all
 there_sound view view_work.Close box sound all = close_sound view box all
@@ -298,16 +300,16 @@ there_sound view (view_work.Store it) box sound all =
 there_sound view (view_work.Fetch it) box sound all = fetch_sound view it box all
 there_sound view (view_work.Search it) box sound all = search_sound view it box all
 
-view_sound : (view : View) (work : ViewWork) (box : Option Content) → SoundViewWork work → IfSome box IsSoundBox → SoundWorked (viewed_on view work box)
+view_sound : {name : List ℕ} (view : View) (work : ViewWork) (box : Option Content) → SoundViewWork work → IfSome box IsSoundBox → SoundWorked name (viewed_on view work box)
 unfolding viewed_on
 view_sound view work None sound all = gone_sound
 view_sound view work (Some box) sound all =
     either_sound (box.serial == view.serial) (work_there view work box) found_gone (there_sound view work box sound all) gone_sound
 
-pub work_sound : (name : List ℕ) (work : Work) (serial : ℕ) (full : Bool) (box : Option Content) → SoundWork work → IfSome box IsSoundBox
-    → SoundWorked (work_on name work serial full box)
+pub work_sound : (name : List ℕ) (work : Work) (serial : ℕ) (full : Bool) (box : Option Content) → SoundWork name work → IfSome box IsSoundBox
+    → SoundWorked name (work_on name work serial full box)
 unfolding work_on
-work_sound name Make serial full box sound all = created_sound name serial full box
+work_sound name Make serial full box sound all = created_sound name serial full box sound
 work_sound name (append_work message) serial full box sound all = appended_sound message box sound all
 work_sound name (status_work shown items) serial full box sound all = counted_sound shown items box sound
 work_sound name (select_work it) serial full box sound all = selected_sound it name box sound all

@@ -1,6 +1,7 @@
--- What keeps the texts of replies sound: requests as the grammar reads them, and a store in which such messages alone came.
-use Rattle.std.specs.Prelude.{◌<◌, ◌^◌, ⊤, length, All}
-use Rattle.std.specs.Map.{values_of}
+-- What keeps the texts of replies sound: requests as the grammar reads them, and a store in which such messages and such names of mailboxes alone came.
+use Rattle.std.specs.Prelude.{◌≡◌, ◌<◌, ◌^◌, ⊤, length, None, All}
+use Rattle.std.specs.Map.{keys_of, values_of}
+use Rattle.mur_base.specs.Names.{mail_name_fault}
 use Rattle.imap_command.specs.Ruled.{IsDate, IsRuled}
 use Rattle.imap_wire.specs.declared.frame.Frame.{Frame}
 use Rattle.imap_wire.specs.declared.frame.Frame.TheVariants.{Whole}
@@ -31,5 +32,7 @@ pub record IsSoundMessage (message : Message) : Type 0 where
 abbrev pub IsSoundBox : Content → Type 0
 IsSoundBox box = All IsSoundMessage box.messages
 
-abbrev pub IsSoundStore : Store → Type 0
-IsSoundStore store = All IsSoundBox (values_of store.boxes)
+-- each mailbox is sound, and has a name by the rules of names (RFC 9051, 5.1)
+pub record IsSoundStore (store : Store) : Type 0 where
+  pub boxes : All IsSoundBox (values_of store.boxes)
+  pub names : All (λ name. mail_name_fault name ≡ None) (keys_of store.boxes)

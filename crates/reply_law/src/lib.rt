@@ -10,6 +10,7 @@ mod expunge;
 mod fetch;
 mod idle;
 mod limits;
+mod list;
 mod login;
 mod names;
 mod news;
@@ -30,6 +31,7 @@ pub use fetch::{
 };
 pub use idle::an_idle_ends_with_done;
 pub use limits::{a_mailbox_has_limits, texts_have_limits};
+pub use list::{levels_are_listed, mailboxes_are_listed, the_separator_is_listed};
 pub use login::{a_session_begins_once, a_user_logs_in, others_do_not_log_in};
 pub use names::{inbox_is_the_own_mailbox, others_are_refused};
 pub use news::{

@@ -34,10 +34,6 @@ pub returns-clause-delete : goal.returns-clause-delete
 unfolding computes
 returns-clause-delete c = refl
 
-pub returns-clause-list : goal.returns-clause-list
-unfolding computes
-returns-clause-list c = refl
-
 pub returns-clause-transfer : goal.returns-clause-transfer
 unfolding computes
 returns-clause-transfer c = refl
