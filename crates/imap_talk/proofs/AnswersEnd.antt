@@ -3,6 +3,7 @@ use Rattle.std.proofs.Common.{◌≡◌, ℕ, ◌==◌, Bool, true, false, if◌
 use Rattle.std.proofs.Common.{Option, None, Some}
 use Rattle.std.specs.Prelude.{All, ⊤}
 use Rattle.std.proofs.lemmas.List.Elements.{All-nil, All-cons, All-append}
+use Rattle.std.specs.List.{list_any}
 use Rattle.std.proofs.lemmas.List.Folds.{list_any_none}
 use Rattle.mail_message.specs.Boxes.{Content, messages_at, snapshot_of, summary_of}
 use Rattle.mail_message.specs.declared.message.Message.{Message}
@@ -17,6 +18,11 @@ use Rattle.mail_store.specs.declared.fault.StoreFault.{StoreFault}
 use Rattle.imap_types.specs.declared.command.Command.{Command}
 use Rattle.imap_types.specs.declared.command.StatusItem.{StatusItem}
 use Rattle.mur_model.specs.declared.commands.fetch.Fetching.{Fetching}
+use Rattle.name_listing.specs.Found.{found_lines}
+use Rattle.name_listing.specs.Listing.{Lines}
+use Rattle.name_listing.specs.Told.{line_of}
+use Rattle.mur_model.specs.declared.commands.list.Listing.{Listing}
+use Rattle.mur_model.specs.Listing.{list_reply, shown_to}
 use Rattle.mur_model.specs.Needed.{Needed, Turned, Work, Make, Append as append_work, Status as status_work, Select as select_work, Viewed as viewed_work}
 use Rattle.mur_model.specs.declared.work.NewsFor.{NewsFor}
 use Rattle.mur_model.specs.declared.work.ViewWork.{ViewWork}
@@ -215,6 +221,18 @@ work_ends name (viewed_work view it) serial full box = view_ends view it box
 
 pub worked_ends : (store : Store) (name : List ℕ) (work : Work) (serial : ℕ) → TurnEnds (worked_at store name work serial).turn
 worked_ends store name work serial = work_ends name work serial (is_full store) (box_at store name)
+
+-- the lines of a LIST
+
+lines_end : (lines : Lines) → list_any is_bye (map line_of lines) ≡ false
+unfolding is_bye
+lines_end [] = refl
+lines_end (told ∷ lines) = lines_end lines
+
+-- its reply doesn't end the session
+pub list_ends : (it : Listing) (names : List (List ℕ)) → ends (list_reply it names) ≡ false
+unfolding ends list_reply
+list_ends it names = lines_end (found_lines it.pattern (shown_to it names))
 
 -- what a command needs
 

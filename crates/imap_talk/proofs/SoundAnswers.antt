@@ -7,12 +7,13 @@ use Rattle.mail_message.specs.Literals.{IsPlain}
 use Rattle.imap_types.specs.declared.command.Command.{Command}
 use Rattle.imap_types.specs.declared.command.Command.TheVariants as command
 use Rattle.imap_types.specs.declared.reply.Attribute.TheVariants.{NoSelect}
+use Rattle.imap_types.specs.declared.reply.ReplyLine.TheVariants.{Listed}
 use Rattle.imap_types.specs.declared.reply.NoText.{NoText}
 use Rattle.mur_model.specs.Needed.{Needed, Refusal, Turned, Mailbox, Names, Work}
 use Rattle.imap_types.specs.declared.reply.Bye.TheVariants.{Logout as logout_bye}
 use Rattle.imap_types.specs.declared.reply.Reply.{Reply}
 use Rattle.imap_types.specs.declared.reply.ReplyLine.{ReplyLine}
-use Rattle.imap_types.specs.declared.reply.ReplyLine.TheVariants.{Bye, Capability, Enabled, Listed}
+use Rattle.imap_types.specs.declared.reply.ReplyLine.TheVariants.{Bye, Capability, Enabled}
 use Rattle.imap_types.specs.declared.request.Request.{Request}
 use Rattle.imap_types.specs.declared.request.Request.TheVariants.{Command as a_command, Unknown as unknown, TooBig as too_big}
 use Rattle.mur_model.specs.declared.session.Sess.{Sess}
@@ -78,14 +79,14 @@ unfolding IsSoundLine
 begun_sound setting date_is = record {
   answers = answers_sound;
   enable = at_once_sound Enabled (codes "ENABLE") tt refl;
-  separator = at_once_sound (Listed NoSelect []) (codes "LIST") refl refl;
-  names = λ user pattern. tt;
   unselected = unselected_sound;
   make = λ name named. named;
   append = λ name text flags date body sound.
       record { ruled = sound.0; dated = new_dated date setting.date date_is sound.1.0; counted = sound.1.1 };
   status = λ user name items named. shown_plain user name named;
   select = λ user name text is_writable was_selected asked named. shown_plain user name named;
+  separator = at_once_sound (Listed NoSelect []) (codes "LIST") refl refl;
+  names = λ user pattern. tt;
 }
 
 viewed_sound : (view : View) → OfViewed IsSoundCommand SoundNeed view

@@ -204,6 +204,7 @@ module _ (session : Sess) (it : Command) where
   begun_fits : (setting : Setting) (user : List ℕ) (is_selected : Bool) (asked : Command) → it ≡ asked
       → Fits session it (need_begun setting user is_selected asked)
   unfolding need_begun create create_meant append status select adds
+  begun_fits setting user is_selected (command.List reference mailbox) same = list_fits setting user reference mailbox
   begun_fits setting user is_selected (command.Create text) same =
       let meant = without_separator text in
       create_fits setting user (taken_name user meant) (is_inbox meant) (mail_name_fault (taken_name user meant))
@@ -217,7 +218,6 @@ module _ (session : Sess) (it : Command) where
   begun_fits setting user is_selected (command.Examine text) same =
       select_fits setting user (taken_name user text) false is_selected (mail_name_fault (taken_name user text))
       (subst (λ (c : Command). Selects c false) (sym same) refl)
-  begun_fits setting user is_selected (command.List reference mailbox) same = list_fits setting user reference mailbox
   begun_fits setting user is_selected asked same = tt
 
   idled_fits : (line : List ℕ) (done : Needed) → Fits session it done → Fits session it (idled line done)

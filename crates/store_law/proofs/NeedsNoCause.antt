@@ -155,6 +155,7 @@ list_is setting user reference mailbox =
 
 begun_is : (setting : Setting) (user : List ℕ) (is_selected : Bool) (it : Command) → NeedWantsNone (need_begun setting user is_selected it)
 unfolding need_begun create create_meant append status select wants_cause
+begun_is setting user is_selected (command.List reference mailbox) = list_is setting user reference mailbox
 begun_is setting user is_selected (command.Create text) =
     let meant = without_separator text in
     create_is setting user (taken_name user meant) (is_inbox meant) (mail_name_fault (taken_name user meant))
@@ -166,7 +167,6 @@ begun_is setting user is_selected (command.Select text) =
     select_is setting user (taken_name user text) true is_selected (mail_name_fault (taken_name user text))
 begun_is setting user is_selected (command.Examine text) =
     select_is setting user (taken_name user text) false is_selected (mail_name_fault (taken_name user text))
-begun_is setting user is_selected (command.List reference mailbox) = list_is setting user reference mailbox
 begun_is setting user is_selected it = refl
 
 idled_is : (line : List ℕ) (done : Needed) → NeedWantsNone done → NeedWantsNone (idled line done)
