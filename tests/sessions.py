@@ -11,7 +11,7 @@ SYNTAX, STATE, MESSAGE = b'BAD syntax error', b'BAD not in this state', b'BAD no
 CANNOT, NO_RIGHT = b'NO [CANNOT] cannot be done', b'NO [NOPERM] not permitted'
 MOVED = b'NO [UNAVAILABLE] mailbox is being moved'
 CLOSED = b'* OK [CLOSED] closed\r\n'
-NOT_YET = (b'DELETE', b'LIST')  # what nodes carry out, and the program's sessions refuse yet
+NOT_YET = (b'DELETE',)  # what nodes carry out, and the program's sessions refuse yet
 NOT_DONE = LEFT_OUT + (b'COPY', b'UID COPY', b'XFER')
 NAMED_MAILBOX = (b'CREATE', b'DELETE', b'APPEND', b'STATUS', b'SELECT', b'EXAMINE')
 ANY_STATE, LOGGED_OUT = (b'CAPABILITY', b'NOOP', b'LOGOUT'), (b'LOGIN', b'AUTHENTICATE')
@@ -83,13 +83,13 @@ def levels_above(name):
 def fits(pattern, text):
     """Whether a text fits a pattern: `*` stands for any bytes, `%` for any without a dot. At each byte of the pattern the places are known behind it."""
     places = {0}
-    for byte in pattern:
-        if byte == ord('*'):
-            places = set(range(min(places), len(text) + 1)) if places else places
-        elif byte == ord('%'):
-            places = {end for place in places for end in range(place, len(text) + 1) if b'.' not in text[place:end]}
-        else:
-            places = {place + 1 for place in places if text[place:place + 1] == bytes([byte])}
+    for wanted in pattern:
+        if wanted not in b'*%':
+            places = {place + 1 for place in places if text[place:place + 1] == bytes([wanted])}
+            continue
+        for place, byte in enumerate(text):
+            if place in places and (wanted == ord('*') or byte != ord('.')):
+                places.add(place + 1)
     return len(text) in places
 
 
