@@ -7,8 +7,8 @@ use case_base::{Fault, Steps, put_steps};
 use imap_types::Command;
 use link_msg::{AnswerBody, FrontAsk, LinkMsg, Op, Out, Outcome};
 use mail_message::{OrderedRows, Snapshot};
-use mur_base::{Bytes, MailName, What, node_name};
-use mur_model::Setting;
+use mur_base::{Bytes, Copied, Items, MailName, What, node_name};
+use mur_model::{Listing, Setting};
 use session_core::{Asking, Awaited, Need, OpResult, Session};
 use std::alloc::Global;
 
@@ -100,7 +100,7 @@ impl Stage {
                 self.has_left = true;
                 Ok(put_reply(alloc, line, reply, out)?)
             }
-            Need::Home(_, _) => Err(Fault::Unreadable("another ask")),
+            Need::Home(_, _) | Need::Names(_) => Err(Fault::Unreadable("another ask")),
         }
     }
 
@@ -111,8 +111,18 @@ impl Stage {
                 Course::Answered => self.answered(alloc, name, asking),
                 _ => self.refused(alloc, &asking.awaited, course),
             },
+            Need::Names(it) => self.listed(alloc, &it),
             need => Ok(need),
         }
+    }
+
+    /// What a LIST is told of the mailboxes of the home.
+    fn listed(&self, alloc: Global, it: &Listing) -> Result<Need, Fault> {
+        let mut names = Items::new(alloc);
+        for (name, _) in self.home.held.iter() {
+            names.push(name.copy(alloc)?)?;
+        }
+        Ok(Need::Reply(it.reply(alloc, names.as_slice())?))
     }
 
     fn answered(&mut self, alloc: Global, name: MailName, asking: Asking) -> Result<Need, Fault> {

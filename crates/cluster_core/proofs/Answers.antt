@@ -6,6 +6,7 @@ pub mod WaitsOn
 pub mod GoesOn
 pub mod AnswerComes
 pub mod OkComes
+pub mod ListOk
 pub mod Backends
 pub mod Steps
 pub mod Readers

@@ -22,6 +22,7 @@ use Rattle.link_msg.specs.declared.message.LinkMsg.TheVariants.{Answer, Line}
 use Rattle.link_queue.specs.Links.{on_link}
 use Rattle.mark_history.specs.Marked.{Tale}
 use Rattle.mur_base.specs.declared.point.AskId.{AskId}
+use Rattle.mur_model.specs.declared.commands.list.Listing.{Listing}
 use Rattle.mur_model.specs.declared.session.Sess.{Sess}
 use Rattle.mur_model.specs.declared.setting.Setting.{Setting}
 use Rattle.node_step.specs.declared.input.NodeInput.TheVariants.{From}
@@ -29,12 +30,13 @@ use Rattle.point_links.specs.Commands.{ClientCommand}
 use Rattle.imap_types.specs.declared.command.Tag.{Tag}
 use Rattle.cluster_core.specs.declared.world.World.{World}
 use Rattle.cluster_core.specs.World.{carry_all, comes, home_at, taken_from_link}
-use Rattle.cluster_core.proofs.Commands.Knows.{Knows}
+use Rattle.cluster_core.proofs.Commands.Knows.{Knows, KnowsNames, listed_by}
 use Rattle.cluster_core.proofs.Commands.Knows.Knows.{is_decided, undecided}
+use Rattle.cluster_core.proofs.Commands.Knows.KnowsNames.{is_listed, not_yet}
 use Rattle.cluster_core.proofs.Commands.Place.{Place, Place as place}
 use Rattle.cluster_core.proofs.Commands.Released.{released_count}
 use Rattle.cluster_core.proofs.Commands.Standing.{Fixed, IsLeft, next_id}
-use Rattle.cluster_core.proofs.Commands.Standing.IsLeft.{nothing, left_waiting}
+use Rattle.cluster_core.proofs.Commands.Standing.IsLeft.{nothing, left_listing, left_waiting}
 use Rattle.cluster_core.proofs.Connections.ConnectionLaw.{IsInPlaceOf, PlacesStay, keeps_all, same_story}
 use Rattle.cluster_core.proofs.Connections.KeepsFront.{gone_after, with_connection, world_after}
 use Rattle.cluster_core.proofs.Connections.KeepsLaw.{IsGone}
@@ -64,11 +66,19 @@ left_by fixed front conn requests told said session c tag here (undecided same w
 left_by fixed front conn requests told said session c tag here (is_decided turn more later both brings) =
     nothing ((record { tag = tag; reply = turn.reply }) ∷ []) more (few_more (record { tag = tag; reply = turn.reply })) refl
 
+listing_left : (fixed : Fixed) (front : List ℕ) (conn : ℕ) (requests : List Request) (told said : List AnswerOf) (session : Sess) (tag : Tag) (it : Listing)
+    (was : Sess) (here : Place) → KnowsNames tag it was told said session here → IsLeft fixed front conn requests told said session place.nowhere
+listing_left fixed front conn requests told said session tag it was here (not_yet same stays at) = nothing [] (same ∙ sym (append-nil told)) (omega arith) refl
+listing_left fixed front conn requests told said session tag it was here (is_listed table more stays at) =
+    nothing (listed_by tag it table ∷ []) more (few_more (listed_by tag it table)) refl
+
 left_over : (fixed : Fixed) (front : List ℕ) (conn : ℕ) (requests : List Request) (told said : List AnswerOf) (session : Sess) (here : Place)
     → IsLeft fixed front conn requests told said session here → IsLeft fixed front conn requests told said session place.nowhere
 left_over fixed front conn requests told said session here (nothing rest more few none) = nothing rest more few refl
 left_over fixed front conn requests told said session here (left_waiting waiting) =
     left_by fixed front conn requests told said session waiting.c waiting.tag here waiting.knows
+left_over fixed front conn requests told said session here (left_listing listing) =
+    listing_left fixed front conn requests told said session listing.tag listing.listing listing.was here listing.knows
 
 -- ---- the OK changes nothing of it
 

@@ -46,7 +46,7 @@ use Rattle.cluster_core.proofs.Commands.Standing.{Fixed, next_id}
 use Rattle.cluster_core.proofs.Connections.ConnectionLaw.{StandsOn}
 use Rattle.cluster_core.proofs.Places.Stays.{IsFrontend}
 use Rattle.cluster_core.proofs.Connections.FrameLaw.{ways_for}
-use Rattle.cluster_core.proofs.Answers.Replied.{InputsCome, IsHeard, ended_stands, read_stands}
+use Rattle.cluster_core.proofs.Answers.Replied.{InputsCome, IsHeard, IsHeardFor, ended_stands, heard_for, read_stands}
 use Rattle.cluster_core.proofs.Answers.Tells.{IsTold, behind_told, refusal_told}
 use Rattle.cluster_core.proofs.Answers.WaitsOn.{AsksBackend, waits_on_stands}
 
@@ -86,6 +86,9 @@ module _ (fixed : Fixed) (front : List ℕ) (replica : Replica) (conn : ℕ) (in
   abbrev now : Sess → Connection
   now session = record connection { session = session }
 
+  its_heard : IsHeardFor fixed front replica conn inputs held connection world story (heard.waiting).tag c.it
+  its_heard = heard_for fixed front replica conn inputs held connection world story here heard
+
   was_lasts : has_ended c.was ≡ false
   was_lasts = ap has_ended ((heard.waiting).of).was_is ∙ (heard.waiting).lasts
 
@@ -98,13 +101,13 @@ module _ (fixed : Fixed) (front : List ℕ) (replica : Replica) (conn : ℕ) (in
       (need_behind fixed.setting (ways_for fixed replica) conn (now session) (heard.waiting).tag how (given_with reply session))
   unfolding given_with
   given_stands how reply Off same told come =
-      read_stands fixed front replica conn inputs held connection world story here heard how reply Off told refl (sym same) come
+      read_stands fixed front replica conn inputs held connection world story (heard.waiting).tag c.it its_heard how reply Off told refl (sym same) come
   given_stands how reply (In user) same told come =
-      read_stands fixed front replica conn inputs held connection world story here heard how reply (In user) told refl (sym same) come
+      read_stands fixed front replica conn inputs held connection world story (heard.waiting).tag c.it its_heard how reply (In user) told refl (sym same) come
   given_stands how reply (Selected view) same told come =
-      read_stands fixed front replica conn inputs held connection world story here heard how reply (Selected view) told refl (sym same) come
+      read_stands fixed front replica conn inputs held connection world story (heard.waiting).tag c.it its_heard how reply (Selected view) told refl (sym same) come
   given_stands how reply session_ended same told come =
-      ended_stands fixed front replica conn inputs held connection world story here heard how reply session_ended told (sym same)
+      ended_stands fixed front replica conn inputs held connection world story (heard.waiting).tag c.it its_heard how reply session_ended told (sym same)
 
   -- the store's
   pub told_stands : InputsCome fixed front replica conn inputs held world story → (turn : Turn) (next : WentOn) → next ≡ told_turn c turn
@@ -159,7 +162,7 @@ module _ (fixed : Fixed) (front : List ℕ) (replica : Replica) (conn : ℕ) (in
   refused_stands come next is requests said was table seen moves =
       let turn : Turn = refused_for c.was c.it BeingMoved in
       subst (λ n. StandsSo fixed front replica conn inputs held world story (turned_by n)) (sym is)
-      (read_stands fixed front replica conn inputs held connection world story here heard Reserved turn.reply (session_after c.was turn.session)
+      (read_stands fixed front replica conn inputs held connection world story (heard.waiting).tag c.it its_heard Reserved turn.reply (session_after c.was turn.session)
       (subst (λ (s : Sess). IsTold fixed.setting world story conn Reserved (record { tag = (heard.waiting).tag; reply = (refused_for s c.it BeingMoved).reply })
       (session_after s (refused_for s c.it BeingMoved).session)) (sym was)
       (refusal_told fixed.setting world story conn (heard.waiting).tag c.it heard.is_told (can_refuse requests said was table seen moves)))

@@ -3,6 +3,7 @@ use Rattle.std.proofs.Common.{◌≡◌, ◌≢◌, ℕ, nat_eq, true, List, ◌
 use Rattle.std.specs.Cmp.Lexicographic.{pointwise}
 use Rattle.std.proofs.lemmas.Cmp.{nat_list_eq_equiv}
 use Rattle.ask_routes.specs.Barrier.{barrier_answered}
+use Rattle.feed_links.specs.Replicas.{replica_of}
 use Rattle.front_core.specs.declared.connection.Connection.{Connection}
 use Rattle.front_core.specs.declared.front.Front.{Front}
 use Rattle.front_core.specs.Answered.{ok_comes}
@@ -22,9 +23,10 @@ use Rattle.point_links.specs.Commands.{ClientCommand}
 use Rattle.route_links.specs.Barriers.{Place as barrier}
 use Rattle.cluster_core.specs.declared.world.World.{World}
 use Rattle.cluster_core.specs.World.{comes, home_at, taken_from_link}
+use Rattle.cluster_core.proofs.Commands.Moving.{IsSeenBy}
 use Rattle.cluster_core.proofs.Commands.Place.{Place, Place as place}
 use Rattle.cluster_core.proofs.Commands.Standing.{Fixed, next_id}
-use Rattle.cluster_core.proofs.Connections.ConnectionLaw.{IsMarkedAt, IsStanding}
+use Rattle.cluster_core.proofs.Connections.ConnectionLaw.{IsInPlaceOf, IsMarkedAt, IsStanding}
 use Rattle.cluster_core.proofs.Connections.KeepsFront.{world_after}
 use Rattle.cluster_core.proofs.Nodes.Comes.{front_comes, with_front}
 use Rattle.cluster_core.proofs.Places.FrontTakes.{takes_ok}
@@ -33,8 +35,10 @@ use Rattle.cluster_core.proofs.Connections.FrameLaw.{ways_for}
 use Rattle.cluster_core.proofs.Answers.Backends.{cleared_backend}
 use Rattle.cluster_core.proofs.Answers.OkComes.{ok_turns}
 use Rattle.cluster_core.proofs.Answers.GoesOn.{StandsSo}
-use Rattle.cluster_core.proofs.Answers.OpenSteps.{OpenStep, heard_so, turned_step}
+use Rattle.cluster_core.proofs.Answers.ListOk.{listed_turns, lists_live}
+use Rattle.cluster_core.proofs.Answers.OpenSteps.{OpenStep, WaitsThere, heard_so, of_mailbox, of_names, stands_there, turned_step, waits_live}
 use Rattle.cluster_core.proofs.Answers.Readers.{ok_reader}
+use Rattle.cluster_core.proofs.Answers.Replied.{IsHeardFor}
 use Rattle.cluster_core.proofs.Answers.Steps.{IsBefore, inputs_may_come, may_send}
 
 -- ---- the frontend takes the OK of the command
@@ -70,6 +74,49 @@ module _ (fixed : Fixed) (world : World) (story : Tale) (node : List ℕ) (front
       front_comes (taken_from_link world fixed.master node) node (From fixed.master (Line bytes)) front before.whole (before.at).at
       ∙ ap (with_front (taken_from_link world fixed.master node) node) is
 
+  -- of what waits
+  ok_by : (bytes : List ℕ) (id : AskId) (rest : List LinkMsg) → on_link world.links fixed.master node ≡ Line bytes ∷ rest
+      → barrier_answered bytes ≡ Some id → id.conn ≡ conn → (table : MailboxTable)
+      → IsInPlaceOf fixed (taken_from_link world fixed.master node) node front.replica (next_id conn (story.told conn)) place.nowhere
+      → id ≡ next_id conn (story.told conn) → front.replica ≡ replica_of table
+      → IsSeenBy story.moving world.marks (next_id conn (story.told conn)) table
+      → WaitsThere fixed node conn inputs held connection (story.told conn) (story.talk.answers conn) (story.course.sessions conn)
+      (place.is_barred (barrier.answered table))
+      → OpenStep fixed world story fixed.master node front conn inputs held connection
+      (world_after (taken_from_link world fixed.master node) node front conn
+      (released (ok_comes fixed.setting (ways_for fixed front.replica) conn connection id).connection)
+      (ok_comes fixed.setting (ways_for fixed front.replica) conn connection id).outs)
+  ok_by bytes id rest first reads_so own table over its has_all seen (of_mailbox waiting) =
+      let here : Place = place.is_barred (barrier.answered table) in
+      let base : World = taken_from_link world fixed.master node in
+      let heard = heard_so fixed world story fixed.master node front conn inputs held connection before standing here over waiting in
+      let c : ClientCommand = waiting.c in
+      turned_step fixed world story fixed.master node front conn inputs held connection before standing
+      (ok_comes fixed.setting (ways_for fixed front.replica) conn connection id) (waits_live connection waiting.tag c.waiting waiting.stage)
+      (subst (λ i. StandsSo fixed node front.replica conn inputs held base story (ok_comes fixed.setting (ways_for fixed front.replica) conn connection i))
+      ((waiting.of).its ∙ sym its)
+      (ok_turns fixed node front.replica conn inputs held connection base story table heard
+      (inputs_may_come fixed world story node front conn inputs held connection before fixed.master)
+      (may_send fixed world story node front conn inputs held connection before fixed.master (story.talk.answers conn) (story.course.sessions conn) here
+      waiting)
+      before.requests seen has_all
+      (λ cause at. cleared_backend (home_at world) (front.replica).records (before.may).knows fixed.first (before.may).first fixed.master c.id c.was c.waiting
+      cause at)))
+      (ok_reader fixed.setting (ways_for fixed front.replica) conn connection id)
+      (λ other ne. ok_stays fixed world node bytes id rest other (before.may).frontend first reads_so (λ e. ne (e ∙ own)))
+  ok_by bytes id rest first reads_so own table over its has_all seen (of_names it) =
+      let base : World = taken_from_link world fixed.master node in
+      let heard : IsHeardFor fixed node front.replica conn inputs held connection base story it.tag it.it =
+      record { count = standing.count; client = standing.client; nothing = over; is_told = before.is_told; next = it.next } in
+      turned_step fixed world story fixed.master node front conn inputs held connection before standing
+      (ok_comes fixed.setting (ways_for fixed front.replica) conn connection id) (lists_live connection it.tag it.listing it.stage)
+      (subst (λ i. StandsSo fixed node front.replica conn inputs held base story (ok_comes fixed.setting (ways_for fixed front.replica) conn connection i))
+      (sym its)
+      (listed_turns fixed node front.replica conn inputs held connection base story table it heard
+      (inputs_may_come fixed world story node front conn inputs held connection before fixed.master) has_all))
+      (ok_reader fixed.setting (ways_for fixed front.replica) conn connection id)
+      (λ other ne. ok_stays fixed world node bytes id rest other (before.may).frontend first reads_so (λ e. ne (e ∙ own)))
+
   pub ok_step : (bytes : List ℕ) (id : AskId) (rest : List LinkMsg) → on_link world.links fixed.master node ≡ Line bytes ∷ rest
       → barrier_answered bytes ≡ Some id → id.conn ≡ conn
       → OpenStep fixed world story fixed.master node front conn inputs held connection
@@ -81,23 +128,9 @@ module _ (fixed : Fixed) (world : World) (story : Tale) (node : List ℕ) (front
       standing.placed in
       let here : Place = place.is_barred (barrier.answered is.table) in
       let turned : Turned = ok_comes fixed.setting (ways_for fixed front.replica) conn connection id in
-      let base : World = taken_from_link world fixed.master node in
-      let heard = heard_so fixed world story fixed.master node front conn inputs held connection before standing here (not_nowhere is.table) is.here_is
-      is.over in
-      let waiting = heard.waiting in
-      let c : ClientCommand = waiting.c in
       subst (λ w. OpenStep fixed world story fixed.master node front conn inputs held connection w)
       (sym (ok_comes_so bytes turned (delivers_ok fixed front conn connection bytes id before.setting_is before.master_is before.first_is (before.at).has own
       reads_so)))
-      (turned_step fixed world story fixed.master node front conn inputs held connection before standing waiting.tag c.waiting turned waiting.stage
-      (subst (λ i. StandsSo fixed node front.replica conn inputs held base story (ok_comes fixed.setting (ways_for fixed front.replica) conn connection i))
-      ((waiting.of).its ∙ sym is.own)
-      (ok_turns fixed node front.replica conn inputs held connection base story is.table heard
-      (inputs_may_come fixed world story node front conn inputs held connection before fixed.master)
-      (may_send fixed world story node front conn inputs held connection before fixed.master (story.talk.answers conn) (story.course.sessions conn) here
-      waiting)
-      before.requests (subst (IsMarkedAt story.moving world.marks next) is.here_is standing.marked) is.has_all
-      (λ cause at. cleared_backend (home_at world) (front.replica).records (before.may).knows fixed.first (before.may).first fixed.master c.id c.was c.waiting
-      cause at)))
-      (ok_reader fixed.setting (ways_for fixed front.replica) conn connection id)
-      (λ other ne. ok_stays fixed world node bytes id rest other frontend first reads_so (λ e. ne (e ∙ own))))
+      (ok_by bytes id rest first reads_so own is.table is.over is.own is.has_all
+      (subst (IsMarkedAt story.moving world.marks next) is.here_is standing.marked)
+      (stands_there fixed world story fixed.master node front conn inputs held connection before standing here (not_nowhere is.table) is.here_is))

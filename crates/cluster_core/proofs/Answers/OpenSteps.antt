@@ -23,15 +23,19 @@ use Rattle.link_msg.specs.declared.out.Out.{Out}
 use Rattle.link_queue.specs.Links.{on_link}
 use Rattle.mark_history.specs.Marked.{Tale}
 use Rattle.mur_base.specs.declared.point.AskId.{AskId}
+use Rattle.mur_model.specs.declared.commands.list.Listing.{Listing}
 use Rattle.mur_model.specs.declared.session.Sess.{Sess}
 use Rattle.mur_model.specs.declared.setting.Setting.{Setting}
 use Rattle.node_step.specs.declared.input.NodeInput.TheVariants.{From}
+use Rattle.route_links.specs.Barriers.{Place as Barrier, Place as barrier}
 use Rattle.cluster_core.specs.declared.world.World.{World}
 use Rattle.cluster_core.specs.World.{comes, home_at, taken_from_link}
+use Rattle.cluster_core.proofs.Commands.Knows.{KnowsNames}
+use Rattle.cluster_core.proofs.Commands.Knows.KnowsNames.{is_listed, not_yet}
 use Rattle.cluster_core.proofs.Commands.Place.{Place, Place as place}
 use Rattle.cluster_core.proofs.Commands.Released.{begun_released, released_count, stands_released}
-use Rattle.cluster_core.proofs.Commands.Standing.{Fixed, HasBegunSo, Stands, Waiting, next_id}
-use Rattle.cluster_core.proofs.Commands.Standing.Stands.{reads, waits, faulted, finished}
+use Rattle.cluster_core.proofs.Commands.Standing.{Fixed, HasBegunSo, Lists, Stands, Waiting, next_id}
+use Rattle.cluster_core.proofs.Commands.Standing.Stands.{reads, waits, lists, faulted, finished}
 use Rattle.cluster_core.proofs.Connections.ConnectionLaw.{IsInPlaceOf, IsStanding, PlacesStay}
 use Rattle.cluster_core.proofs.Connections.KeepsFront.{standing_after, world_after}
 use Rattle.cluster_core.proofs.Nodes.Comes.{front_comes, with_front}
@@ -56,40 +60,69 @@ pub record OpenStep (fixed : Fixed) (world : World) (story : Tale) (from node : 
 
 -- ---- a command that is somewhere waits
 
-waits_there : (fixed : Fixed) (front : List ℕ) (conn : ℕ) (inputs : List Input) (held : Option (List ℕ)) (connection : Connection)
+pub data WaitsThere (fixed : Fixed) (front : List ℕ) (conn : ℕ) (inputs : List Input) (held : Option (List ℕ)) (connection : Connection)
+    (told said : List AnswerOf) (session : Sess) (here : Place) : Type 0 where
+  of_mailbox : Waiting fixed front conn inputs held connection told said session here
+      → WaitsThere fixed front conn inputs held connection told said session here
+  of_names : Lists fixed inputs held connection told said session here → WaitsThere fixed front conn inputs held connection told said session here
+
+pub waits_there : (fixed : Fixed) (front : List ℕ) (conn : ℕ) (inputs : List Input) (held : Option (List ℕ)) (connection : Connection)
     (told said : List AnswerOf) (session : Sess) (here : Place) → here ≢ place.nowhere → Stands fixed front conn inputs held connection told said session here
-    → Waiting fixed front conn inputs held connection told said session here
+    → WaitsThere fixed front conn inputs held connection told said session here
 waits_there fixed front conn inputs held connection told said session here somewhere (reads a b c d e f none) = absurd (somewhere none)
-waits_there fixed front conn inputs held connection told said session here somewhere (waits waiting) = waiting
+waits_there fixed front conn inputs held connection told said session here somewhere (waits waiting) = of_mailbox waiting
+waits_there fixed front conn inputs held connection told said session here somewhere (lists it) = of_names it
 waits_there fixed front conn inputs held connection told said session here somewhere (faulted a b c d e none) = absurd (somewhere none)
 waits_there fixed front conn inputs held connection told said session here somewhere (finished passed more request before last a b c d e f none) =
     absurd (somewhere none)
 
+-- a LIST is at its barrier alone
+not_answered : (server : List ℕ) (answer : BackAnswer) (at : Barrier) → place.is_answered server answer ≡ place.is_barred at → ⊥
+not_answered server answer at e = cc
+
+not_listed : (server : List ℕ) (answer : BackAnswer) (tag : Tag) (it : Listing) (was : Sess) (told said : List AnswerOf) (session : Sess)
+    → KnowsNames tag it was told said session (place.is_answered server answer) → ⊥
+not_listed server answer tag it was told said session (not_yet same stays at) = not_answered server answer barrier.asked at
+not_listed server answer tag it was told said session (is_listed table more stays at) = not_answered server answer (barrier.answered table) at
+
+answer_of : (fixed : Fixed) (front : List ℕ) (conn : ℕ) (inputs : List Input) (held : Option (List ℕ)) (connection : Connection)
+    (told said : List AnswerOf) (session : Sess) (server : List ℕ) (answer : BackAnswer)
+    → WaitsThere fixed front conn inputs held connection told said session (place.is_answered server answer)
+    → Waiting fixed front conn inputs held connection told said session (place.is_answered server answer)
+answer_of fixed front conn inputs held connection told said session server answer (of_mailbox waiting) = waiting
+answer_of fixed front conn inputs held connection told said session server answer (of_names it) =
+    absurd (not_listed server answer it.tag it.listing connection.session told said session it.knows)
+
+-- it hasn't ended
+pub waits_live : (connection : Connection) (tag : Tag) (it : WaitingFor) → connection.stage ≡ Waits tag it → connection.stage ≢ Ended
+waits_live connection tag it stage ended = let no : Waits tag it ≡ Ended = sym stage ∙ ended in cc
+
 module _ (fixed : Fixed) (world : World) (story : Tale) (from node : List ℕ) (front : Front) (conn : ℕ) (inputs : List Input) (held : Option (List ℕ))
     (connection : Connection) (before : IsBefore fixed world story node front conn inputs connection)
     (standing : IsStanding fixed node front.replica conn inputs held connection world story) where
+  -- what waits at this place
+  pub stands_there : (here : Place) → here ≢ place.nowhere → standing.here ≡ here
+      → WaitsThere fixed node conn inputs held connection (story.told conn) (story.talk.answers conn) (story.course.sessions conn) here
+  stands_there here somewhere is =
+      waits_there fixed node conn inputs held connection (story.told conn) (story.talk.answers conn) (story.course.sessions conn) here somewhere
+      (subst (λ h. Stands fixed node conn inputs held connection (story.told conn) (story.talk.answers conn) (story.course.sessions conn) h) is standing.stands)
+
   -- the message was taken, and the command is nowhere
-  pub heard_so : (here : Place) → here ≢ place.nowhere → standing.here ≡ here
+  pub heard_so : (here : Place)
       → IsInPlaceOf fixed (taken_from_link world from node) node front.replica (next_id conn (story.told conn)) place.nowhere
+      → Waiting fixed node conn inputs held connection (story.told conn) (story.talk.answers conn) (story.course.sessions conn) here
       → IsHeard fixed node front.replica conn inputs held connection (taken_from_link world from node) story here
-  heard_so here somewhere is over = record {
-    count = standing.count;
-    client = standing.client;
-    nothing = over;
-    is_told = before.is_told;
-    waiting = waits_there fixed node conn inputs held connection (story.told conn) (story.talk.answers conn) (story.course.sessions conn) here somewhere
-        (subst (λ h. Stands fixed node conn inputs held connection (story.told conn) (story.talk.answers conn) (story.course.sessions conn) h) is
-        standing.stands);
-  }
+  heard_so here over waiting =
+      record { count = standing.count; client = standing.client; nothing = over; is_told = before.is_told; waiting = waiting }
 
   -- the frontend does this with the connection
-  pub turned_step : (tag : Tag) (it : WaitingFor) (turned : Turned) → connection.stage ≡ Waits tag it
+  pub turned_step : (turned : Turned) → connection.stage ≢ Ended
       → StandsSo fixed node front.replica conn inputs held (taken_from_link world from node) story turned
       → KeepsReader connection turned
       → ((other : ℕ) → other ≢ conn → PlacesStay fixed other world (taken_from_link world from node))
       → OpenStep fixed world story from node front conn inputs held connection
       (world_after (taken_from_link world from node) node front conn (released turned.connection) turned.outs)
-  turned_step tag it turned stage stands reader others = record {
+  turned_step turned lives stands reader others = record {
     connection = released turned.connection;
     outs = turned.outs;
     later = stands.story;
@@ -106,7 +139,7 @@ module _ (fixed : Fixed) (world : World) (story : Tale) (from node : List ℕ) (
               (stands.story.course.sessions conn) stands.standing.here stands.standing.stands;
         });
     begun = λ reading so. begun_released turned.connection reading
-        (⊎_elim (λ ended. absurd (let no : Waits tag it ≡ Ended = sym stage ∙ ended in cc)) (λ is. inr (reader ∙ is)) so);
+        (⊎_elim (λ ended. absurd (lives ended)) (λ is. inr (reader ∙ is)) so);
   }
 
   -- ---- an answer
@@ -148,11 +181,12 @@ module _ (fixed : Fixed) (world : World) (story : Tale) (from node : List ℕ) (
       let turned : Turned = answer_comes fixed.setting (ways_for fixed front.replica) conn connection answer in
       let base : World = taken_from_link world from node in
       let here : Place = place.is_answered from answer in
-      let heard = heard_so here (not_elsewhere from answer) is.here_is is.over in
-      let waiting = heard.waiting in
+      let waiting = answer_of fixed node conn inputs held connection (story.told conn) (story.talk.answers conn) (story.course.sessions conn) from answer
+      (stands_there here (not_elsewhere from answer) is.here_is) in
+      let heard = heard_so here is.over waiting in
       subst (λ w. OpenStep fixed world story from node front conn inputs held connection w)
       (sym (answer_comes_so answer turned (delivers_answer answer waiting.tag (waiting.c).waiting own waiting.stage waiting.at)))
-      (turned_step waiting.tag (waiting.c).waiting turned waiting.stage
+      (turned_step turned (waits_live connection waiting.tag (waiting.c).waiting waiting.stage)
       (answer_turns fixed node front.replica conn inputs held connection base story from answer heard
       (inputs_may_come fixed world story node front conn inputs held connection before from)
       (may_send fixed world story node front conn inputs held connection before from (story.talk.answers conn) (story.course.sessions conn) here waiting)

@@ -16,6 +16,8 @@ use Rattle.imap_talk.specs.declared.inputs.Input.{Input}
 use Rattle.imap_talk.specs.declared.inputs.Input.TheVariants.{Asks}
 use Rattle.imap_talk.proofs.RequestsOf.{replies_stop}
 use Rattle.imap_talk.proofs.TranscriptGrows.{AreAnswered, Grows, end_told, request_answered}
+use Rattle.imap_types.specs.declared.command.Command.{Command}
+use Rattle.imap_types.specs.declared.command.Tag.{Tag}
 use Rattle.imap_types.specs.declared.reply.Reply.{Reply}
 use Rattle.imap_types.specs.declared.request.Answer.{Answer}
 use Rattle.link_msg.specs.declared.how.How.{How}
@@ -26,7 +28,7 @@ use Rattle.mur_model.specs.declared.session.Sess.{Sess}
 use Rattle.cluster_core.specs.declared.world.World.{World}
 use Rattle.cluster_core.specs.World.{carry_all, client_at, home_at}
 use Rattle.cluster_core.proofs.Commands.Place.{Place, Place as place}
-use Rattle.cluster_core.proofs.Commands.Standing.{Fixed, Waiting, next_id}
+use Rattle.cluster_core.proofs.Commands.Standing.{Fixed, IsNext, Waiting, next_id}
 use Rattle.cluster_core.proofs.Commands.Standing.Stands.{finished}
 use Rattle.cluster_core.proofs.Connections.ConnectionLaw.{IsInPlaceOf, IsMade, ReadsOn, StandsOn, client_with}
 use Rattle.cluster_core.proofs.Connections.FrameLaw.{ways_for}
@@ -51,15 +53,42 @@ pub record IsHeard (fixed : Fixed) (front : List ℕ) (replica : Replica) (conn 
   pub is_told : AreMarked fixed.setting world.steps world.marks story
   pub waiting : Waiting fixed front conn inputs held connection (story.told conn) (story.talk.answers conn) (story.course.sessions conn) here
 
-module _ (fixed : Fixed) (front : List ℕ) (replica : Replica) (conn : ℕ) (inputs : List Input) (held : Option (List ℕ)) (connection : Connection)
+-- whatever request it was that waited for it
+pub record IsHeardFor (fixed : Fixed) (front : List ℕ) (replica : Replica) (conn : ℕ) (inputs : List Input) (held : Option (List ℕ))
+    (connection : Connection) (world : World) (story : Tale) (tag : Tag) (it : Command) : Type 0 where
+  pub count : connection.answered ≡ length (story.told conn)
+  pub client : client_at world conn ≡ Some (client_with front inputs (story.told conn))
+  pub nothing : IsInPlaceOf fixed world front replica (next_id conn (story.told conn)) place.nowhere
+  pub is_told : AreMarked fixed.setting world.steps world.marks story
+  pub next : IsNext inputs held connection (story.told conn) tag it
+
+pub heard_for : (fixed : Fixed) (front : List ℕ) (replica : Replica) (conn : ℕ) (inputs : List Input) (held : Option (List ℕ)) (connection : Connection)
     (world : World) (story : Tale) (here : Place) (heard : IsHeard fixed front replica conn inputs held connection world story here)
+    → IsHeardFor fixed front replica conn inputs held connection world story (heard.waiting).tag (heard.waiting).c.it
+heard_for fixed front replica conn inputs held connection world story here heard = record {
+  count = heard.count;
+  client = heard.client;
+  nothing = heard.nothing;
+  is_told = heard.is_told;
+  next = record {
+    passed = (heard.waiting).passed;
+    request = (heard.waiting).request;
+    parts = (heard.waiting).parts;
+    answered = (heard.waiting).answered;
+    is = (heard.waiting).is;
+    last = (heard.waiting).last;
+  };
+}
+
+module _ (fixed : Fixed) (front : List ℕ) (replica : Replica) (conn : ℕ) (inputs : List Input) (held : Option (List ℕ)) (connection : Connection)
+    (world : World) (story : Tale) (tag : Tag) (it : Command) (heard : IsHeardFor fixed front replica conn inputs held connection world story tag it)
     (how : How) (reply : Reply) (session : Sess)
-    (told : IsTold fixed.setting world story conn how (record { tag = (heard.waiting).tag; reply = reply }) session) where
+    (told : IsTold fixed.setting world story conn how (record { tag = tag; reply = reply }) session) where
   abbrev answer : Answer
-  answer = record { tag = (heard.waiting).tag; reply = reply }
+  answer = record { tag = tag; reply = reply }
 
   abbrev text : List ℕ
-  text = reply_text (heard.waiting).tag reply
+  text = reply_text tag reply
 
   abbrev was : Client
   was = client_with front inputs (story.told conn)
@@ -84,12 +113,12 @@ module _ (fixed : Fixed) (front : List ℕ) (replica : Replica) (conn : ℕ) (in
   counted = ap (λ n. n + 1) heard.count ∙ sym (ap length told.told ∙ length-append (story.told conn) (answer ∷ []))
 
   -- the client was given the replies up to its command's
-  stops : replies_to inputs (story.told conn) ≡ replies_to (heard.waiting).passed (story.told conn)
+  stops : replies_to inputs (story.told conn) ≡ replies_to (heard.next).passed (story.told conn)
   stops =
-      ap (λ f. replies_to f (story.told conn)) (heard.waiting).parts
-      ∙ sym (replies_stop (heard.waiting).passed (story.told conn) (heard.waiting).request connection.waiting (heard.waiting).answered)
+      ap (λ f. replies_to f (story.told conn)) (heard.next).parts
+      ∙ sym (replies_stop (heard.next).passed (story.told conn) (heard.next).request connection.waiting (heard.next).answered)
 
-  given : (all : List Input) → replies_to all (story.told conn ++ answer ∷ []) ≡ replies_to (heard.waiting).passed (story.told conn) ++ text
+  given : (all : List Input) → replies_to all (story.told conn ++ answer ∷ []) ≡ replies_to (heard.next).passed (story.told conn) ++ text
       → client_at next conn ≡ Some (client_with front all (told.later.told conn))
   given all is =
       value_at-with_value nat_cmp numbers_apart world.clients conn (record was { given = was.given ++ text }) was heard.client
@@ -105,10 +134,10 @@ module _ (fixed : Fixed) (front : List ℕ) (replica : Replica) (conn : ℕ) (in
 
   module _ (lasts : has_ended session ≡ false) (stays : ends reply ≡ false) where
     abbrev passed : List Input
-    passed = (heard.waiting).passed ++ Asks (heard.waiting).request ∷ []
+    passed = (heard.next).passed ++ Asks (heard.next).request ∷ []
 
-    grown : Grows (heard.waiting).passed passed (story.told conn) (story.told conn ++ answer ∷ []) text
-    grown = request_answered (heard.waiting).passed (story.told conn) (heard.waiting).request answer (heard.waiting).answered stays
+    grown : Grows (heard.next).passed passed (story.told conn) (story.told conn ++ answer ∷ []) text
+    grown = request_answered (heard.next).passed (story.told conn) (heard.next).request answer (heard.next).answered stays
 
     reads_so : ReadsOn fixed front replica conn passed (reading_again later) world story (carry_all front world (told_so conn later how text))
     reads_so =
@@ -138,8 +167,8 @@ module _ (fixed : Fixed) (front : List ℕ) (replica : Replica) (conn : ℕ) (in
         subst (λ w. StandsOn fixed front replica conn inputs held behind.connection world story w)
         (sym (carry_all-append front world (told_so conn later how text) behind.outs))
         (come passed connection.waiting (reading_again later) (carry_all front world (told_so conn later how text))
-        (append_assoc (heard.waiting).passed (Asks (heard.waiting).request ∷ []) connection.waiting ∙ sym (heard.waiting).parts)
-        (heard.waiting).last reads_so)
+        (append_assoc (heard.next).passed (Asks (heard.next).request ∷ []) connection.waiting ∙ sym (heard.next).parts)
+        (heard.next).last reads_so)
 
   -- ---- it has ended
 
@@ -154,12 +183,12 @@ module _ (fixed : Fixed) (front : List ℕ) (replica : Replica) (conn : ℕ) (in
         made = made;
         standing = record {
           count = counted;
-          client = given inputs (ap (λ f. replies_to f (story.told conn ++ answer ∷ [])) (heard.waiting).parts
-              ∙ end_told silent (heard.waiting).passed (story.told conn) (heard.waiting).request connection.waiting answer [] (heard.waiting).answered is_end);
+          client = given inputs (ap (λ f. replies_to f (story.told conn ++ answer ∷ [])) (heard.next).parts
+              ∙ end_told silent (heard.next).passed (story.told conn) (heard.next).request connection.waiting answer [] (heard.next).answered is_end);
           here = place.nowhere;
           placed = nowhere_then;
           marked = tt;
-          stands = finished (heard.waiting).passed connection.waiting (heard.waiting).request (story.told conn) answer refl (heard.waiting).parts
-              (heard.waiting).answered told.told is_end (told.said ∙ sym told.told) refl;
+          stands = finished (heard.next).passed connection.waiting (heard.next).request (story.told conn) answer refl (heard.next).parts
+              (heard.next).answered told.told is_end (told.said ∙ sym told.told) refl;
         };
       })
