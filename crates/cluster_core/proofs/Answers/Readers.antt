@@ -7,7 +7,7 @@ use Rattle.asking_core.specs.declared.waiting.At.TheVariants.{Home, Barrier}
 use Rattle.asking_core.specs.declared.waiting.Waiting.{Waiting}
 use Rattle.front_core.specs.declared.connection.Connection.{Connection}
 use Rattle.front_core.specs.declared.connection.Stage.{Stage}
-use Rattle.front_core.specs.declared.connection.Stage.TheVariants.{Reading, Waits, Ended}
+use Rattle.front_core.specs.declared.connection.Stage.TheVariants.{Reading, Waits, Lists, Ended}
 use Rattle.front_core.specs.Answered.{answer_by, answer_comes, by_then, clears_at, need_behind, ok_by, ok_comes, reading_again}
 use Rattle.front_core.specs.Taken.{Turned, Ways}
 use Rattle.imap_types.specs.declared.command.Tag.{Tag}
@@ -28,6 +28,7 @@ module _ (setting : Setting) (ways : Ways) (conn : ℕ) where
   need_reader connection tag how (needs.Reply reply) = inputs_keep_reader setting ways conn (reading_again connection) connection.waiting
   need_reader connection tag how (needs.Leave reply) = refl
   need_reader connection tag how (needs.Home name asking) = refl
+  need_reader connection tag how (needs.Names it) = refl
 
   then_reader : (connection : Connection) (tag : Tag) (it : Waiting) (what : Then) → KeepsReader connection (by_then setting ways conn connection tag it what)
   then_reader connection tag it (then.Sends sent) = refl
@@ -40,6 +41,7 @@ module _ (setting : Setting) (ways : Ways) (conn : ℕ) where
       → KeepsReader connection (answer_by setting ways conn connection answer own stage)
   unfolding answer_by
   answer_reader_by connection answer true (Waits tag it) = then_reader _ tag _ _
+  answer_reader_by connection answer true (Lists tag it) = refl
   answer_reader_by connection answer true Reading = refl
   answer_reader_by connection answer true Ended = refl
   answer_reader_by connection answer false stage = refl
@@ -55,6 +57,7 @@ module _ (setting : Setting) (ways : Ways) (conn : ℕ) where
   ok_reader_by : (connection : Connection) (own : Bool) (stage : Stage) → KeepsReader connection (ok_by setting ways conn connection own stage)
   unfolding ok_by
   ok_reader_by connection true (Waits tag it) = clears_reader connection tag it it.at
+  ok_reader_by connection true (Lists tag it) = inputs_keep_reader setting ways conn (reading_again connection) connection.waiting
   ok_reader_by connection true Reading = refl
   ok_reader_by connection true Ended = refl
   ok_reader_by connection false stage = refl

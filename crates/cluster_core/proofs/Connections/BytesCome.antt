@@ -5,16 +5,15 @@ use Rattle.std.proofs.Math.Logic.{⊎_elim}
 use Rattle.std.proofs.lemmas.Bool.{cases_eq}
 use Rattle.std.proofs.lemmas.Bool.Decides.{nat_tests}
 use Rattle.std.proofs.lemmas.List.{append-nil}
-use Rattle.asking_core.specs.declared.waiting.Waiting.{Waiting as Ask_waits}
 use Rattle.cluster_core.specs.Heard.{hears}
 use Rattle.cluster_core.specs.World.{master_of, setting_of, carry_all, home_at}
 use Rattle.feed_links.specs.Lines.{messages_to}
 use Rattle.feed_links.specs.OneFeed.{AreNoops}
 use Rattle.front_core.specs.Reading.{Reading as Read, inputs_of_more, read_more}
 use Rattle.front_core.proofs.OneConnection.Readings.{FaultsLast, faults_after, inputs_in, inputs_with_more, reading_of, reading_with_more}
+use Rattle.front_core.proofs.FramesLaws.{HoldsBack, held_back}
 use Rattle.front_core.proofs.ReadingLaws.{ended_inputs, ended_reader, inputs_of_more-length}
 use Rattle.front_core.specs.declared.connection.Connection.{Connection}
-use Rattle.front_core.specs.declared.connection.Stage.TheVariants.{Waits}
 use Rattle.front_core.specs.declared.front.Front.{Front}
 use Rattle.front_core.specs.Front.{having_read}
 use Rattle.front_core.specs.Taken.{Turned, Ways, inputs_come}
@@ -26,6 +25,7 @@ use Rattle.imap_talk.specs.declared.inputs.Input.{Input}
 use Rattle.imap_talk.specs.declared.inputs.Input.TheVariants.{GoesOn as goes_on, Asks, Faults}
 use Rattle.imap_talk.proofs.InputLaws.{inputs-length, requests-append}
 use Rattle.imap_talk.proofs.RequestsOf.{answered_lengths, requests_of, replies_stop}
+use Rattle.imap_types.specs.declared.command.Command.{Command}
 use Rattle.imap_types.specs.declared.command.Tag.{Tag}
 use Rattle.imap_types.specs.declared.request.Request.{Request}
 use Rattle.imap_wire.specs.Frames.{begun, frames}
@@ -39,10 +39,11 @@ use Rattle.mur_model.specs.History.{GoesOn}
 use Rattle.mur_model.specs.declared.setting.Setting.{Setting}
 use Rattle.schedule_text.specs.declared.event.Event.TheVariants.{Data}
 use Rattle.cluster_core.specs.declared.world.World.{World}
-use Rattle.cluster_core.proofs.Commands.Standing.{Fixed, Waiting}
-use Rattle.cluster_core.proofs.Commands.Standing.Stands.{waits}
+use Rattle.cluster_core.proofs.Commands.Released.{waits_next}
+use Rattle.cluster_core.proofs.Commands.Standing.{Fixed, IsNext, Lists, Stands, Waiting}
+use Rattle.cluster_core.proofs.Commands.Standing.Stands.{lists, waits}
 use Rattle.cluster_core.proofs.Connections.ConnectionLaw.{IsReading, IsStanding, StandsOn, keeps_all, same_story}
-use Rattle.cluster_core.proofs.Connections.FrameLaw.{HasNumbersOf, asked_waits, inputs_kept, ways_for}
+use Rattle.cluster_core.proofs.Connections.FrameLaw.{HasNumbersOf, inputs_kept, ways_for}
 use Rattle.cluster_core.proofs.Connections.KeepsLaw.{IsAt, KeepsLaw, fixed_of}
 use Rattle.cluster_core.proofs.Connections.MayAskAt.{may_ask}
 use Rattle.cluster_core.proofs.Connections.OwnOuts.{inputs_own, own_noops}
@@ -274,65 +275,113 @@ module _ (config : Config) (heard : ℕ → Heard) (world : World) (law : KeepsL
   abbrev Waits_on : Turned
   Waits_on = record { connection = record (having_read (setting_of config) connection more) { waiting = connection.waiting ++ new }; outs = [] }
 
-  waits_all : (tag : Tag) (it : Ask_waits) → connection.stage ≡ Waits tag it → turned ≡ Waits_on
-  waits_all tag it stage = asked_waits (setting_of config) (ways_same config front) conn (having_read (setting_of config) connection more) new tag it stage
+  waits_all : HoldsBack connection.stage → turned ≡ Waits_on
+  waits_all holds = held_back (setting_of config) (ways_same config front) conn (having_read (setting_of config) connection more) new holds
 
-  pub waiting_behind : connection.reader ≡ reading_of (setting_of config) bytes
+  -- that command is the next to be answered
+  abbrev IsNextBefore : Tag → Command → Type 0
+  IsNextBefore tag it = IsNext (inputs_in (setting_of config) bytes) (begun bytes) connection (law.story.told conn) tag it
+
+  abbrev IsNextBehind : Tag → Command → Type 0
+  IsNextBehind tag it = IsNext (inputs_in (setting_of config) (bytes ++ more)) (begun (bytes ++ more)) Waits_on.connection (law.story.told conn) tag it
+
+  parts_behind : (tag : Tag) (it : Command) → connection.reader ≡ reading_of (setting_of config) bytes → (next : IsNextBefore tag it)
+      → inputs_in (setting_of config) (bytes ++ more) ≡ next.passed ++ Asks next.request ∷ (connection.waiting ++ new)
+  parts_behind tag it reader next =
+      inputs_with_more (setting_of config) bytes more connection.reader (sym reader) ∙ ap (λ f. f ++ new) next.parts
+      ∙ append_assoc next.passed (Asks next.request ∷ connection.waiting) new
+
+  next_behind : (tag : Tag) (it : Command) → connection.reader ≡ reading_of (setting_of config) bytes → IsNextBefore tag it → IsNextBehind tag it
+  next_behind tag it reader next = record {
+    passed = next.passed;
+    request = next.request;
+    parts = parts_behind tag it reader next;
+    answered = next.answered;
+    is = next.is;
+    last = subst (λ h. FaultsLast (connection.waiting ++ new) h)
+        (sym (ap (λ (r : Read). r.held) (reading_with_more (setting_of config) bytes more connection.reader (sym reader))))
+        (faults_behind connection.waiting new (begun bytes) (read_more (setting_of config) connection.reader more).held next.last
+        (faults_after (setting_of config) bytes more connection.reader (sym reader))
+        (λ none. let over = ap (λ (r : Read). is_none r.held) reader ∙ ap is_none none in (
+          ended_inputs (setting_of config) connection.reader more over,
+          ap (λ (r : Read). r.held) (ended_reader (setting_of config) connection.reader more over ∙ reader) ∙ none,
+        )));
+  }
+
+  held_behind : (tag : Tag) (it : Command) → connection.reader ≡ reading_of (setting_of config) bytes
       → (standing : IsStanding fixed node front.replica conn (inputs_in (setting_of config) bytes) (begun bytes) connection world law.story)
-      → Waiting fixed node conn (inputs_in (setting_of config) bytes) (begun bytes) connection (law.story.told conn)
+      → HoldsBack connection.stage → IsNextBefore tag it
+      → Stands fixed node conn (inputs_in (setting_of config) (bytes ++ more)) (begun (bytes ++ more)) Waits_on.connection (law.story.told conn)
       (law.story.talk.answers conn) (law.story.course.sessions conn) standing.here
       → Behind
   unfolding carry_all
-  waiting_behind reader standing waiting =
-      let held : reading_of (setting_of config) bytes ≡ connection.reader = sym reader in
-      let passed : List Input = waiting.passed in
-      let now : inputs_in (setting_of config) (bytes ++ more) ≡ passed ++ Asks waiting.request ∷ (connection.waiting ++ new) =
-      inputs_with_more (setting_of config) bytes more connection.reader held ∙ ap (λ f. f ++ new) waiting.parts
-      ∙ append_assoc passed (Asks waiting.request ∷ connection.waiting) new in
+  held_behind tag it reader standing holds next stands =
       subst (λ (t : Turned). StandsOn fixed node front.replica conn (inputs_in (setting_of config) (bytes ++ more))
-      (begun (bytes ++ more)) t.connection world told (carry_all node world t.outs)) (sym (waits_all waiting.tag (waiting.c).waiting waiting.stage))
+      (begun (bytes ++ more)) t.connection world told (carry_all node world t.outs)) (sym (waits_all holds))
       (record {
         story = told;
         made = record {
           others = keeps_all fixed conn world;
           goes_on = same_story conn told;
           store = refl;
-          is_told = now_told connection.reader held;
+          is_told = now_told connection.reader (sym reader);
         };
         standing = record {
           count = standing.count;
           client = standing.client ∙ ap (λ t. Some (record { at = node; given = greeting ++ t }))
-              (ap (λ f. replies_to f (law.story.told conn)) waiting.parts
-              ∙ sym (replies_stop passed (law.story.told conn) waiting.request connection.waiting waiting.answered)
-              ∙ replies_stop passed (law.story.told conn) waiting.request (connection.waiting ++ new) waiting.answered
-              ∙ ap (λ f. replies_to f (law.story.told conn)) (sym now));
+              (ap (λ f. replies_to f (law.story.told conn)) next.parts
+              ∙ sym (replies_stop next.passed (law.story.told conn) next.request connection.waiting next.answered)
+              ∙ replies_stop next.passed (law.story.told conn) next.request (connection.waiting ++ new) next.answered
+              ∙ ap (λ f. replies_to f (law.story.told conn)) (sym (parts_behind tag it reader next)));
           here = standing.here;
           placed = standing.placed;
           marked = standing.marked;
-          stands = waits (record {
-            passed = passed;
-            request = waiting.request;
-            tag = waiting.tag;
-            c = waiting.c;
-            of = waiting.of;
-            stage = waiting.stage;
-            at = waiting.at;
-            parts = now;
-            lasts = waiting.lasts;
-            answered = waiting.answered;
-            is = waiting.is;
-            last = subst (λ h. FaultsLast (connection.waiting ++ new) h)
-                (sym (ap (λ (r : Read). r.held) (reading_with_more (setting_of config) bytes more connection.reader held)))
-                (faults_behind connection.waiting new (begun bytes) (read_more (setting_of config) connection.reader more).held waiting.last
-                (faults_after (setting_of config) bytes more connection.reader held)
-                (λ none. let over = ap (λ (r : Read). is_none r.held) reader ∙ ap is_none none in (
-                  ended_inputs (setting_of config) connection.reader more over,
-                  ap (λ (r : Read). r.held) (ended_reader (setting_of config) connection.reader more over ∙ reader) ∙ none,
-                )));
-            knows = waiting.knows;
-          });
+          stands = stands;
         };
       })
 
-  pub waiting_noops : (tag : Tag) (it : Ask_waits) → connection.stage ≡ Waits tag it → AreNoops (messages_to (master_of config) turned.outs)
-  waiting_noops tag it stage = subst (λ (t : Turned). AreNoops (messages_to (master_of config) t.outs)) (sym (waits_all tag it stage)) tt
+  pub waiting_behind : connection.reader ≡ reading_of (setting_of config) bytes
+      → (standing : IsStanding fixed node front.replica conn (inputs_in (setting_of config) bytes) (begun bytes) connection world law.story)
+      → Waiting fixed node conn (inputs_in (setting_of config) bytes) (begun bytes) connection (law.story.told conn)
+      (law.story.talk.answers conn) (law.story.course.sessions conn) standing.here
+      → Behind
+  waiting_behind reader standing waiting =
+      let next = waits_next fixed node conn (inputs_in (setting_of config) bytes) (begun bytes) connection (law.story.told conn)
+      (law.story.talk.answers conn) (law.story.course.sessions conn) standing.here waiting in
+      let now = next_behind waiting.tag (waiting.c).it reader next in
+      held_behind waiting.tag (waiting.c).it reader standing (subst HoldsBack (sym waiting.stage) tt) next (waits (record {
+        passed = now.passed;
+        request = now.request;
+        tag = waiting.tag;
+        c = waiting.c;
+        of = waiting.of;
+        stage = waiting.stage;
+        at = waiting.at;
+        parts = now.parts;
+        lasts = waiting.lasts;
+        answered = now.answered;
+        is = now.is;
+        last = now.last;
+        knows = waiting.knows;
+      }))
+
+  -- the same of a LIST
+  pub listing_behind : connection.reader ≡ reading_of (setting_of config) bytes
+      → (standing : IsStanding fixed node front.replica conn (inputs_in (setting_of config) bytes) (begun bytes) connection world law.story)
+      → Lists fixed (inputs_in (setting_of config) bytes) (begun bytes) connection (law.story.told conn)
+      (law.story.talk.answers conn) (law.story.course.sessions conn) standing.here
+      → Behind
+  listing_behind reader standing waiting =
+      held_behind waiting.tag waiting.it reader standing (subst HoldsBack (sym waiting.stage) tt) waiting.next (lists (record {
+        tag = waiting.tag;
+        it = waiting.it;
+        listing = waiting.listing;
+        need = waiting.need;
+        stage = waiting.stage;
+        lasts = waiting.lasts;
+        next = next_behind waiting.tag waiting.it reader waiting.next;
+        knows = waiting.knows;
+      }))
+
+  pub held_noops : HoldsBack connection.stage → AreNoops (messages_to (master_of config) turned.outs)
+  held_noops holds = subst (λ (t : Turned). AreNoops (messages_to (master_of config) t.outs)) (sym (waits_all holds)) tt

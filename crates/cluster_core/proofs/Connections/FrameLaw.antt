@@ -9,10 +9,12 @@ use Rattle.feed_core.specs.declared.replica.Replica.{Replica}
 use Rattle.front_core.proofs.OneConnection.LastAnswer.{all_go_on}
 use Rattle.front_core.proofs.OneConnection.Readings.{FaultsLast}
 use Rattle.front_core.specs.declared.connection.Connection.{Connection}
-use Rattle.front_core.specs.declared.connection.Stage.TheVariants.{Reading, Waits, Ended}
-use Rattle.front_core.specs.Taken.{Turned, Ways, answers_now, answers_last, asks, behind_outs, comes_at, input_comes, input_in, inputs_come, to_begin, ways_by}
+use Rattle.front_core.specs.declared.connection.Stage.{Stage}
+use Rattle.front_core.specs.declared.connection.Stage.TheVariants.{Reading, Waits, Lists, Ended}
+use Rattle.front_core.specs.Taken.{Turned, Ways, answers_now, answers_last, asks, comes_at, input_comes, input_in, inputs_come, lists, request_in, to_begin, ways_by}
+use Rattle.front_core.proofs.FramesLaws.{HoldsBack, ended_drops, held_back}
 use Rattle.front_core.proofs.OneConnection.FrontAnswers.{IsTaken, request_taken}
-use Rattle.front_core.proofs.OneConnection.FrontAnswers.IsTaken.{here, finishes, asked}
+use Rattle.front_core.proofs.OneConnection.FrontAnswers.IsTaken.{here, finishes, asked, listed}
 use Rattle.imap_reply.specs.ByeLine.{bye_line}
 use Rattle.imap_talk.specs.FaultBye.{bye_of}
 use Rattle.imap_reply.specs.Continuation.{continuation_line}
@@ -39,6 +41,7 @@ use Rattle.link_msg.specs.declared.ask.FrontAsk.{FrontAsk}
 use Rattle.link_msg.specs.declared.how.How.TheVariants.{Here}
 use Rattle.link_msg.specs.declared.message.LinkMsg.{LinkMsg}
 use Rattle.link_msg.specs.declared.message.LinkMsg.TheVariants.{Ask}
+use Rattle.link_msg.specs.declared.out.Out.{Out}
 use Rattle.link_msg.specs.declared.out.Out.TheVariants.{Client as to_client, Close, Link as to_node}
 use Rattle.mark_history.specs.Marked.{Tale}
 use Rattle.mur_base.specs.declared.point.AskId.{AskId}
@@ -47,7 +50,8 @@ use Rattle.mur_model.specs.Act.{need_of}
 use Rattle.mur_model.specs.Answer.{Answered, MayTake}
 use Rattle.mur_model.specs.Asking.{asked_for}
 use Rattle.mur_model.specs.History.{numbered}
-use Rattle.mur_model.specs.Needed.{Mailbox, Work}
+use Rattle.mur_model.specs.Needed.{Mailbox, Names, Work}
+use Rattle.mur_model.specs.declared.commands.list.Listing.{Listing}
 use Rattle.mur_model.specs.declared.session.Sess.{Sess}
 use Rattle.mur_model.specs.declared.session.Sess.TheVariants.{Ended as session_ended}
 use Rattle.mur_model.specs.declared.setting.Setting.{Setting}
@@ -60,9 +64,10 @@ use Rattle.cluster_core.specs.declared.world.World.{World}
 use Rattle.cluster_core.specs.World.{carry, carry_all, home_at}
 use Rattle.cluster_core.proofs.Commands.Knows.{Undecided}
 use Rattle.cluster_core.proofs.Commands.Knows.Knows.{undecided}
+use Rattle.cluster_core.proofs.Commands.Knows.KnowsNames.{not_yet}
 use Rattle.cluster_core.proofs.Commands.Place.{Place, Place as place}
-use Rattle.cluster_core.proofs.Commands.Standing.{Fixed, IsCommandOf, WaitsAt, next_id}
-use Rattle.cluster_core.proofs.Commands.Standing.Stands.{reads, waits, faulted, finished}
+use Rattle.cluster_core.proofs.Commands.Standing.{Fixed, IsCommandOf, Stands, WaitsAt, next_id}
+use Rattle.cluster_core.proofs.Commands.Standing.Stands.{reads, waits, lists as waits_listing, faulted, finished}
 use Rattle.cluster_core.proofs.Connections.AsksFirst.{FirstWay, first_way}
 use Rattle.cluster_core.proofs.Connections.AsksFirst.FirstWay.{by_server, by_master}
 use Rattle.cluster_core.proofs.Connections.ConnectionLaw.{IsInPlaceOf, IsMarkedAt, ReadsOn, StandsOn, client_with, keeps_on, session_at}
@@ -241,18 +246,18 @@ module _ (fixed : Fixed) (front : List ℕ) (replica : Replica) (conn : ℕ) whe
   abbrev next_at : Connection → AskId
   next_at connection = record { conn = conn; command = connection.answered + 1 }
 
-  waits_here : (inputs waiting : List Input) (held : Option (List ℕ)) (connection : Connection) (before : World) (told : Tale) (world : World)
-      (request : Request) (tag : Tag) (to : List ℕ) (message : LinkMsg) (c : ClientCommand) (its_place : Place)
+  -- a message goes out for it: so the connection stands, wherever the request is then
+  sent_here : (inputs waiting : List Input) (held : Option (List ℕ)) (connection : Connection) (before : World) (told : Tale) (world : World)
+      (request : Request) (stage : Stage) (to : List ℕ) (message : LinkMsg) (its_place : Place)
       (was : ReadsOn fixed front replica conn inputs connection before told world)
-      → request ≡ a_command tag c.it → FaultsLast waiting held
-      → IsCommandOf fixed conn (was.story.told conn) connection.session c → WaitsAt c.waiting.at its_place
-      → Undecided fixed.master fixed.first front c its_place
       → IsMarkedAt was.story.moving world.marks (next_id conn (was.story.told conn)) its_place
       → SendsSo fixed world (with_sent world front to message) front replica (next_at connection) its_place
+      → Stands fixed front conn (inputs ++ Asks request ∷ waiting) held (record connection { waiting = waiting; stage = stage })
+      (was.story.told conn) (was.story.talk.answers conn) (was.story.course.sessions conn) its_place
       → StandsOn fixed front replica conn (inputs ++ Asks request ∷ waiting) held
-      (record connection { waiting = waiting; stage = Waits tag c.waiting }) before told (carry_all front world (to_node to message ∷ []))
+      (record connection { waiting = waiting; stage = stage }) before told (carry_all front world (to_node to message ∷ []))
   unfolding carry_all carry
-  waits_here inputs waiting held connection before told world request tag to message c its_place was is last of at so marked sends =
+  sent_here inputs waiting held connection before told world request stage to message its_place was marked sends stands =
       let story = was.story in
       let next : World = with_sent world front to message in
       record {
@@ -279,23 +284,36 @@ module _ (fixed : Fixed) (front : List ℕ) (replica : Replica) (conn : ℕ) whe
               (sends.own (subst (λ n. IsInPlaceOf fixed world front replica (record { conn = conn; command = n + 1 }) place.nowhere)
               (sym was.reading.count) was.reading.nothing));
           marked = marked;
-          stands = waits (record {
-            passed = inputs;
-            request = request;
-            tag = tag;
-            c = c;
-            of = of;
-            stage = refl;
-            at = at;
-            parts = refl;
-            lasts = ap has_ended was.reading.session_is ∙ was.reading.goes_on;
-            answered = was.reading.answered;
-            is = is;
-            last = last;
-            knows = undecided was.reading.said (of.was_is ∙ was.reading.session_is) so;
-          });
+          stands = stands;
         };
       }
+
+  waits_here : (inputs waiting : List Input) (held : Option (List ℕ)) (connection : Connection) (before : World) (told : Tale) (world : World)
+      (request : Request) (tag : Tag) (to : List ℕ) (message : LinkMsg) (c : ClientCommand) (its_place : Place)
+      (was : ReadsOn fixed front replica conn inputs connection before told world)
+      → request ≡ a_command tag c.it → FaultsLast waiting held
+      → IsCommandOf fixed conn (was.story.told conn) connection.session c → WaitsAt c.waiting.at its_place
+      → Undecided fixed.master fixed.first front c its_place
+      → IsMarkedAt was.story.moving world.marks (next_id conn (was.story.told conn)) its_place
+      → SendsSo fixed world (with_sent world front to message) front replica (next_at connection) its_place
+      → StandsOn fixed front replica conn (inputs ++ Asks request ∷ waiting) held
+      (record connection { waiting = waiting; stage = Waits tag c.waiting }) before told (carry_all front world (to_node to message ∷ []))
+  waits_here inputs waiting held connection before told world request tag to message c its_place was is last of at so marked sends =
+      sent_here inputs waiting held connection before told world request (Waits tag c.waiting) to message its_place was marked sends (waits (record {
+        passed = inputs;
+        request = request;
+        tag = tag;
+        c = c;
+        of = of;
+        stage = refl;
+        at = at;
+        parts = refl;
+        lasts = ap has_ended was.reading.session_is ∙ was.reading.goes_on;
+        answered = was.reading.answered;
+        is = is;
+        last = last;
+        knows = undecided was.reading.said (of.was_is ∙ was.reading.session_is) so;
+      }))
 
   asked_by : (inputs waiting : List Input) (held : Option (List ℕ)) (connection : Connection) (before : World) (told : Tale) (world : World)
       (request : Request) (tag : Tag) (it : Command) (name : List ℕ) (work : Work) (begun : Begun)
@@ -364,28 +382,31 @@ module _ (fixed : Fixed) (front : List ℕ) (replica : Replica) (conn : ℕ) whe
       (first_way (home_at world) replica.records fixed.master fixed.first (next_at connection) connection.session (to_begin name (asked_for name work))
       may_now.knows may_now.first)
 
--- behind a command that waits every input waits
-pub asked_waits : (setting : Setting) (ways : Ways) (conn : ℕ) (connection : Connection) (inputs : List Input) (tag : Tag) (it : Ask_waits)
-    → connection.stage ≡ Waits tag it
-    → inputs_come setting ways conn connection inputs ≡ record { connection = record connection { waiting = connection.waiting ++ inputs }; outs = [] }
-unfolding inputs_come input_comes comes_at
-asked_waits setting ways conn connection [] tag it e =
-    ap (λ w. record { connection = record connection { waiting = w }; outs = [] }) (sym (append-nil connection.waiting))
-asked_waits setting ways conn connection (input ∷ inputs) tag it e =
-    ap (λ s. behind_outs (comes_at setting ways conn connection input s).outs
-    (inputs_come setting ways conn (comes_at setting ways conn connection input s).connection inputs)) e
-    ∙ asked_waits setting ways conn (record connection { waiting = connection.waiting ++ input ∷ [] }) inputs tag it e
-    ∙ ap (λ w. record { connection = record connection { waiting = w }; outs = [] }) (append_assoc connection.waiting (input ∷ []) inputs)
+  -- ---- a LIST; the inputs behind it wait
 
--- nothing more comes to a connection that has ended
-pub ended_drops : (setting : Setting) (ways : Ways) (conn : ℕ) (connection : Connection) (inputs : List Input) → connection.stage ≡ Ended
-    → inputs_come setting ways conn connection inputs ≡ record { connection = connection; outs = [] }
-unfolding inputs_come input_comes comes_at
-ended_drops setting ways conn connection [] e = refl
-ended_drops setting ways conn connection (input ∷ inputs) e =
-    ap (λ s. behind_outs (comes_at setting ways conn connection input s).outs
-    (inputs_come setting ways conn (comes_at setting ways conn connection input s).connection inputs)) e
-    ∙ ended_drops setting ways conn connection inputs e
+  listed_kept : (inputs waiting : List Input) (held : Option (List ℕ)) (connection : Connection) (before : World) (told : Tale) (world : World)
+      (request : Request) (tag : Tag) (it : Command) (listing : Listing)
+      (was : ReadsOn fixed front replica conn inputs connection before told world)
+      → request ≡ a_command tag it → need_of fixed.setting (was.story.course.sessions conn) it ≡ Names listing → FaultsLast waiting held
+      → MayAsk fixed (home_at before) front replica → IsNumbered (next_at connection)
+      → StandsOn fixed front replica conn (inputs ++ Asks request ∷ waiting) held
+      (record connection { waiting = waiting; stage = Lists tag listing }) before told
+      (carry_all front (carry_all front world (lists (ways_for fixed replica) conn connection tag listing).outs) [])
+  unfolding carry_all
+  listed_kept inputs waiting held connection before told world request tag it listing was is need last may numbered =
+      let may_now : MayAsk fixed (home_at world) front replica = may_ask_later fixed before world front replica was.made.others.nodes may in
+      sent_here inputs waiting held connection before told world request (Lists tag listing) fixed.master (noop_of (next_at connection))
+      (place.is_barred barrier.asked) was tt (bars_so fixed world front replica (next_at connection) may_now.frontend numbered)
+      (waits_listing (record {
+        tag = tag;
+        it = it;
+        listing = listing;
+        need = ap (λ s. need_of fixed.setting s it) was.reading.session_is ∙ need;
+        stage = refl;
+        lasts = ap has_ended was.reading.session_is ∙ was.reading.goes_on;
+        next = record { passed = inputs; request = request; parts = refl; answered = was.reading.answered; is = is; last = last };
+        knows = not_yet was.reading.said was.reading.session_is refl;
+      }))
 
 last_turned : (setting : Setting) (ways : Ways) (conn : ℕ) (connection : Connection) (tag : Tag) (reply : Reply) (inputs : List Input)
     → inputs_come setting ways conn (answers_last conn connection tag reply).connection inputs
@@ -403,17 +424,6 @@ module _ (fixed : Fixed) (front : List ℕ) (replica : Replica) (conn : ℕ) whe
   -- what inputs make of a connection of this frontend
   abbrev come : Connection → List Input → Turned
   come connection inputs = inputs_come fixed.setting (ways_for fixed replica) conn connection inputs
-
-  asked_turned : (connection : Connection) (tag : Tag) (name : List ℕ) (work : Work) (inputs : List Input)
-      → come (asks (ways_for fixed replica) conn connection tag name (asked_for name work)).connection inputs
-      ≡ record {
-        connection = record connection { waiting = connection.waiting ++ inputs; stage = Waits tag (begun_at fixed front replica conn connection name work).waiting };
-        outs = [];
-      }
-  asked_turned connection tag name work inputs =
-      asked_waits fixed.setting (ways_for fixed replica) conn
-      (record connection { stage = Waits tag (begun_at fixed front replica conn connection name work).waiting }) inputs tag
-      (begun_at fixed front replica conn connection name work).waiting refl
 
   -- an input, and then the others
   came_on : (all : List Input) (held : Option (List ℕ)) (connection : Connection) (before : World) (told : Tale) (world : World)
@@ -511,6 +521,25 @@ module _ (fixed : Fixed) (front : List ℕ) (replica : Replica) (conn : ℕ) whe
     pub may : MayAsk fixed (home_at before) front replica
     pub numbers : HasNumbersOf conn told
 
+  -- a message goes out for a request, and the inputs behind it wait
+  sent_kept : (inputs new : List Input) (request : Request) (held : Option (List ℕ)) (connection : Connection) (before : World) (told : Tale) (world : World)
+      (stage : Stage) (outs : List Out) (was : ReadsOn fixed front replica conn inputs connection before told world) → HoldsBack stage
+      → request_in fixed.setting (ways_for fixed replica) conn connection request ≡ record { connection = record connection { stage = stage }; outs = outs }
+      → StandsOn fixed front replica conn (inputs ++ Asks request ∷ new) held (record connection { waiting = new; stage = stage }) before told
+      (carry_all front (carry_all front world outs) [])
+      → StandsOn fixed front replica conn (inputs ++ Asks request ∷ new) held (come connection (Asks request ∷ new)).connection before told
+      (carry_all front world (come connection (Asks request ∷ new)).outs)
+  unfolding input_in
+  sent_kept inputs new request held connection before told world stage outs was holds form stands =
+      let turned : Turned = record { connection = record connection { stage = stage }; outs = outs } in
+      let waits_all : come turned.connection new ≡ record { connection = record connection { waiting = new; stage = stage }; outs = [] } =
+      held_back fixed.setting (ways_for fixed replica) conn turned.connection new holds
+      ∙ ap (λ w. record { connection = record connection { waiting = w ++ new; stage = stage }; outs = [] }) was.reading.waiting_is in
+      came_on (inputs ++ Asks request ∷ new) held connection before told world (Asks request) new turned
+      (reads_input fixed.setting (ways_for fixed replica) conn connection (Asks request) was.reading.stage_is ∙ form)
+      (subst (λ (t : Turned). StandsOn fixed front replica conn (inputs ++ Asks request ∷ new) held t.connection before told
+      (carry_all front (carry_all front world turned.outs) t.outs)) (sym waits_all) stands)
+
   request_kept : (inputs new : List Input) (request : Request) (held : Option (List ℕ)) (connection : Connection) (before : World) (told : Tale) (world : World)
       (was : ReadsOn fixed front replica conn inputs connection before told world) → MaySend before told → FaultsLast new held
       → told.talk.requests conn ≡ requests_in (inputs ++ Asks request ∷ new)
@@ -535,17 +564,16 @@ module _ (fixed : Fixed) (front : List ℕ) (replica : Replica) (conn : ℕ) whe
       (last_here fixed front replica conn inputs new held connection before told world request tag reply was
       (next_of inputs new (Asks request) connection before told world request was all refl) is free is_end))
   request_kept inputs new request held connection before told world was sends last all follow (asked tag it name work is need form) =
-      let turned : Turned = asks (ways_for fixed replica) conn connection tag name (asked_for name work) in
       let begun : Begun = begun_at fixed front replica conn connection name work in
-      let waits_all : come turned.connection new ≡ record { connection = record connection { waiting = new; stage = Waits tag begun.waiting }; outs = [] } =
-      asked_turned connection tag name work new
-      ∙ ap (λ w. record { connection = record connection { waiting = w ++ new; stage = Waits tag begun.waiting }; outs = [] }) was.reading.waiting_is in
-      came_on (inputs ++ Asks request ∷ new) held connection before told world (Asks request) new turned
-      (reads_input fixed.setting (ways_for fixed replica) conn connection (Asks request) was.reading.stage_is ∙ form connection was.reading.session_is)
-      (subst (λ (t : Turned). StandsOn fixed front replica conn (inputs ++ Asks request ∷ new) held t.connection before told
-      (carry_all front (carry_all front world turned.outs) t.outs)) (sym waits_all)
+      sent_kept inputs new request held connection before told world (Waits tag begun.waiting) (to_node begun.sent.to begun.sent.message ∷ []) was tt
+      (form connection was.reading.session_is)
       (asked_kept fixed front replica conn inputs new held connection before told world request tag it name work was is need last sends.may
-      (next_numbered inputs new (Asks request) connection before told world request was all refl sends.numbers)))
+      (next_numbered inputs new (Asks request) connection before told world request was all refl sends.numbers))
+  request_kept inputs new request held connection before told world was sends last all follow (listed tag it listing is need form) =
+      sent_kept inputs new request held connection before told world (Lists tag listing)
+      (lists (ways_for fixed replica) conn connection tag listing).outs was tt (form connection was.reading.session_is)
+      (listed_kept fixed front replica conn inputs new held connection before told world request tag it listing was is need last sends.may
+      (next_numbered inputs new (Asks request) connection before told world request was all refl sends.numbers))
 
   -- all inputs of a piece, or all that waited
   pub inputs_kept : (new : List Input) (held : Option (List ℕ)) (before : World) (told : Tale) → MaySend before told → FaultsLast new held

@@ -2,7 +2,6 @@
 use Rattle.std.proofs.Common.{◌≡◌, ◌≢◌, ℕ, true, false, List, [], ◌∷◌, ◌++◌, Option, None, Some, inl, inr, refl, sym, ◌∙◌, ap, subst, append_assoc}
 use Rattle.std.proofs.Math.Logic.{⊎_elim}
 use Rattle.std.proofs.lemmas.Bool.{cases_eq}
-use Rattle.asking_core.specs.declared.waiting.Waiting.{Waiting as Ask_waits}
 use Rattle.cluster_core.specs.Heard.{hears}
 use Rattle.cluster_core.specs.World.{master_of, setting_of, carry_all, client_at, client_does, front_at, node_at}
 use Rattle.feed_core.specs.declared.replica.Replica.{Replica}
@@ -11,12 +10,14 @@ use Rattle.feed_links.specs.OneFeed.{AreNoops}
 use Rattle.front_core.specs.Reading.{Reading as Read, inputs_of_more}
 use Rattle.front_core.proofs.OneConnection.Readings.{inputs_in, inputs_with_more, reading_of, reading_with_more}
 use Rattle.front_core.specs.declared.connection.Connection.{Connection}
-use Rattle.front_core.specs.declared.connection.Stage.TheVariants.{Reading, Waits, Ended}
+use Rattle.front_core.specs.declared.connection.Stage.{Stage}
+use Rattle.front_core.specs.declared.connection.Stage.TheVariants.{Reading, Waits, Lists, Ended}
 use Rattle.front_core.specs.declared.front.Front.{Front}
 use Rattle.front_core.specs.Ended.{released}
 use Rattle.front_core.specs.Front.{Stepped, connection_at, having_read, bytes_in, front_bytes_at, bytes_by, still, ways_of, with_turned}
 use Rattle.front_core.specs.Taken.{Turned, Ways, input_comes, inputs_come}
 use Rattle.front_core.proofs.FrameLaws.{reader_kept}
+use Rattle.front_core.proofs.FramesLaws.{HoldsBack}
 use Rattle.imap_reply.specs.Greeting.{greeting}
 use Rattle.imap_talk.specs.Heard.{Heard, client}
 use Rattle.imap_talk.specs.Inputs.{inputs_from}
@@ -25,7 +26,6 @@ use Rattle.imap_talk.specs.Transcript.Stop.{silent}
 use Rattle.imap_talk.specs.declared.inputs.Input.{Input}
 use Rattle.imap_talk.specs.declared.inputs.Input.TheVariants.{Asks}
 use Rattle.imap_talk.proofs.TranscriptGrows.{AreAnswered, end_told}
-use Rattle.imap_types.specs.declared.command.Tag.{Tag}
 use Rattle.imap_types.specs.declared.request.Answer.{Answer}
 use Rattle.imap_types.specs.declared.request.Request.{Request}
 use Rattle.imap_wire.specs.Frames.{begun}
@@ -44,8 +44,8 @@ use Rattle.cluster_core.specs.declared.world.World.{World}
 use Rattle.cluster_core.proofs.Commands.Place.{Place as place}
 use Rattle.cluster_core.proofs.Commands.Released.{begun_released, released_count, stands_released}
 use Rattle.cluster_core.proofs.Commands.Standing.{Fixed, HasBegunSo, Stands, next_id}
-use Rattle.cluster_core.proofs.Commands.Standing.Stands.{reads, waits, faulted, finished}
-use Rattle.cluster_core.proofs.Connections.BytesCome.{Behind, after_data, asked_more, asked_tale, closed_heard, elsewhere_heard, heard_more, new, nothing_heard, other_heard, reading_behind, reading_noops, still_heard, turned, waiting_behind, waiting_noops, ways_same}
+use Rattle.cluster_core.proofs.Commands.Standing.Stands.{reads, waits, lists, faulted, finished}
+use Rattle.cluster_core.proofs.Connections.BytesCome.{Behind, after_data, asked_more, asked_tale, closed_heard, elsewhere_heard, heard_more, held_noops, listing_behind, new, nothing_heard, other_heard, reading_behind, reading_noops, still_heard, turned, waiting_behind, ways_same}
 use Rattle.cluster_core.proofs.Connections.ConnectionLaw.{IsInPlaceOf, IsReading, IsStanding}
 use Rattle.cluster_core.proofs.Connections.KeepsFront.{front_keeps, is_at_after, standing_after, turned_so, with_connection, world_after}
 use Rattle.cluster_core.proofs.Connections.KeepsLaw.{ConnectionIs, FeedsHold, IsAt, KeepsLaw, KeepsOn, fixed_of}
@@ -80,10 +80,19 @@ at_reading : (front : Front) (conn : ℕ) (bytes : List ℕ) (connection : Conne
 unfolding bytes_in front_bytes_at bytes_by
 at_reading front conn bytes connection has stage = ap (front_bytes_at front conn bytes) has ∙ ap (bytes_by front conn bytes connection) stage
 
-at_waiting : (front : Front) (conn : ℕ) (bytes : List ℕ) (connection : Connection) (tag : Tag) (it : Ask_waits) → connection_at front conn ≡ Some connection
-    → connection.stage ≡ Waits tag it → bytes_in front conn bytes ≡ with_turned front conn (read_turned front conn connection bytes)
-unfolding bytes_in front_bytes_at bytes_by
-at_waiting front conn bytes connection tag it has stage = ap (front_bytes_at front conn bytes) has ∙ ap (bytes_by front conn bytes connection) stage
+waits_by : (front : Front) (conn : ℕ) (bytes : List ℕ) (connection : Connection) (stage : Stage) → HoldsBack stage
+    → bytes_by front conn bytes connection stage ≡ with_turned front conn (read_turned front conn connection bytes)
+unfolding bytes_by
+waits_by front conn bytes connection Reading holds = absurd holds
+waits_by front conn bytes connection (Waits tag it) holds = refl
+waits_by front conn bytes connection (Lists tag it) holds = refl
+waits_by front conn bytes connection Ended holds = absurd holds
+
+at_waiting : (front : Front) (conn : ℕ) (bytes : List ℕ) (connection : Connection) → connection_at front conn ≡ Some connection
+    → HoldsBack connection.stage → bytes_in front conn bytes ≡ with_turned front conn (read_turned front conn connection bytes)
+unfolding bytes_in front_bytes_at
+at_waiting front conn bytes connection has holds =
+    ap (front_bytes_at front conn bytes) has ∙ waits_by front conn bytes connection connection.stage holds
 
 -- the reader of a connection that hasn't ended
 reader_of : (connection : Connection) (held : Read) → (connection.stage ≡ Ended → ⊥) → HasBegunSo connection held → connection.reader ≡ held
@@ -92,9 +101,8 @@ reader_of connection held lasts is = ⊎_elim (λ ended. absurd (lasts ended)) (
 pub reading_reader : (connection : Connection) (held : Read) → connection.stage ≡ Reading → HasBegunSo connection held → connection.reader ≡ held
 reading_reader connection held stage is = reader_of connection held (λ ended. (let both : Reading ≡ Ended = sym stage ∙ ended in cc)) is
 
-pub waiting_reader : (connection : Connection) (held : Read) (tag : Tag) (it : Ask_waits) → connection.stage ≡ Waits tag it
-    → HasBegunSo connection held → connection.reader ≡ held
-waiting_reader connection held tag it stage is = reader_of connection held (λ ended. (let both : Waits tag it ≡ Ended = sym stage ∙ ended in cc)) is
+waiting_reader : (connection : Connection) (held : Read) → HoldsBack connection.stage → HasBegunSo connection held → connection.reader ≡ held
+waiting_reader connection held holds is = reader_of connection held (λ ended. subst HoldsBack ended holds) is
 
 -- a connection that has ended holds nothing
 pub standing_released : (fixed : Fixed) (front : List ℕ) (replica : Replica) (conn : ℕ) (inputs : List Input) (held : Option (List ℕ))
@@ -283,6 +291,15 @@ module _ (config : Config) (heard : ℕ → Heard) (world : World) (law : KeepsL
         stands = finished passed (rest ++ behind) asked before final stage now answered is_told is_end said none;
       }
 
+  -- behind a command that waits they wait
+  held_more : HasBegunSo connection (reading_of (setting_of config) bytes) → HoldsBack connection.stage
+      → (connection.reader ≡ reading_of (setting_of config) bytes → Behind config heard world law conn bytes more node front connection e at fits)
+      → KeepsOn config law.story after (with_front world node (bytes_in front conn more))
+  held_more reader holds behind =
+      let has_reader = waiting_reader connection (reading_of (setting_of config) bytes) holds reader in
+      taken_more (at_waiting front conn more connection at.has holds) has_reader
+      (held_noops config heard world law conn bytes more node front connection e at fits holds) (behind has_reader)
+
   -- ---- whatever it is at
 
   stands_more : HasBegunSo connection (reading_of (setting_of config) bytes)
@@ -307,11 +324,11 @@ module _ (config : Config) (heard : ℕ → Heard) (world : World) (law : KeepsL
       (reading_noops config heard world law conn bytes more node front connection e at fits reading)
       (reading_behind config heard world law conn bytes more node front connection e at fits has_reader reading)
   stands_more reader standing (waits waiting) =
-      let it : Ask_waits = (waiting.c).waiting in
-      let has_reader = waiting_reader connection (reading_of (setting_of config) bytes) waiting.tag it waiting.stage reader in
-      taken_more (at_waiting front conn more connection waiting.tag it at.has waiting.stage) has_reader
-      (waiting_noops config heard world law conn bytes more node front connection e at fits waiting.tag it waiting.stage)
-      (waiting_behind config heard world law conn bytes more node front connection e at fits has_reader standing waiting)
+      held_more reader (subst HoldsBack (sym waiting.stage) tt) (λ has_reader.
+      waiting_behind config heard world law conn bytes more node front connection e at fits has_reader standing waiting)
+  stands_more reader standing (lists waiting) =
+      held_more reader (subst HoldsBack (sym waiting.stage) tt) (λ has_reader.
+      listing_behind config heard world law conn bytes more node front connection e at fits has_reader standing waiting)
   stands_more reader standing (faulted stage none lengths said lasts at_none) = ended_more stage (faulted_on standing none)
   stands_more reader standing (finished passed rest asked before final stage parts answered is_told is_end said none) =
       ended_more stage (finished_on passed rest asked before final standing stage parts answered is_told is_end said none)

@@ -16,6 +16,8 @@ use Rattle.imap_talk.specs.declared.inputs.Input.{Input}
 use Rattle.imap_talk.specs.declared.inputs.Input.TheVariants.{Asks}
 use Rattle.imap_talk.proofs.InputLaws.{requests-append}
 use Rattle.imap_talk.proofs.RequestsOf.{answered_lengths, next_request, requests_of}
+use Rattle.imap_types.specs.declared.command.Command.{Command}
+use Rattle.imap_types.specs.declared.command.Tag.{Tag}
 use Rattle.imap_types.specs.declared.request.Answer.{Answer}
 use Rattle.imap_types.specs.declared.request.Request.TheVariants.{Command as a_command}
 use Rattle.imap_wire.specs.Frames.{begun}
@@ -28,10 +30,10 @@ use Rattle.node_step.specs.declared.input.NodeInput.TheVariants.{Hung}
 use Rattle.schedule_text.specs.declared.event.Event.TheVariants.{Hang}
 use Rattle.cluster_core.specs.declared.world.World.{World}
 use Rattle.cluster_core.proofs.Commands.Place.{Place}
-use Rattle.cluster_core.proofs.Commands.Released.{stands_last}
-use Rattle.cluster_core.proofs.Commands.Standing.{Fixed, IsLeft, LeftWaiting, Stands, Waiting}
-use Rattle.cluster_core.proofs.Commands.Standing.IsLeft.{nothing, left_waiting}
-use Rattle.cluster_core.proofs.Commands.Standing.Stands.{reads, waits, faulted, finished}
+use Rattle.cluster_core.proofs.Commands.Released.{stands_last, waits_next}
+use Rattle.cluster_core.proofs.Commands.Standing.{Fixed, IsLeft, IsNext, LeftWaiting, Stands, Waiting}
+use Rattle.cluster_core.proofs.Commands.Standing.IsLeft.{nothing, left_waiting, left_listing}
+use Rattle.cluster_core.proofs.Commands.Standing.Stands.{reads, waits, lists, faulted, finished}
 use Rattle.cluster_core.proofs.Connections.ConnectionLaw.{keeps_all, same_story}
 use Rattle.cluster_core.proofs.Connections.KeepsFront.{front_keeps, gone_after, is_at_after, turned_so, with_connection, world_after}
 use Rattle.cluster_core.proofs.Connections.KeepsLaw.{ConnectionIs, IsAt, IsGone, KeepsLaw, KeepsOn, fixed_of}
@@ -58,20 +60,27 @@ heard_closed config conn bytes heard e = let same : nat_eq conn conn ≡ true = 
 
 -- ---- what is left of a connection
 
+-- of the requests of its client it is the next
+next_left : (all : List Input) (held : Option (List ℕ)) (connection : Connection) (told : List Answer) (tag : Tag) (it : Command)
+    → IsNext all held connection told tag it → numbered (requests_in all) (length told + 1) ≡ Some (a_command tag it)
+unfolding requests_in
+next_left all held connection told tag it next =
+    subst (λ r. numbered r (length told + 1) ≡ Some (a_command tag it))
+    (sym (ap requests_in next.parts ∙ requests-append next.passed (Asks next.request ∷ connection.waiting)
+    ∙ ap (λ r. requests_in next.passed ++ r ∷ requests_in connection.waiting) next.is))
+    (next_request (requests_in next.passed) (requests_in connection.waiting) (a_command tag it) (length told)
+    (answered_lengths next.passed told next.answered))
+
 -- a command that waits when its client closes the connection
 pub left_behind : (fixed : Fixed) (front : List ℕ) (conn : ℕ) (all : List Input) (held : Option (List ℕ)) (connection : Connection)
     (told said : List Answer) (session : Sess) (here : Place) → Waiting fixed front conn all held connection told said session here
     → LeftWaiting fixed front conn (requests_in all) told said session here
-unfolding requests_in
 left_behind fixed front conn all held connection told said session here waiting = record {
   tag = waiting.tag;
   c = waiting.c;
   of = record { setting_is = (waiting.of).setting_is; its = (waiting.of).its; was_is = refl };
-  next = subst (λ r. numbered r (length told + 1) ≡ Some (a_command waiting.tag (waiting.c).it))
-      (sym (ap requests_in waiting.parts ∙ requests-append waiting.passed (Asks waiting.request ∷ connection.waiting)
-      ∙ ap (λ r. requests_in waiting.passed ++ r ∷ requests_in connection.waiting) waiting.is))
-      (next_request (requests_in waiting.passed) (requests_in connection.waiting) (a_command waiting.tag (waiting.c).it) (length told)
-      (answered_lengths waiting.passed told waiting.answered));
+  next = next_left all held connection told waiting.tag (waiting.c).it
+      (waits_next fixed front conn all held connection told said session here waiting);
   knows = waiting.knows;
 }
 
@@ -82,6 +91,15 @@ left_by fixed front conn all held connection told said session here (reads stage
     nothing [] (same ∙ sym (append-nil told)) (omega arith) at
 left_by fixed front conn all held connection told said session here (waits waiting) =
     left_waiting (left_behind fixed front conn all held connection told said session here waiting)
+left_by fixed front conn all held connection told said session here (lists waiting) = left_listing (record {
+  tag = waiting.tag;
+  it = waiting.it;
+  listing = waiting.listing;
+  was = connection.session;
+  need = waiting.need;
+  next = next_left all held connection told waiting.tag waiting.it waiting.next;
+  knows = waiting.knows;
+})
 left_by fixed front conn all held connection told said session here (faulted stage none lengths same lasts at) =
     nothing [] (same ∙ sym (append-nil told)) (omega arith) at
 left_by fixed front conn all held connection told said session here

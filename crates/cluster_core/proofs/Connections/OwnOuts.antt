@@ -14,7 +14,7 @@ use Rattle.feed_links.proofs.FeedLaw.{both as both_noops}
 use Rattle.feed_links.proofs.Names.{other_name}
 use Rattle.front_core.specs.declared.connection.Connection.{Connection}
 use Rattle.front_core.specs.declared.connection.Stage.{Stage}
-use Rattle.front_core.specs.declared.connection.Stage.TheVariants.{Reading, Waits, Ended}
+use Rattle.front_core.specs.declared.connection.Stage.TheVariants.{Reading, Waits, Lists, Ended}
 use Rattle.front_core.specs.Taken.{Turned, answers_now, answers_last, comes_at, input_comes, input_in, inputs_come, request_in, to_begin, turned_by_need}
 use Rattle.imap_talk.specs.declared.inputs.Input.{Input}
 use Rattle.imap_talk.specs.declared.inputs.Input.TheVariants.{GoesOn, Asks, Faults}
@@ -142,6 +142,7 @@ module _ (fixed : Fixed) (nodes : Nodes) (replica : Replica) (conn : ℕ) (knows
         );
         count = omega arith;
       }
+  need_own connection tag (needs.Names it) = record { own = (a_noop (connection.answered + 1) (omega arith), tt); count = omega arith }
 
   request_own : (connection : Connection) (request : Request)
       → TurnsOwn connection (request_in fixed.setting (ways_for fixed replica) conn connection request)
@@ -164,6 +165,7 @@ module _ (fixed : Fixed) (nodes : Nodes) (replica : Replica) (conn : ℕ) (knows
   unfolding comes_at
   comes_own connection input Reading = input_own connection input
   comes_own connection input (Waits tag it) = record { own = tt; count = omega arith }
+  comes_own connection input (Lists tag it) = record { own = tt; count = omega arith }
   comes_own connection input Ended = record { own = tt; count = omega arith }
 
   pub inputs_own : (connection : Connection) (inputs : List Input)

@@ -20,7 +20,7 @@ use Rattle.feed_core.specs.Feed.{rec_at}
 use Rattle.feed_core.specs.Routes.{server_by}
 use Rattle.front_core.specs.declared.connection.Connection.{Connection}
 use Rattle.front_core.specs.declared.connection.Stage.{Stage}
-use Rattle.front_core.specs.declared.connection.Stage.TheVariants.{Reading, Waits, Ended}
+use Rattle.front_core.specs.declared.connection.Stage.TheVariants.{Reading, Waits, Lists, Ended}
 use Rattle.front_core.specs.Answered.{answer_by, answer_comes, by_then, clears_at, goes_on_by, need_behind, ok_by, ok_comes, reading_again}
 use Rattle.front_core.specs.Taken.{Ways, next_of, to_begin}
 use Rattle.imap_types.specs.declared.command.Tag.{Tag}
@@ -85,6 +85,7 @@ answered_well master id session it answer.Lost numbered well = tt
 -- where a command waits, there are numbers left for the inputs behind it
 abbrev pub HasRoomAt : Connection → Stage → Type 0
 HasRoomAt connection (Waits tag it) = connection.answered + 1 + length connection.waiting < 2 ^ 64
+HasRoomAt connection (Lists tag it) = connection.answered + 1 + length connection.waiting < 2 ^ 64
 HasRoomAt connection stage = Unit {0}
 
 module _ (setting : Setting) (ways : Ways) (apart : AreApart ways) (conn : ℕ) (fits : conn < 2 ^ 64) where
@@ -128,6 +129,7 @@ module _ (setting : Setting) (ways : Ways) (apart : AreApart ways) (conn : ℕ) 
   behind_well connection tag how (needs.Leave reply) room = (tt, (tt, (tt, tt)))
   behind_well connection tag how (needs.Home name asking) room =
       (first_well setting ways apart conn fits (next_of conn connection) connection.session (to_begin name asking) (fits, omega (arith, room)), tt)
+  behind_well connection tag how (needs.Names it) room = (inr (is_noop (next_of conn connection) (fits, omega (arith, room))), tt)
 
   then_well : (connection : Connection) (tag : Tag) (it : Waiting) (what : Then) → HasRoomBehind connection → IsWellThen ways.master what
       → AreWellSent ways.master (by_then setting ways conn connection tag it what).outs
@@ -150,6 +152,7 @@ module _ (setting : Setting) (ways : Ways) (apart : AreApart ways) (conn : ℕ) 
   answer_stage_well connection it true (Waits tag waiting) room well =
       went_well connection tag (answered ways.master (next_of conn connection) connection.session waiting it.body) room
       (answered_well ways.master (next_of conn connection) connection.session waiting it.body (numbered_here connection room) well)
+  answer_stage_well connection it true (Lists tag listing) room well = tt
   answer_stage_well connection it true Reading room well = tt
   answer_stage_well connection it true Ended room well = tt
   answer_stage_well connection it false stage room well = tt
@@ -170,6 +173,8 @@ module _ (setting : Setting) (ways : Ways) (apart : AreApart ways) (conn : ℕ) 
       → AreWellSent ways.master (ok_by setting ways conn connection same stage).outs
   unfolding ok_by
   ok_stage_well connection true (Waits tag it) room = clears_well connection tag it it.at room
+  ok_stage_well connection true (Lists tag it) room =
+      (tt, (tt, inputs_well setting ways apart conn fits (reading_again connection) connection.waiting (omega (arith, room))))
   ok_stage_well connection true Reading room = tt
   ok_stage_well connection true Ended room = tt
   ok_stage_well connection false stage room = tt

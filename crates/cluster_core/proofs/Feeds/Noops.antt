@@ -15,7 +15,7 @@ use Rattle.feed_links.proofs.Names.{other_name}
 use Rattle.front_core.specs.Reading.{inputs_of_more}
 use Rattle.front_core.specs.declared.connection.Connection.{Connection}
 use Rattle.front_core.specs.declared.connection.Stage.{Stage}
-use Rattle.front_core.specs.declared.connection.Stage.TheVariants.{Reading, Waits, Ended}
+use Rattle.front_core.specs.declared.connection.Stage.TheVariants.{Reading, Waits, Lists, Ended}
 use Rattle.front_core.specs.declared.front.Front.{Front}
 use Rattle.front_core.specs.Front.{bytes_by, bytes_in, connect, connect_at, connection_at, front_bytes_at, having_read, ways_of}
 use Rattle.front_core.specs.Taken.{Turned, Ways, answers_last, answers_now, comes_at, input_comes, input_in, inputs_come, next_of, request_in, to_begin, turned_by_need}
@@ -100,6 +100,8 @@ module _ (setting : Setting) (ways : Ways) (apart : AreApart ways) (conn : ℕ) 
     outs = (first_well (next_of conn connection) connection.session (to_begin name asking) (numbered connection less), tt);
     count = omega arith;
   }
+  need_well connection tag (needs.Names it) less =
+      record { outs = (inr (is_noop (next_of conn connection) (numbered connection less)), tt); count = omega arith }
 
   request_well : (connection : Connection) (request : Request) → connection.answered + 1 < 2 ^ 64 → IsWell connection (request_in setting ways conn connection request)
   unfolding request_in answers_now
@@ -121,6 +123,7 @@ module _ (setting : Setting) (ways : Ways) (apart : AreApart ways) (conn : ℕ) 
   unfolding comes_at
   stage_well connection input Reading less = input_well connection input less
   stage_well connection input (Waits tag it) less = record { outs = tt; count = omega arith }
+  stage_well connection input (Lists tag it) less = record { outs = tt; count = omega arith }
   stage_well connection input Ended less = record { outs = tt; count = omega arith }
 
   -- several inputs
@@ -143,9 +146,14 @@ module _ (front : Front) (apart : AreApart (ways_of front)) (conn : ℕ) (fits :
   unfolding bytes_by
   bytes_by_well connection Ended less = tt
   bytes_by_well connection Reading less =
-      inputs_well front.setting (ways_of front) apart conn fits (having_read front.setting connection bytes) (inputs_of_more front.setting connection.reader bytes) less
+      inputs_well front.setting (ways_of front) apart conn fits (having_read front.setting connection bytes)
+      (inputs_of_more front.setting connection.reader bytes) less
   bytes_by_well connection (Waits tag it) less =
-      inputs_well front.setting (ways_of front) apart conn fits (having_read front.setting connection bytes) (inputs_of_more front.setting connection.reader bytes) less
+      inputs_well front.setting (ways_of front) apart conn fits (having_read front.setting connection bytes)
+      (inputs_of_more front.setting connection.reader bytes) less
+  bytes_by_well connection (Lists tag it) less =
+      inputs_well front.setting (ways_of front) apart conn fits (having_read front.setting connection bytes)
+      (inputs_of_more front.setting connection.reader bytes) less
 
   bytes_at_well : (found : Option Connection) → ((connection : Connection) → found ≡ Some connection → HasNumbersFor connection)
       → AreWellSent front.master (front_bytes_at front conn bytes found).outs

@@ -10,22 +10,26 @@ use Rattle.imap_talk.specs.Inputs.{requests_in}
 use Rattle.imap_talk.specs.declared.inputs.Input.{Input}
 use Rattle.imap_talk.specs.declared.inputs.Input.TheVariants.{Asks}
 use Rattle.imap_talk.proofs.RequestsOf.{answered_lengths, requests_of}
+use Rattle.imap_types.specs.declared.command.Command.{Command}
 use Rattle.imap_types.specs.declared.command.Tag.{Tag}
 use Rattle.imap_types.specs.declared.request.Answer.{Answer}
 use Rattle.imap_types.specs.declared.request.Request.{Request}
 use Rattle.mark_history.proofs.Tellings.{has_tellings}
 use Rattle.mur_config.specs.declared.config.Config.{Config}
+use Rattle.mur_model.specs.declared.commands.list.Listing.{Listing}
 use Rattle.mur_model.specs.declared.session.Sess.{Sess}
 use Rattle.point_links.specs.Commands.{ClientCommand}
 use Rattle.route_links.specs.Answered.{IsNumbered}
 use Rattle.imap_wire.specs.Frames.{begun}
 use Rattle.cluster_core.specs.declared.world.World.{World}
-use Rattle.cluster_core.proofs.Commands.Knows.{Knows}
+use Rattle.cluster_core.proofs.Commands.Knows.{Knows, KnowsNames, listed_by}
 use Rattle.cluster_core.proofs.Commands.Knows.Knows.{is_decided, undecided}
+use Rattle.cluster_core.proofs.Commands.Knows.KnowsNames.{is_listed, not_yet}
 use Rattle.cluster_core.proofs.Commands.Place.{Place}
-use Rattle.cluster_core.proofs.Commands.Standing.{Fixed, IsLeft, Stands, next_id}
-use Rattle.cluster_core.proofs.Commands.Standing.IsLeft.{left_waiting, nothing}
-use Rattle.cluster_core.proofs.Commands.Standing.Stands.{faulted, finished, reads, waits}
+use Rattle.cluster_core.proofs.Commands.Released.{waits_next}
+use Rattle.cluster_core.proofs.Commands.Standing.{Fixed, IsLeft, IsNext, Stands, next_id}
+use Rattle.cluster_core.proofs.Commands.Standing.IsLeft.{left_listing, left_waiting, nothing}
+use Rattle.cluster_core.proofs.Commands.Standing.Stands.{faulted, finished, lists, reads, waits}
 use Rattle.cluster_core.proofs.Connections.BytesCome.{bytes_many, inputs_many, requests_few}
 use Rattle.cluster_core.proofs.Connections.KeepsLaw.{ConnectionIs, IsAt, KeepsLaw, fixed_of}
 use Rattle.cluster_core.proofs.Connections.KeepsLaw.ConnectionIs.{is_nobody, is_elsewhere, is_open, is_closed}
@@ -41,17 +45,25 @@ known_few master first front told said session here (undecided same was waits_on
 known_few master first front {c} {tag} told said session here (is_decided turn same after ends brings) =
     omega (arith, ap length same, length-append told (record { tag = tag; reply = turn.reply } ∷ []))
 
+names_few : {tag : Tag} {it : Listing} {was : Sess} (told said : List Answer) (session : Sess) (here : Place) → KnowsNames tag it was told said session here
+    → length told ≤ length said
+names_few told said session here (not_yet same was at) = omega (arith, ap length same)
+names_few {tag} {it} told said session here (is_listed table same was at) =
+    omega (arith, ap length same, length-append told (listed_by tag it table ∷ []))
+
 module _ (fixed : Fixed) (front : List ℕ) (conn : ℕ) (told said : List Answer) (session : Sess) (here : Place) where
   stands_few : {inputs : List Input} {held : Option (List ℕ)} {connection : Connection} → Stands fixed front conn inputs held connection told said session here
       → length told ≤ length said
   stands_few (reads stage waiting same on answered said_is at) = omega (arith, ap length said_is)
   stands_few (waits waiting) = known_few fixed.master fixed.first front told said session here waiting.knows
+  stands_few (lists waiting) = names_few told said session here waiting.knows
   stands_few (faulted stage held count said_is lasts at) = omega (arith, ap length said_is)
   stands_few (finished passed more request before last stage parts answered told_is ends said_is at) = omega (arith, ap length said_is)
 
   left_few : {requests : List Request} → IsLeft fixed front conn requests told said session here → length told ≤ length said
   left_few (nothing rest said_is few at) = omega (arith, ap length said_is, length-append told rest)
   left_few (left_waiting waiting) = known_few fixed.master fixed.first front told said session here waiting.knows
+  left_few (left_listing waiting) = names_few told said session here waiting.knows
 
 module _ (config : Config) (heard : ℕ → Heard) (world : World) (law : KeepsLaw config heard world) (fits : NumbersFit heard) where
   -- nor did the store reply more than it was asked
@@ -93,21 +105,26 @@ module _ (config : Config) (heard : ℕ → Heard) (world : World) (law : KeepsL
 
 module _ (fixed : Fixed) (node : List ℕ) (conn : ℕ) (bytes : List ℕ) (connection : Connection) (told said : List Answer) (session : Sess)
     (here : Place) (count : connection.answered ≡ length told) (few : length bytes < 2 ^ 32) where
+  room_behind : {tag : Tag} {it : Command} → IsNext (inputs_in fixed.setting bytes) (begun bytes) connection told tag it
+      → connection.answered + 1 + length connection.waiting < 2 ^ 64
+  room_behind next = omega (
+    arith,
+    count,
+    few,
+    answered_lengths next.passed told next.answered,
+    requests_few next.passed,
+    ap length next.parts,
+    length-append next.passed (Asks next.request ∷ connection.waiting),
+    inputs_many fixed.setting bytes,
+  )
+
   room_by : Stands fixed node conn (inputs_in fixed.setting bytes) (begun bytes) connection told said session here
       → HasRoomAt connection connection.stage
   room_by (reads stage waiting same on answered said_is at) = subst (HasRoomAt connection) (sym stage) tt
   room_by (waits waiting) =
       subst (HasRoomAt connection) (sym waiting.stage)
-      (omega (
-        arith,
-        count,
-        few,
-        answered_lengths waiting.passed told waiting.answered,
-        requests_few waiting.passed,
-        ap length waiting.parts,
-        length-append waiting.passed (Asks waiting.request ∷ connection.waiting),
-        inputs_many fixed.setting bytes,
-      ))
+      (room_behind (waits_next fixed node conn (inputs_in fixed.setting bytes) (begun bytes) connection told said session here waiting))
+  room_by (lists waiting) = subst (HasRoomAt connection) (sym waiting.stage) (room_behind waiting.next)
   room_by (faulted stage held count said_is lasts at) = subst (HasRoomAt connection) (sym stage) tt
   room_by (finished passed more request before last stage parts answered told_is ends said_is at) = subst (HasRoomAt connection) (sym stage) tt
 

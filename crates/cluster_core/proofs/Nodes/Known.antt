@@ -9,7 +9,7 @@ use Rattle.feed_links.specs.Replicas.{hears}
 use Rattle.feed_links.proofs.Names.{other_name, same_name}
 use Rattle.front_core.specs.declared.connection.Connection.{Connection}
 use Rattle.front_core.specs.declared.connection.Stage.{Stage}
-use Rattle.front_core.specs.declared.connection.Stage.TheVariants.{Reading, Waits, Ended}
+use Rattle.front_core.specs.declared.connection.Stage.TheVariants.{Reading, Waits, Lists, Ended}
 use Rattle.front_core.specs.declared.front.Front.{Front}
 use Rattle.front_core.specs.Front.{answer_at, answer_from, bytes_by, bytes_in, connect, connect_at, connection_at, deliver, front_bytes_at, front_hang_at, hang, line_by, line_from, ok_at, up_from, waits_for}
 use Rattle.link_msg.specs.declared.answer.BackAnswer.{BackAnswer}
@@ -59,6 +59,7 @@ unfolding bytes_by
 bytes_by_known front conn bytes connection Ended = same_known front
 bytes_by_known front conn bytes connection Reading = record { self = record { me = refl; master = refl; first = refl; setting = refl }; replica = refl }
 bytes_by_known front conn bytes connection (Waits tag it) = record { self = record { me = refl; master = refl; first = refl; setting = refl }; replica = refl }
+bytes_by_known front conn bytes connection (Lists tag it) = record { self = record { me = refl; master = refl; first = refl; setting = refl }; replica = refl }
 
 pub bytes_known : (front : Front) (conn : ℕ) (bytes : List ℕ) → KeepsKnown front (bytes_in front conn bytes).front
 unfolding bytes_in front_bytes_at

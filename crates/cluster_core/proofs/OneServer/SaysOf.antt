@@ -1,10 +1,10 @@
 -- What the law says of a connection: what its client was given, and that nothing waits on empty links.
-use Rattle.std.proofs.Common.{◌≡◌, ℕ, Bool, true, false, ◌||◌, List, [], ◌∷◌, ◌++◌, length, Option, None, Some, inl, inr, refl, sym, ap, subst, if◌then◌else◌}
+use Rattle.std.proofs.Common.{◌≡◌, ℕ, Bool, true, false, ◌||◌, List, [], ◌∷◌, ◌++◌, length, Option, None, Some, inl, inr, refl, sym, ◌∙◌, ap, subst, if◌then◌else◌}
 use Rattle.std.specs.List.{list_any}
 use Rattle.back_node.specs.declared.node.BackNode.{BackNode}
 use Rattle.feed_core.specs.declared.replica.Replica.{Replica}
 use Rattle.front_core.specs.Ending.{EndsOnlyLast}
-use Rattle.front_core.proofs.OneConnection.LastAnswer.{all_go_on, ends_last, none_ends, none_given}
+use Rattle.front_core.proofs.OneConnection.LastAnswer.{none_given}
 use Rattle.front_core.proofs.OneConnection.Places.{nowhere_on_empty, of_connection}
 use Rattle.front_core.proofs.OneConnection.Readings.{inputs_in}
 use Rattle.front_core.specs.declared.connection.Connection.{Connection}
@@ -19,6 +19,7 @@ use Rattle.link_queue.specs.Links.{on_link}
 use Rattle.mur_base.specs.declared.home.Location.{Location}
 use Rattle.mur_base.specs.declared.point.AskId.{AskId}
 use Rattle.mur_config.specs.declared.config.Config.{Config}
+use Rattle.mur_model.specs.declared.commands.list.Listing.{Listing}
 use Rattle.mur_model.specs.declared.session.Sess.{Sess}
 use Rattle.mur_model.specs.declared.setting.Setting.{Setting}
 use Rattle.name_commands.specs.Places.{FlowsShow, NamePlace as name_at}
@@ -33,11 +34,13 @@ use Rattle.cluster_core.specs.declared.world.World.{World}
 use Rattle.cluster_core.specs.Headline.OneStore.{AreEmpty, IsAnsweredThrough}
 use Rattle.cluster_core.specs.Shown.{given_by, given_to}
 use Rattle.cluster_core.specs.World.{client_at, front_at, home_at}
-use Rattle.cluster_core.proofs.Commands.Knows.{Knows}
+use Rattle.cluster_core.proofs.Commands.Knows.{Knows, KnowsNames}
 use Rattle.cluster_core.proofs.Commands.Knows.Knows.{undecided, is_decided}
+use Rattle.cluster_core.proofs.Commands.Knows.KnowsNames.{not_yet, is_listed}
 use Rattle.cluster_core.proofs.Commands.Place.{Place, at_backend, its_message, Place as place}
-use Rattle.cluster_core.proofs.Commands.Standing.{Fixed, Stands, next_id}
-use Rattle.cluster_core.proofs.Commands.Standing.Stands.{reads, waits, faulted, finished}
+use Rattle.cluster_core.proofs.Commands.Released.{stands_last}
+use Rattle.cluster_core.proofs.Commands.Standing.{Stands, next_id}
+use Rattle.cluster_core.proofs.Commands.Standing.Stands.{reads, waits, lists, faulted, finished}
 use Rattle.cluster_core.proofs.Connections.ConnectionLaw.{IsInPlaceOf, client_with}
 use Rattle.cluster_core.proofs.Connections.KeepsLaw.{ConnectionIs, KeepsLaw, fixed_of}
 use Rattle.cluster_core.proofs.Connections.KeepsLaw.ConnectionIs.{is_nobody, is_elsewhere, is_open, is_closed}
@@ -66,14 +69,6 @@ last_ends : (before : List Answer) (last : Answer) → ends last.reply ≡ true
     → list_any (λ (answer : Answer). ends answer.reply) (before ++ last ∷ []) ≡ true
 last_ends [] last e = ap (λ t. t || false) e
 last_ends (answer ∷ before) last e = or_true (ends answer.reply) _ (last_ends before last e)
-
-stands_last : (fixed : Fixed) (front : List ℕ) (conn : ℕ) (inputs : List Input) (held : Option (List ℕ)) (connection : Connection) (told said : List Answer)
-    (session : Sess) (here : Place) → Stands fixed front conn inputs held connection told said session here → EndsOnlyLast told
-stands_last fixed front conn inputs held connection told said session here (reads a b c d e f none) = all_go_on inputs told e
-stands_last fixed front conn inputs held connection told said session here (waits waiting) = all_go_on waiting.passed told waiting.answered
-stands_last fixed front conn inputs held connection told said session here (faulted a b c d e none) = e
-stands_last fixed front conn inputs held connection told said session here (finished passed more request before last a b c d e f none) =
-    subst EndsOnlyLast (sym d) (ends_last before last (none_ends passed before c))
 
 -- ---- where nothing is on the way
 
@@ -112,6 +107,15 @@ module _ (config : Config) (heard : ℕ → Heard) (world : World) (law : KeepsL
   none_knows front replica id (place.is_barred barrier.asked) c tag told said session placed none knows = cc
   none_knows front replica id (place.is_barred (barrier.answered table)) c tag told said session placed none knows = cc
 
+  none_lists : (front : List ℕ) (id : AskId) (here : Place) (tag : Tag) (it : Listing) (was : Sess) (told said : List Answer) (session : Sess)
+      → its_message (fixed_of config).master front id here ≡ None → KnowsNames tag it was told said session here → ⊥
+  none_lists front id here tag it was told said session none (not_yet a b at) =
+      let no : its_message (fixed_of config).master front id (place.is_barred barrier.asked) ≡ None =
+      ap (its_message (fixed_of config).master front id) (sym at) ∙ none in cc
+  none_lists front id here tag it was told said session none (is_listed table a b at) =
+      let no : its_message (fixed_of config).master front id (place.is_barred (barrier.answered table)) ≡ None =
+      ap (its_message (fixed_of config).master front id) (sym at) ∙ none in cc
+
   -- a client that hasn't closed its connection was answered in all, or its session has ended
   none_waits : (front : List ℕ) (replica : Replica) (id : AskId) (conn : ℕ) (inputs : List Input) (held : Option (List ℕ)) (connection : Connection)
       (told said : List Answer) (session : Sess) (here : Place) → IsInPlaceOf (fixed_of config) world front replica id here
@@ -120,6 +124,9 @@ module _ (config : Config) (heard : ℕ → Heard) (world : World) (law : KeepsL
       inl (sym (answered_lengths inputs told e))
   none_waits front replica id conn inputs held connection told said session here placed (waits waiting) =
       absurd (none_knows front replica id here waiting.c waiting.tag told said session placed
+      (nowhere_on_empty world.links (of_connection id.conn) (its_message (fixed_of config).master front id here) empty placed.message) waiting.knows)
+  none_waits front replica id conn inputs held connection told said session here placed (lists waiting) =
+      absurd (none_lists front id here waiting.tag waiting.listing connection.session told said session
       (nowhere_on_empty world.links (of_connection id.conn) (its_message (fixed_of config).master front id here) empty placed.message) waiting.knows)
   none_waits front replica id conn inputs held connection told said session here placed (faulted a b c d e at) = inl (sym c)
   none_waits front replica id conn inputs held connection told said session here placed (finished passed more asking before last a b c d e f at) =
