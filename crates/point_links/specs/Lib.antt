@@ -3,3 +3,4 @@ pub mod Carried
 pub mod Barriers
 pub mod Creates
 pub mod AtHome
+pub mod Lists

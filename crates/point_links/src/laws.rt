@@ -2,6 +2,7 @@
 ghost use Rattle.point_links.specs.AtHome.{ClosedSendsOn, OpenServes};
 ghost use Rattle.point_links.specs.Barriers.{EachBarrier, MissingIsAPoint, ReservedIsAPoint};
 ghost use Rattle.point_links.specs.Creates.{ActivateCreates, ActivateOfFull, ReserveOfOneReserved, ReserveOfOneThere};
+ghost use Rattle.point_links.specs.Lists.{ListIsAPoint};
 
 /// A backend takes the ask of a command at a mailbox. Where it has the name open, the one store carries the work out in this step, and by the answer the
 /// client is told what the store replies; the step counts whatever becomes of the answer, unless the store stays as it was. Where it hasn't, nothing is
@@ -27,4 +28,10 @@ pub fn a_barrier_is_the_point_of_what_is_told_behind_it()
     ensures missing { MissingIsAPoint }
     ensures reserved { ReservedIsAPoint }
     ensures each { EachBarrier }
+{}
+
+/// The master takes the NOOP of a LIST. In this step the mailboxes of its table are those of the one store, so the reply that is made of this table at the OK
+/// is what the store replies. The step counts where the client is answered, and the store stays as it was.
+pub fn a_list_is_told_of_all_mailboxes()
+    ensures { ListIsAPoint }
 {}
