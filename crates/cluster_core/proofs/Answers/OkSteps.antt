@@ -36,9 +36,9 @@ use Rattle.cluster_core.proofs.Answers.Backends.{cleared_backend}
 use Rattle.cluster_core.proofs.Answers.OkComes.{ok_turns}
 use Rattle.cluster_core.proofs.Answers.GoesOn.{StandsSo}
 use Rattle.cluster_core.proofs.Answers.ListOk.{listed_turns, lists_live}
-use Rattle.cluster_core.proofs.Answers.OpenSteps.{OpenStep, WaitsThere, heard_so, of_mailbox, of_names, stands_there, turned_step, waits_live}
+use Rattle.cluster_core.proofs.Answers.OpenSteps.{OpenStep, WaitsThere, of_mailbox, of_names, stands_there, turned_step, waits_live}
 use Rattle.cluster_core.proofs.Answers.Readers.{ok_reader}
-use Rattle.cluster_core.proofs.Answers.Replied.{IsHeardFor}
+use Rattle.cluster_core.proofs.Answers.Replied.{IsHeard, IsHeardFor}
 use Rattle.cluster_core.proofs.Answers.Steps.{IsBefore, inputs_may_come, may_send}
 
 -- ---- the frontend takes the OK of the command
@@ -89,7 +89,8 @@ module _ (fixed : Fixed) (world : World) (story : Tale) (node : List ℕ) (front
   ok_by bytes id rest first reads_so own table over its has_all seen (of_mailbox waiting) =
       let here : Place = place.is_barred (barrier.answered table) in
       let base : World = taken_from_link world fixed.master node in
-      let heard = heard_so fixed world story fixed.master node front conn inputs held connection before standing here over waiting in
+      let heard : IsHeard fixed node front.replica conn inputs held connection base story here =
+      record { count = standing.count; client = standing.client; nothing = over; is_told = before.is_told; waiting = waiting } in
       let c : ClientCommand = waiting.c in
       turned_step fixed world story fixed.master node front conn inputs held connection before standing
       (ok_comes fixed.setting (ways_for fixed front.replica) conn connection id) (waits_live connection waiting.tag c.waiting waiting.stage)
