@@ -7,6 +7,7 @@ pub mod CommandLaws
 pub mod PieceLaws
 pub mod WaitingLaws
 pub mod WentLaws
+mod ListedLaw
 pub mod BegunLaws
 pub mod SlotLaws
 pub mod Counts

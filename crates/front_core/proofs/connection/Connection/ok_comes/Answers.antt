@@ -1,5 +1,6 @@
 use Rattle.std.proofs.Common.{◌≡◌, IfOk, subst}
 use Rattle.front_core.specs.Taken.{Turned, ways_by}
+use Rattle.front_core.proofs.ListedLaw.{listed_done}
 use Rattle.front_core.proofs.WentLaws.{cleared_fit, ok_done, then_fits}
 use Rattle.front_core.proofs.connection.Connection.ok_comes.Goals as goal
 
@@ -17,3 +18,8 @@ returns-in_ok-then-in-Waits c =
     c.routes-routes.result.master.now c.routes-routes.result.first.now c.if-id-self.true c.in-Some.ensures
     c.routes-routes.ensures.records c.routes-routes.ensures.master c.routes-routes.ensures.first c.in_ok-then-in-Waits.ensures)
     c.does.ensures
+
+pub returns-in-Lists : goal.returns-in-Lists
+returns-in-Lists c =
+    listed_done c.args.desk.setting.now (ways_by c.args.desk.replica.now.records c.args.desk.master.now c.args.desk.first.now) c.args.desk.conn
+    c.args.self.now c.listed.new.self c.args.id c.listed.result c.in-Lists.field-0 c.in-Lists.field-1 c.in-Lists.is c.if-id-self-2.true c.listed.ensures
