@@ -8,8 +8,10 @@ pub mod AtBackend
 pub mod AtBarrier
 pub mod AtMaster
 pub mod Waits
+pub mod ListWaits
 pub mod Found
 pub mod Own
+pub mod ListPoint
 pub mod OwnAtHome
 pub mod OwnAtMaster
 pub mod OthersAtHome

@@ -3,9 +3,8 @@ use Rattle.std.proofs.Common.{◌≡◌, Bool, true, false, ℕ, List, [], ◌�
 use Rattle.feed_core.specs.declared.rec.Rec.{Rec}
 use Rattle.feed_core.specs.Feed.{Recs, is_mailbox as is_mailbox_rec}
 use Rattle.feed_core.specs.Listing.{is_mailbox_in, mailbox_names, name_in}
-use Rattle.feed_links.specs.Replicas.{rec_by, rec_entry, rec_of, recs_of}
+use Rattle.feed_links.specs.Replicas.{rec_by, rec_entry, rec_of}
 use Rattle.mur_base.specs.declared.home.Location.{Location}
-use Rattle.node_record.specs.declared.table.Record.{Record}
 use Rattle.node_record.specs.declared.table.State.{State}
 use Rattle.node_record.specs.declared.table.State.TheVariants.{Bare, Kept, Active}
 use Rattle.node_record.specs.Table.{Records, has_acl, is_mailbox}

@@ -4,6 +4,7 @@ use Rattle.imap_talk.proofs.AnswersEnd.{worked_ends}
 use Rattle.imap_types.specs.declared.command.Command.{Command}
 use Rattle.imap_types.specs.declared.command.Tag.{Tag}
 use Rattle.imap_types.specs.declared.request.Answer.{Answer}
+use Rattle.imap_types.specs.declared.request.Request.{Request}
 use Rattle.imap_types.specs.declared.request.Request.TheVariants.{Command as a_command}
 use Rattle.link_msg.specs.declared.counts.Counts.{Counts}
 use Rattle.link_msg.specs.declared.counts.Counts.TheVariants.{IfAnswered}
@@ -103,6 +104,22 @@ same_store setting course conn tag it name work serial need left =
 list_more : (lists : ℕ → List ℕ) (conn item : ℕ) → GoesOn lists (with_list lists conn (lists conn ++ item ∷ []))
 list_more lists conn item = subst (λ (l : ℕ → List ℕ). GoesOn lists l) (more_listed lists (lists conn) conn item refl) (item_more lists conn item)
 
+-- the store replies to the open command of one connection
+pub acting_goes_on : (setting : Setting) (conn : ℕ) (story : Tale) (request : Request) (serial : ℕ)
+    → GoesOnAt conn story (acting setting story conn request serial)
+acting_goes_on setting conn story request serial = record {
+  requests = refl;
+  said = λ other ne. list_elsewhere story.talk.answers conn (story.told conn ++ (done setting story conn request serial).answer ∷ []) other ne;
+  told = λ other ne. refl;
+  sessions = λ other ne. session_of_other story.course.sessions conn _ other ne;
+  more = record {
+    requests = same_lists story.talk.requests;
+    answers = same_lists story.told;
+    serials = list_more story.talk.serials conn serial;
+  };
+  moving = refl;
+}
+
 module _ (fixed : Fixed) (front : List ℕ) (conn now : ℕ) (marks : List Mark) (story : Tale) (tag : Tag) (c : ClientCommand)
     (is_open : IsOpen fixed conn now marks story tag c) where
   need_is : needs_so fixed.setting story.course conn c.it c.name c.work
@@ -137,20 +154,6 @@ module _ (fixed : Fixed) (front : List ℕ) (conn now : ℕ) (marks : List Mark)
         }
     out = carried_as fixed.setting story.course conn tag c.it c.name c.work serial need_is
 
-    acted_goes_on : GoesOnAt conn story acted
-    acted_goes_on = record {
-      requests = refl;
-      said = λ other ne. list_elsewhere story.talk.answers conn (story.told conn ++ answer ∷ []) other ne;
-      told = λ other ne. refl;
-      sessions = λ other ne. session_of_other story.course.sessions conn _ other ne;
-      more = record {
-        requests = same_lists story.talk.requests;
-        answers = same_lists story.told;
-        serials = list_more story.talk.serials conn serial;
-      };
-      moving = refl;
-    }
-
     said_then : acted.talk.answers conn ≡ story.told conn ++ (record { tag = tag; reply = turn.reply }) ∷ []
     said_then = list_at story.talk.answers conn (story.told conn ++ answer ∷ []) ∙ ap (λ (a : Answered). story.told conn ++ a.answer ∷ []) out
 
@@ -172,7 +175,7 @@ module _ (fixed : Fixed) (front : List ℕ) (conn now : ℕ) (marks : List Mark)
           (λ if_answered. same_store fixed.setting story.course conn tag c.it c.name c.work serial need_is (carries.stays if_answered))
           is_open.is_told);
       store = ap (λ (a : Answered). a.store) out ∙ sym carries.later_is;
-      goes_on = acted_goes_on;
+      goes_on = acting_goes_on fixed.setting conn story (a_command tag c.it) serial;
       knows = is_decided turn said_then session_then (worked_ends story.course.store c.name c.work serial) brings;
     }
 

@@ -34,13 +34,13 @@ its from to message = record { from = from; to = to; message = message }
 same_one : {one other : Carried LinkMsg} → Some one ≡ Some other → one ≡ other
 same_one e = cc
 
-from_is : {one other : Carried LinkMsg} → Some one ≡ Some other → one.from ≡ other.from
+pub from_is : {one other : Carried LinkMsg} → Some one ≡ Some other → one.from ≡ other.from
 from_is e = ap (λ (c : Carried LinkMsg). c.from) (same_one e)
 
-to_is : {one other : Carried LinkMsg} → Some one ≡ Some other → one.to ≡ other.to
+pub to_is : {one other : Carried LinkMsg} → Some one ≡ Some other → one.to ≡ other.to
 to_is e = ap (λ (c : Carried LinkMsg). c.to) (same_one e)
 
-message_is : {one other : Carried LinkMsg} → Some one ≡ Some other → one.message ≡ other.message
+pub message_is : {one other : Carried LinkMsg} → Some one ≡ Some other → one.message ≡ other.message
 message_is e = ap (λ (c : Carried LinkMsg). c.message) (same_one e)
 
 module _ (master front : List ℕ) (id : AskId) (from to : List ℕ) (message : LinkMsg) where

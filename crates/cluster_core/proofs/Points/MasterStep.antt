@@ -56,7 +56,7 @@ use Rattle.cluster_core.proofs.Points.Marks.{nobodys_mark_none}
 use Rattle.cluster_core.proofs.Points.OthersAtHome.{LeavesElse, gone_stays, standing_stays, untold_stays}
 use Rattle.cluster_core.proofs.Points.Own.{OwnStep}
 use Rattle.cluster_core.proofs.Points.OwnAtMaster.{master_step_is_own}
-use Rattle.cluster_core.proofs.Points.Waits.{AskedFit, WhoWaits, closed_waits, first_tells, open_waits}
+use Rattle.cluster_core.proofs.Points.Waits.{AskedFit, first_tells, its_client}
 
 -- what the step gives a client: nothing, or it is connected to the master
 pub data ClientThen (config : Config) (world next : World) (conn : ℕ) : Type 0 where
@@ -202,13 +202,9 @@ module _ (config : Config) (heard : ℕ → Heard) (world : World) (law : KeepsL
     own_client conn own (as_before is) = is
     own_client conn own (is_given was now before behind) =
         let tells = first_tells fixed conn world story (heard conn) from name message rest first own (law.connections conn) in
-        absurd ((law.nodes.fronts tells.node tells.front (tells.at).at).no_master (by tells.node (tells.who)))
-      where
-        by : (fnode : List ℕ) {connection : Connection} {h : Heard} {here : Place} → WhoWaits fixed conn fnode connection world story h here → fnode ≡ name
-        by fnode (open_waits bytes e reader given waiting) =
-            client_front (client_with fnode (inputs_in fixed.setting bytes) (story.told conn)) (record { at = name; given = was }) (sym given ∙ before)
-        by fnode (closed_waits bytes e stage lasts given waiting) =
-            client_front (client_with fnode (inputs_in fixed.setting bytes) (story.told conn)) (record { at = name; given = was }) (sym given ∙ before)
+        let its = its_client fixed conn tells.node tells.connection world story (heard conn) tells.here tells.who in
+        absurd ((law.nodes.fronts tells.node tells.front (tells.at).at).no_master
+        (sym its.at ∙ client_front its.client (record { at = name; given = was }) (sym its.is ∙ before)))
 
     of_command : (conn : ℕ) → about message ≡ of_connection conn → MasterKeeps config heard world law next says
     of_command conn own =

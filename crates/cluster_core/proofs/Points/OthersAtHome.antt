@@ -51,7 +51,8 @@ use Rattle.cluster_core.proofs.Steps.Worlds.{in_murder, in_world_then, is_front,
 use Rattle.cluster_core.proofs.Points.Acts.{KnowsOf}
 use Rattle.cluster_core.proofs.Points.AtBackend.{resync_tests}
 use Rattle.cluster_core.proofs.Points.OwnAtHome.{moved_marked}
-use Rattle.cluster_core.proofs.Points.Waits.{WhoWaits, each_command_waits, waits_closed, waits_open, whom_moved}
+use Rattle.cluster_core.proofs.Points.ListWaits.{list_barred}
+use Rattle.cluster_core.proofs.Points.Waits.{Whose, each_command_waits, of_command, of_list, waits_closed, waits_open, whom_moved}
 
 -- what the step leaves of a connection, but for its place
 pub record LeavesElse (conn : ℕ) (world next : World) (story later : Tale) : Type 0 where
@@ -213,10 +214,13 @@ module _ (config : Config) (heard : ℕ → Heard) (world : World) (law : KeepsL
   module _ (later : Tale) (same : LeavesElse conn world next story later) where
     -- it waited for the end of the resync
     tested_goes : (h : Heard) (fnode : List ℕ) (front : Front) (connection : Connection) (here : Place) → IsAt world conn fnode front connection
-        → connection.answered ≡ length (story.told conn) → WhoWaits fixed conn fnode connection world story h here
+        → connection.answered ≡ length (story.told conn) → Whose fixed conn fnode connection world story h here
         → (ask : NameAsk) (flows : Flows) → here ≡ place.is_at me (name_at.waits ask) → flows.up ≡ node.flows.up → from ≡ law.master.me
         → (ask.front ≡ fnode → IsInPlaceOf fixed next fnode front.replica its (moved_to to me (after ask flows))) → ConnectionIs fixed conn next later h
-    tested_goes h fnode front connection here at count who ask flows waits_there up e moved =
+    tested_goes h fnode front connection here at count (of_list who) ask flows waits_there up e moved =
+        let barred = list_barred fixed conn fnode connection world story h here who in
+        absurd (let no : place.is_at me (name_at.waits ask) ≡ place.is_barred barred.at = sym waits_there ∙ barred.is in cc)
+    tested_goes h fnode front connection here at count (of_command who) ask flows waits_there up e moved =
         let waits = each_command_waits fixed conn fnode front connection world story h here at count who in
         let knows : KnowsOf fixed fnode conn waits.tag waits.c story (place.is_at me (name_at.waits ask)) =
         subst (λ p. KnowsOf fixed fnode conn waits.tag waits.c story p) waits_there waits.knows in

@@ -74,8 +74,11 @@ use Rattle.cluster_core.proofs.Points.Acts.{KnowsOf}
 use Rattle.cluster_core.proofs.Points.AtBackend.{create_fits, create_is_asked, create_kind, message_kind, response_moves}
 use Rattle.cluster_core.proofs.Points.AtHome.{answer_outs, answered_at, closed_is_seen, open_is_its_point}
 use Rattle.cluster_core.proofs.Points.Found.{IsFoundIn, found_in, in_answer, in_ask, in_line, in_noop, in_ok, in_response}
+use Rattle.cluster_core.proofs.Points.ListPoint.{list_not_at_home}
+use Rattle.cluster_core.proofs.Points.ListWaits.{each_list_waits}
 use Rattle.cluster_core.proofs.Points.Own.{Leaves, Outcome, OwnStep, made_by, of_carried, of_known, of_seen, own_step}
-use Rattle.cluster_core.proofs.Points.Waits.{AskedFit, BringsNothing, CommandWaits, IsOpenAt, each_command_waits, first_tells, is_open_there, waits_fit, whom_begun, whom_moved}
+use Rattle.cluster_core.proofs.Points.Waits.{AskedFit, BringsNothing, CommandWaits, IsOpenAt, TellsPlace, Whose, of_command, of_list}
+use Rattle.cluster_core.proofs.Points.Waits.{each_command_waits, first_tells, is_open_there, waits_fit, whom_begun, whom_moved}
 
 -- ---- a backend gives clients nothing
 
@@ -378,16 +381,34 @@ HomeStepIsOwn = (config : Config) (heard : ℕ → Heard) (world : World) (law :
     → on_link world.links from to ≡ message ∷ rest → about message ≡ of_connection conn → IsOwnAtHome config heard world law conn from to node message
 
 pub home_step_is_own : HomeStepIsOwn
-home_step_is_own config heard world law conn from to node message rest fit there first own =
-    let fixed = fixed_of config in
-    let story = law.story in
-    let tells = first_tells fixed conn world story (heard conn) from to message rest first own (law.connections conn) in
-    let waits = each_command_waits fixed conn tells.node tells.front tells.connection world story (heard conn) tells.here tells.at tells.count tells.who in
-    let fits = waits_fit fixed conn tells.node tells.front tells.connection world story (heard conn) tells.here fit tells.at tells.who in
-    let found = found_in (master_of config) tells.node (next_id conn (story.told conn)) from to message tells.here tells.is_found in
-    record {
-      fits = fitting config heard world law conn fits tells.node tells.front tells.here (tells.at).at waits tells.placed from to node message rest there first own
-          tells.here refl found;
-      step = by_found config heard world law conn fits tells.node tells.front tells.here (tells.at).at waits tells.placed from to node message rest there first own
-          tells.here refl found;
-    }
+home_step_is_own config heard world law conn from to node message rest fit there first own = by tells.who
+  where
+    tells : TellsPlace (fixed_of config) conn world law.story (heard conn) from to message
+    tells = first_tells (fixed_of config) conn world law.story (heard conn) from to message rest first own (law.connections conn)
+
+    fits : IsNumbered (next_id conn (law.story.told conn))
+    fits = waits_fit (fixed_of config) conn tells.node tells.front tells.connection world law.story (heard conn) tells.here fit tells.at tells.who
+
+    no_front : tells.node ≡ to → ⊥
+    no_front e =
+        let no : None ≡ Some node = sym (law.nodes.fronts tells.node tells.front (tells.at).at).no_home ∙ ap (home_at world) e ∙ there in cc
+
+    no_master : master_of config ≡ to → ⊥
+    no_master e = (law.many.each to node there).apart (sym e ∙ sym law.nodes.me)
+
+    by : Whose (fixed_of config) conn tells.node tells.connection world law.story (heard conn) tells.here
+        → IsOwnAtHome config heard world law conn from to node message
+    by (of_command who) =
+        let waits = each_command_waits (fixed_of config) conn tells.node tells.front tells.connection world law.story (heard conn) tells.here tells.at
+        tells.count who in
+        let found = found_in (master_of config) tells.node (next_id conn (law.story.told conn)) from to message tells.here tells.is_found in
+        record {
+          fits = fitting config heard world law conn fits tells.node tells.front tells.here (tells.at).at waits tells.placed from to node message rest there
+              first own tells.here refl found;
+          step = by_found config heard world law conn fits tells.node tells.front tells.here (tells.at).at waits tells.placed from to node message rest there
+              first own tells.here refl found;
+        }
+    by (of_list who) =
+        absurd (list_not_at_home config heard world law conn fits tells.node tells.front tells.here (tells.at).at
+        (each_list_waits (fixed_of config) conn tells.node tells.front tells.connection world law.story (heard conn) tells.here tells.at tells.count who)
+        tells.placed from to message no_front no_master tells.is_found)

@@ -61,8 +61,11 @@ use Rattle.cluster_core.proofs.Commands.Moving.{MovesBy}
 use Rattle.cluster_core.proofs.Points.AtBarrier.{ClearsIt, IsDecidedSo, cleared_at, is_point as is_its_point, is_seen as is_only_seen, noop_clears}
 use Rattle.cluster_core.proofs.Points.AtMaster.{LineGoes, each_line_goes, heard_at, is_point, is_seen, waits_on}
 use Rattle.cluster_core.proofs.Points.Found.{IsFoundIn, found_in, in_answer, in_ask, in_line, in_noop, in_ok, in_response}
+use Rattle.cluster_core.proofs.Points.ListPoint.{list_is_own}
+use Rattle.cluster_core.proofs.Points.ListWaits.{each_list_waits}
 use Rattle.cluster_core.proofs.Points.Own.{Leaves, Outcome, OwnStep, made_by, of_carried, of_known, of_seen, own_step}
-use Rattle.cluster_core.proofs.Points.Waits.{AskedFit, BringsNothing, CommandWaits, IsOpenAt, each_command_waits, first_tells, is_open_there, waits_fit, whom_barred}
+use Rattle.cluster_core.proofs.Points.Waits.{AskedFit, BringsNothing, CommandWaits, IsOpenAt, TellsPlace, Whose, of_command, of_list}
+use Rattle.cluster_core.proofs.Points.Waits.{each_command_waits, first_tells, is_open_there, waits_fit, whom_barred}
 
 -- a message of a flow is its command's
 flow_own : (me : Location) (name : List ℕ) (flow : Flow) (id : AskId) → IsNumbered id → flow.ask ≡ id → is_own_message (is_command id) (flow_message me name flow) ≡ true
@@ -333,11 +336,26 @@ MasterStepIsOwn = (config : Config) (heard : ℕ → Heard) (world : World) (law
     (node_says law.master from message).master given
 
 pub master_step_is_own : MasterStepIsOwn
-master_step_is_own config heard world law conn from message rest fit moves first own same =
-    let fixed = fixed_of config in
-    let story = law.story in
-    let tells = first_tells fixed conn world story (heard conn) from (master_of config) message rest first own (law.connections conn) in
-    let waits = each_command_waits fixed conn tells.node tells.front tells.connection world story (heard conn) tells.here tells.at tells.count tells.who in
-    let fits = waits_fit fixed conn tells.node tells.front tells.connection world story (heard conn) tells.here fit tells.at tells.who in
-    by_found config heard world law conn fits tells.node tells.front tells.here (tells.at).at waits tells.placed from message rest first own same moves
-    tells.here refl (found_in (master_of config) tells.node (next_id conn (story.told conn)) from (master_of config) message tells.here tells.is_found)
+master_step_is_own config heard world law conn from message rest fit moves first own same = by tells.who
+  where
+    tells : TellsPlace (fixed_of config) conn world law.story (heard conn) from (master_of config) message
+    tells = first_tells (fixed_of config) conn world law.story (heard conn) from (master_of config) message rest first own (law.connections conn)
+
+    fits : IsNumbered (next_id conn (law.story.told conn))
+    fits = waits_fit (fixed_of config) conn tells.node tells.front tells.connection world law.story (heard conn) tells.here fit tells.at tells.who
+
+    by : Whose (fixed_of config) conn tells.node tells.connection world law.story (heard conn) tells.here
+        → (given : Given) × OwnStep config conn (heard conn) world law.story
+        (with_master (taken_from_link world from (master_of config)) (master_of config) (node_says law.master from message))
+        (node_says law.master from message).master given
+    by (of_command who) =
+        let waits = each_command_waits (fixed_of config) conn tells.node tells.front tells.connection world law.story (heard conn) tells.here tells.at
+        tells.count who in
+        by_found config heard world law conn fits tells.node tells.front tells.here (tells.at).at waits tells.placed from message rest first own same moves
+        tells.here refl (found_in (master_of config) tells.node (next_id conn (law.story.told conn)) from (master_of config) message tells.here tells.is_found)
+    by (of_list who) = (
+      law.given,
+      list_is_own config heard world law conn fits tells.node tells.front tells.here (tells.at).at
+          (each_list_waits (fixed_of config) conn tells.node tells.front tells.connection world law.story (heard conn) tells.here tells.at tells.count who)
+          tells.placed from message rest first same moves tells.is_found,
+    )

@@ -1,5 +1,5 @@
 -- The first message of a link tells whose command it is of, what the connection of that is at, and where the command is. Wherever it is behind the step, its
--- connection goes on so.
+-- connection goes on so. That of a LIST is told in ListWaits.
 use Rattle.std.proofs.Common.{◌≡◌, ℕ, ◌+◌, true, false, List, ◌∷◌, ◌++◌, length, None, Some, refl, sym, ◌∙◌, ap, subst}
 use Rattle.asking_core.specs.declared.waiting.At.{At}
 use Rattle.asking_core.specs.declared.waiting.At.TheVariants.{Home, Barrier as at_master}
@@ -16,6 +16,7 @@ use Rattle.imap_talk.specs.Heard.{Heard, client, frames_heard}
 use Rattle.imap_talk.specs.Inputs.{requests_in}
 use Rattle.imap_talk.specs.declared.inputs.Input.{Input}
 use Rattle.imap_talk.specs.declared.inputs.Input.TheVariants.{Asks}
+use Rattle.imap_types.specs.declared.command.Command.{Command}
 use Rattle.imap_types.specs.declared.command.Tag.{Tag}
 use Rattle.imap_types.specs.declared.request.Answer.{Answer}
 use Rattle.imap_types.specs.declared.request.Request.{Request}
@@ -42,9 +43,9 @@ use Rattle.cluster_core.specs.World.{client_at, front_at}
 use Rattle.cluster_core.proofs.Commands.Knows.{Brings, Undecided}
 use Rattle.cluster_core.proofs.Commands.Knows.Knows.{is_decided, undecided}
 use Rattle.cluster_core.proofs.Commands.Place.{Place, its_message, Place as place}
-use Rattle.cluster_core.proofs.Commands.Standing.{Fixed, HasBegunSo, IsLeft, LeftWaiting, Stands, Waiting, WaitsAt, next_id}
-use Rattle.cluster_core.proofs.Commands.Standing.IsLeft.{nothing, left_waiting}
-use Rattle.cluster_core.proofs.Commands.Standing.Stands.{reads, waits, faulted, finished}
+use Rattle.cluster_core.proofs.Commands.Standing.{Fixed, HasBegunSo, IsLeft, LeftListing, LeftWaiting, Lists, Stands, Waiting, WaitsAt, next_id}
+use Rattle.cluster_core.proofs.Commands.Standing.IsLeft.{nothing, left_listing, left_waiting}
+use Rattle.cluster_core.proofs.Commands.Standing.Stands.{reads, waits, lists, faulted, finished}
 use Rattle.cluster_core.proofs.Connections.ConnectionLaw.{IsInPlaceOf, IsMarkedAt, client_with}
 use Rattle.cluster_core.proofs.Connections.KeepsLaw.{ConnectionIs, IsAt}
 use Rattle.cluster_core.proofs.Connections.KeepsLaw.ConnectionIs.{is_nobody, is_elsewhere, is_open, is_closed}
@@ -67,6 +68,24 @@ pub data WhoWaits (fixed : Fixed) (conn : ℕ) (node : List ℕ) (connection : C
       (story.course.sessions conn) here
       → WhoWaits fixed conn node connection world story heard here
 
+-- a connection whose LIST waits
+pub data WhoLists (fixed : Fixed) (conn : ℕ) (node : List ℕ) (connection : Connection) (world : World) (story : Tale) (heard : Heard) (here : Place)
+    : Type 0 where
+  open_lists : (bytes : List ℕ) → heard ≡ client bytes false → HasBegunSo connection (reading_of fixed.setting bytes)
+      → client_at world conn ≡ Some (client_with node (inputs_in fixed.setting bytes) (story.told conn))
+      → Lists fixed (inputs_in fixed.setting bytes) (begun bytes) connection (story.told conn) (story.talk.answers conn) (story.course.sessions conn) here
+      → WhoLists fixed conn node connection world story heard here
+  closed_lists : (bytes : List ℕ) → heard ≡ client bytes true → connection.stage ≡ Ended → EndsOnlyLast (story.told conn)
+      → client_at world conn ≡ Some (client_with node (inputs_in fixed.setting bytes) (story.told conn))
+      → LeftListing fixed (requests_in (inputs_in fixed.setting bytes)) (story.told conn) (story.talk.answers conn) (story.course.sessions conn) here
+      → WhoLists fixed conn node connection world story heard here
+
+-- what waits is a command that needs a mailbox, or a LIST
+pub data Whose (fixed : Fixed) (conn : ℕ) (node : List ℕ) (connection : Connection) (world : World) (story : Tale) (heard : Heard) (here : Place)
+    : Type 0 where
+  of_command : WhoWaits fixed conn node connection world story heard here → Whose fixed conn node connection world story heard here
+  of_list : WhoLists fixed conn node connection world story heard here → Whose fixed conn node connection world story heard here
+
 -- the message is its command's
 pub record TellsPlace (fixed : Fixed) (conn : ℕ) (world : World) (story : Tale) (heard : Heard) (from to : List ℕ) (message : LinkMsg) : Type 0 where
   pub node : List ℕ
@@ -78,7 +97,7 @@ pub record TellsPlace (fixed : Fixed) (conn : ℕ) (world : World) (story : Tale
   pub is_found : its_message fixed.master node (next_id conn (story.told conn)) here ≡ Some (record { from = from; to = to; message = message })
   pub placed : IsInPlaceOf fixed world node front.replica (next_id conn (story.told conn)) here
   pub marked : IsMarkedAt story.moving world.marks (next_id conn (story.told conn)) here
-  pub who : WhoWaits fixed conn node connection world story heard here
+  pub who : Whose fixed conn node connection world story heard here
 
 abbrev pub FirstTells : Type 0
 FirstTells = (fixed : Fixed) (conn : ℕ) (world : World) (story : Tale) (heard : Heard) (from to : List ℕ) (message : LinkMsg) (rest : List LinkMsg)
@@ -99,18 +118,20 @@ module _ (fixed : Fixed) (conn : ℕ) (node : List ℕ) (connection : Connection
       → client_at world conn ≡ Some (client_with node (inputs_in fixed.setting bytes) (story.told conn))
       → Stands fixed node conn (inputs_in fixed.setting bytes) (begun bytes) connection (story.told conn) (story.talk.answers conn)
       (story.course.sessions conn) here
-      → WhoWaits fixed conn node connection world story (client bytes false) here
+      → Whose fixed conn node connection world story (client bytes false) here
   waits_open reader given (reads a b c d f g none) = absurd (somewhere none)
-  waits_open reader given (waits waiting) = open_waits bytes refl reader given waiting
+  waits_open reader given (waits waiting) = of_command (open_waits bytes refl reader given waiting)
+  waits_open reader given (lists waiting) = of_list (open_lists bytes refl reader given waiting)
   waits_open reader given (faulted a b c d f none) = absurd (somewhere none)
   waits_open reader given (finished passed more request before last a b c d f g none) = absurd (somewhere none)
 
   pub waits_closed : connection.stage ≡ Ended → EndsOnlyLast (story.told conn)
       → client_at world conn ≡ Some (client_with node (inputs_in fixed.setting bytes) (story.told conn))
       → IsLeft fixed node conn (requests_in (inputs_in fixed.setting bytes)) (story.told conn) (story.talk.answers conn) (story.course.sessions conn) here
-      → WhoWaits fixed conn node connection world story (client bytes true) here
+      → Whose fixed conn node connection world story (client bytes true) here
   waits_closed stage lasts given (nothing rest a b none) = absurd (somewhere none)
-  waits_closed stage lasts given (left_waiting waiting) = closed_waits bytes refl stage lasts given waiting
+  waits_closed stage lasts given (left_waiting waiting) = of_command (closed_waits bytes refl stage lasts given waiting)
+  waits_closed stage lasts given (left_listing waiting) = of_list (closed_lists bytes refl stage lasts given waiting)
 
 pub first_tells : FirstTells
 first_tells fixed conn world story _ from to message rest first own (is_nobody none fronts untold) =
@@ -181,16 +202,16 @@ EachCommandWaits = (fixed : Fixed) (conn : ℕ) (node : List ℕ) (front : Front
     → WhoWaits fixed conn node connection world story heard here → CommandWaits fixed conn node front world story heard here
 
 -- what comes behind the inputs that are answered is its request
-asks_next : (inputs passed rest : List Input) (request : Request) (told : List Answer) (tag : Tag) (c : ClientCommand)
-    → inputs ≡ passed ++ Asks request ∷ rest → AreAnswered passed told → request ≡ a_command tag c.it
-    → numbered (requests_in inputs) (length told + 1) ≡ Some (a_command tag c.it)
+pub asks_next : (inputs passed rest : List Input) (request : Request) (told : List Answer) (tag : Tag) (it : Command)
+    → inputs ≡ passed ++ Asks request ∷ rest → AreAnswered passed told → request ≡ a_command tag it
+    → numbered (requests_in inputs) (length told + 1) ≡ Some (a_command tag it)
 unfolding requests_in
-asks_next inputs passed rest request told tag c parts answered is =
-    subst (λ r. numbered r (length told + 1) ≡ Some (a_command tag c.it))
+asks_next inputs passed rest request told tag it parts answered is =
+    subst (λ r. numbered r (length told + 1) ≡ Some (a_command tag it))
     (sym (ap requests_in parts ∙ requests-append passed (Asks request ∷ rest) ∙ ap (λ r. requests_in passed ++ r ∷ requests_in rest) is))
-    (next_request (requests_in passed) (requests_in rest) (a_command tag c.it) (length told) (answered_lengths passed told answered))
+    (next_request (requests_in passed) (requests_in rest) (a_command tag it) (length told) (answered_lengths passed told answered))
 
-client_then : (fixed : Fixed) (conn : ℕ) (node : List ℕ) (world next : World) (inputs : List Input) (was now : List Answer)
+pub client_then : (fixed : Fixed) (conn : ℕ) (node : List ℕ) (world next : World) (inputs : List Input) (was now : List Answer)
     → client_at next conn ≡ client_at world conn → now ≡ was → client_at world conn ≡ Some (client_with node inputs was)
     → client_at next conn ≡ Some (client_with node inputs now)
 client_then fixed conn node world next inputs was now same told is = same ∙ is ∙ ap (λ t. Some (client_with node inputs t)) (sym told)
@@ -204,7 +225,7 @@ each_command_waits fixed conn node front connection world story heard here at co
       c = waiting.c;
       setting_is = waiting.of.setting_is;
       its = waiting.of.its;
-      asked = asks_next (inputs_in fixed.setting bytes) waiting.passed connection.waiting waiting.request (story.told conn) waiting.tag waiting.c
+      asked = asks_next (inputs_in fixed.setting bytes) waiting.passed connection.waiting waiting.request (story.told conn) waiting.tag waiting.c.it
           waiting.parts waiting.answered waiting.is;
       knows = waiting.knows;
       goes_on = λ next later there then. is_open bytes node front connection (record { at = then.fronts ∙ at.at; has = at.has }) reader
@@ -273,14 +294,32 @@ abbrev pub AskedFit : World → Tale → Type 0
 AskedFit world story = (conn : ℕ) (node : List ℕ) (front : Front) (connection : Connection) → IsAt world conn node front connection
     → (client : Client) → client_at world conn ≡ Some client → client.at ≡ node → IsNumbered (next_id conn (story.told conn))
 
+-- the client of a command that waits is connected to its frontend
+pub record IsClientOf (conn : ℕ) (node : List ℕ) (world : World) : Type 0 where
+  pub client : Client
+  pub is : client_at world conn ≡ Some client
+  pub at : client.at ≡ node
+
+pub its_client : (fixed : Fixed) (conn : ℕ) (node : List ℕ) (connection : Connection) (world : World) (story : Tale) (heard : Heard) (here : Place)
+    → Whose fixed conn node connection world story heard here → IsClientOf conn node world
+its_client fixed conn node connection world story heard here who = by who
+  where
+    connected : (bytes : List ℕ) → client_at world conn ≡ Some (client_with node (inputs_in fixed.setting bytes) (story.told conn))
+        → IsClientOf conn node world
+    connected bytes given = record { client = client_with node (inputs_in fixed.setting bytes) (story.told conn); is = given; at = refl }
+
+    by : Whose fixed conn node connection world story heard here → IsClientOf conn node world
+    by (of_command (open_waits bytes e reader given waiting)) = connected bytes given
+    by (of_command (closed_waits bytes e stage lasts given waiting)) = connected bytes given
+    by (of_list (open_lists bytes e reader given waiting)) = connected bytes given
+    by (of_list (closed_lists bytes e stage lasts given waiting)) = connected bytes given
+
 -- so has a command that waits
 pub waits_fit : (fixed : Fixed) (conn : ℕ) (node : List ℕ) (front : Front) (connection : Connection) (world : World) (story : Tale) (heard : Heard) (here : Place)
-    → AskedFit world story → IsAt world conn node front connection → WhoWaits fixed conn node connection world story heard here
+    → AskedFit world story → IsAt world conn node front connection → Whose fixed conn node connection world story heard here
     → IsNumbered (next_id conn (story.told conn))
-waits_fit fixed conn node front connection world story heard here fit at (open_waits bytes e reader given waiting) =
-    fit conn node front connection at (client_with node (inputs_in fixed.setting bytes) (story.told conn)) given refl
-waits_fit fixed conn node front connection world story heard here fit at (closed_waits bytes e stage lasts given waiting) =
-    fit conn node front connection at (client_with node (inputs_in fixed.setting bytes) (story.told conn)) given refl
+waits_fit fixed conn node front connection world story heard here fit at who =
+    let its = its_client fixed conn node connection world story heard here who in fit conn node front connection at its.client its.is its.at
 
 -- ---- a command at a place that no answer comes of is open
 
