@@ -8,4 +8,5 @@ pub mod Works
 pub mod HomeAnswers
 pub mod Makes
 pub mod HowMade
+pub mod NamesTaken
 pub mod RoutedLaw

@@ -214,7 +214,7 @@ unfoldable pub deliver_first : World → List ℕ → List ℕ → List LinkMsg 
 deliver_first world from to [] = world
 deliver_first world from to (message ∷ rest) = comes (taken_from_link world from to) to (From from message)
 
--- an event whose step has begun; those of links that break and of disks change nothing yet
+-- an event whose step has begun; those of links that break and of disks change nothing
 unfoldable pub takes : World → Event → World
 takes world (Open node conn) = opens world node conn (client_at world conn)
 takes world (Data conn bytes) = client_does world (Piece conn bytes) (client_at world conn)

@@ -27,7 +27,7 @@ pub struct World {
     pub nodes: Map<NodeName, NodeState>,
     /// The clients, by the numbers of their connections.
     pub clients: Map<u64, Client>,
-    /// The links that are broken; none is yet.
+    /// The links that are broken; none is.
     pub broken: Broken,
     /// The messages on their way.
     pub links: Links<LinkMsg>,

@@ -24,6 +24,7 @@ use Rattle.store_law.proofs.BegunLaw.{begins_as_read}
 use Rattle.store_law.proofs.CausesTold.{have_causes}
 use Rattle.store_law.proofs.DoneIsDone.{does_what_it_says}
 use Rattle.store_law.proofs.LinesLaw.{speaks_by_numbers}
+use Rattle.store_law.proofs.ListedLaw.{lists_mailboxes}
 use Rattle.store_law.proofs.LoginLaw.{begins_by_login}
 use Rattle.store_law.proofs.MirrorsAlong.{views_are_told}
 use Rattle.store_law.proofs.NewsTold.{news_are_told}
@@ -58,13 +59,13 @@ use Rattle.cluster_core.proofs.Routing.RoutedLaw.{are_routed}
 abbrev pub OthersAreSilent : Config → List Event → Type 0
 OthersAreSilent config steps = (conn : ℕ) → is_guest (guest_of config conn steps) ≡ false → IsSilent (run_steps (start config) steps) conn
 
--- the law held behind each front of these steps
-abbrev KeepsEarlier : Config → List Event → Type 0
-KeepsEarlier config steps = (before later : List Event) → steps ≡ before ++ later → LawBehind config before
+-- the law held behind each front of some steps of a run in which this will have been said
+abbrev KeepsEarlier : Config → List Event → Talk → List Event → Type 0
+KeepsEarlier config all talk steps = (before later : List Event) → steps ≡ before ++ later → IsKeptAt config all talk before
 
 -- behind some steps of a run that ends so
 told_so_far : (config : Config) (steps : List Event) (talk : Talk) (before later : List Event) → AreNodes config.nodes → IsDate config.date
-    → OthersAreSilent config before → KeepsEarlier config before → NumbersFitAll config before → IsKeptAt config steps talk before
+    → OthersAreSilent config before → KeepsEarlier config steps talk before → NumbersFitAll config before → IsKeptAt config steps talk before
     → LawBehind config (before ++ later)
     → IsToldSoFar config talk (history_of (run_steps (start config) (before ++ later))) before (run_steps (start config) before)
 told_so_far config steps talk before later are date_is silent earlier fits now last =
@@ -108,6 +109,7 @@ told_so_far config steps talk before later are date_is silent earlier fits now l
       others_unseen = λ conn. keeps_to_its_own (law_setting config) legal.last.store (legal.last.sessions conn)
           (points_own (law_setting config) (talk_told law.story) first_course legal.last (history_of world) legal.legal.follows
           (none_own (law_setting config)) conn);
+      lists = lists_mailboxes (law_setting config) legal.last.store;
       views_told = views_are_told (law_setting config) first_course (talk_told law.story) (history_of world) legal.last legal.legal none_rises (λ conn. refl);
       news_told = news_are_told (law_setting config) first_course (talk_told law.story) (history_of world) legal.last legal.legal none_rises (λ conn. refl);
       low_serials = subst (λ (s : Store). All (λ (pair : Pair). pair.serial ≤ reserves_taken config before) s.given) (sym legal.same_store)
@@ -115,14 +117,15 @@ told_so_far config steps talk before later are date_is silent earlier fits now l
       lost_next = history.lost_next;
       made_by_now = history.made_by_now;
       in_time = stands_in_time config came all world whole law last on;
-      routed = are_routed config are before earlier law fits;
+      routed = are_routed config are before (λ front back parts. (earlier front back parts).law) law fits talk now.more
+          (λ front back parts. (earlier front back parts).more);
       counted = steps_made config before;
       nothing_waits = λ empty conn stays.
           subst (λ r. IsAnsweredThrough r (law.story.told conn)) (sym (law.requests conn)) ((says conn).waits_not empty stays);
     }
 
 told_at : (config : Config) (talk : Talk) (steps before later : List Event) → steps ≡ before ++ later → AreNodes config.nodes → IsDate config.date
-    → OthersAreSilent config before → KeepsEarlier config steps → NumbersFitAll config steps → IsKeptAt config steps talk before → LawBehind config steps
+    → OthersAreSilent config before → KeepsEarlier config steps talk steps → NumbersFitAll config steps → IsKeptAt config steps talk before → LawBehind config steps
     → IsToldSoFar config talk (history_of (run_steps (start config) steps)) before (run_steps (start config) before)
 told_at config talk steps before later e are date_is silent earlier fits now last =
     subst (λ s. IsToldSoFar config talk (history_of (run_steps (start config) s)) before (run_steps (start config) before)) (sym e)
@@ -150,6 +153,6 @@ told_by_one_store config events are date_is fits each silent =
       begins_by_login = begins_by_login (law_setting config);
       talk = all.talk;
       at_each_step = λ before later e. told_at config all.talk steps before later e are date_is (silent before later e)
-          (λ front back parts. (all.at front back parts).law) fits (all.at before later e) last;
+          all.at fits (all.at before later e) last;
       steps_rise = (history_is config (λ conn. heard config conn steps) (run_steps (start config) steps) last).steps_rise;
     }

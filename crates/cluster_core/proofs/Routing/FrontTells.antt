@@ -15,9 +15,9 @@ use Rattle.asking_core.specs.declared.waiting.Waiting.{Waiting}
 use Rattle.front_core.specs.Reading.{inputs_of_more}
 use Rattle.front_core.specs.declared.connection.Connection.{Connection}
 use Rattle.front_core.specs.declared.connection.Stage.{Stage}
-use Rattle.front_core.specs.declared.connection.Stage.TheVariants.{Reading, Waits, Ended}
+use Rattle.front_core.specs.declared.connection.Stage.TheVariants.{Reading, Waits, Lists, Ended}
 use Rattle.front_core.specs.declared.front.Front.{Front}
-use Rattle.front_core.specs.Answered.{answer_by, answer_comes, by_then, clears_at, need_behind, ok_by, ok_comes, reading_again}
+use Rattle.front_core.specs.Answered.{answer_by, answer_comes, by_then, clears_at, need_behind, ok_by, ok_comes, reading_again, reads_on}
 use Rattle.front_core.specs.Ended.{released, released_at}
 use Rattle.front_core.specs.Front.{Stepped, answer_at, answer_from, bytes_by, bytes_in, connect, connect_at, connection_at, deliver, front_bytes_at, front_hang_at, hang, having_read, hung_up, line_by, line_from, ok_at, still, up_from, waits_for, ways_of, with_turned}
 use Rattle.front_core.specs.Taken.{Turned, Ways, answers_last, answers_now, comes_at, input_comes, input_in, inputs_come, request_in, turned_by_need}
@@ -47,6 +47,7 @@ use Rattle.session_core.specs.Begin.{begin}
 abbrev pub begun_at : Stage → ℕ
 begun_at Reading = 0
 begun_at (Waits tag it) = 1
+begun_at (Lists tag it) = 1
 begun_at Ended = 1
 
 abbrev pub begun : Connection → ℕ
@@ -55,6 +56,7 @@ begun connection = connection.answered + begun_at connection.stage
 at_most_one : (stage : Stage) → begun_at stage ≤ 1
 at_most_one Reading = omega arith
 at_most_one (Waits tag it) = omega arith
+at_most_one (Lists tag it) = omega arith
 at_most_one Ended = omega arith
 
 -- a command that is answered by the frontend alone is of this connection and beyond so many, and none is marked
@@ -114,6 +116,8 @@ module _ (setting : Setting) (ways : Ways) (conn : ℕ) where
   need_goes connection tag (needs.Leave reply) reads = last_goes connection tag reply reads
   need_goes connection tag (needs.Home name asking) reads =
       let none : begun_at connection.stage ≡ 0 = ap begun_at reads in record { outs = (tt, tt); more = omega (arith, none) }
+  need_goes connection tag (needs.Names it) reads =
+      let none : begun_at connection.stage ≡ 0 = ap begun_at reads in record { outs = (tt, tt); more = omega (arith, none) }
 
   request_goes : (connection : Connection) (request : Request) → connection.stage ≡ Reading
       → Goes conn connection (request_in setting ways conn connection request)
@@ -137,6 +141,7 @@ module _ (setting : Setting) (ways : Ways) (conn : ℕ) where
   unfolding comes_at
   comes_goes connection input Reading e = input_goes connection input e
   comes_goes connection input (Waits tag it) e = record { outs = tt; more = omega arith }
+  comes_goes connection input (Lists tag it) e = record { outs = tt; more = omega arith }
   comes_goes connection input Ended e = record { outs = tt; more = omega arith }
 
   pub inputs_go : (connection : Connection) (inputs : List Input) → Goes conn connection (inputs_come setting ways conn connection inputs)
@@ -164,9 +169,9 @@ module _ (setting : Setting) (ways : Ways) (conn : ℕ) where
   tells_behind most ask Behind is = tt
   tells_behind most ask Reserved is = tt
 
-  behind_goes : (connection : Connection) (tag : Tag) (how : How) (need : Need) → begun_at connection.stage ≡ 1 → IsBehind how
-      → Goes conn connection (need_behind setting ways conn connection tag how need)
-  behind_goes connection tag how (needs.Reply reply) waits is =
+  reads_on_goes : (connection : Connection) (how : How) (text : List ℕ) → begun_at connection.stage ≡ 1 → IsBehind how
+      → Goes conn connection (reads_on setting ways conn connection how text)
+  reads_on_goes connection how text waits is =
       let rest = inputs_go (reading_again connection) connection.waiting in
       record {
         outs = (
@@ -179,9 +184,14 @@ module _ (setting : Setting) (ways : Ways) (conn : ℕ) where
         );
         more = omega (arith, waits, rest.more);
       }
+
+  behind_goes : (connection : Connection) (tag : Tag) (how : How) (need : Need) → begun_at connection.stage ≡ 1 → IsBehind how
+      → Goes conn connection (need_behind setting ways conn connection tag how need)
+  behind_goes connection tag how (needs.Reply reply) waits is = reads_on_goes connection how _ waits is
   behind_goes connection tag how (needs.Leave reply) waits is =
       record { outs = (tt, (tells_behind (begun connection) _ how is, (tt, tt))); more = omega (arith, waits) }
   behind_goes connection tag how (needs.Home name asking) waits is = record { outs = (tt, tt); more = omega (arith, waits) }
+  behind_goes connection tag how (needs.Names it) waits is = record { outs = (tt, tt); more = omega (arith, waits) }
 
   then_goes : (connection : Connection) (tag : Tag) (it : Waiting) (what : Then) → begun_at connection.stage ≡ 1
       → Goes conn connection (by_then setting ways conn connection tag it what)
@@ -202,6 +212,7 @@ module _ (setting : Setting) (ways : Ways) (conn : ℕ) where
   answer_goes_by connection answer true (Waits tag it) e =
       went_goes connection tag
       (answered ways.master (record { conn = conn; command = connection.answered + 1 }) connection.session it answer.body) (ap begun_at e)
+  answer_goes_by connection answer true (Lists tag it) e = record { outs = tt; more = omega arith }
   answer_goes_by connection answer true Reading e = record { outs = tt; more = omega arith }
   answer_goes_by connection answer true Ended e = record { outs = tt; more = omega arith }
   answer_goes_by connection answer false stage e = record { outs = tt; more = omega arith }
@@ -221,6 +232,7 @@ module _ (setting : Setting) (ways : Ways) (conn : ℕ) where
       → Goes conn connection (ok_by setting ways conn connection fits stage)
   unfolding ok_by
   ok_goes_by connection true (Waits tag it) e = clears_go connection tag it it.at (ap begun_at e)
+  ok_goes_by connection true (Lists tag it) e = reads_on_goes connection Behind _ (ap begun_at e) tt
   ok_goes_by connection true Reading e = record { outs = tt; more = omega arith }
   ok_goes_by connection true Ended e = record { outs = tt; more = omega arith }
   ok_goes_by connection false stage e = record { outs = tt; more = omega arith }
@@ -265,6 +277,7 @@ released_begun connection = by connection.stage refl
     by : (stage : Stage) → connection.stage ≡ stage → begun (released_at connection stage) ≡ begun connection
     by Reading e = refl
     by (Waits tag it) e = refl
+    by (Lists tag it) e = refl
     by Ended e = ap (λ (n : ℕ). connection.answered + n) (sym (ap begun_at e))
 
 module _ (front : Front) (conn : ℕ) (connection : Connection) (at : connection_at front conn ≡ Some connection) where
@@ -323,18 +336,21 @@ connects front conn None at = record { outs = (tt, tt); more = more }
           most = has.most;
         }
 
+reads_go : (front : Front) (conn : ℕ) (bytes : List ℕ) (connection : Connection) → connection_at front conn ≡ Some connection
+    → FrontGoes front (with_turned front conn
+    (inputs_come front.setting (ways_of front) conn (having_read front.setting connection bytes) (inputs_of_more front.setting connection.reader bytes)))
+reads_go front conn bytes connection at =
+    let its =
+    inputs_go front.setting (ways_of front) conn (having_read front.setting connection bytes) (inputs_of_more front.setting connection.reader bytes) in
+    turned_goes front conn connection at _ (record { outs = its.outs; more = its.more })
+
 bytes_go_by : (front : Front) (conn : ℕ) (bytes : List ℕ) (connection : Connection) (stage : Stage) → connection_at front conn ≡ Some connection
     → FrontGoes front (bytes_by front conn bytes connection stage)
 unfolding bytes_by
 bytes_go_by front conn bytes connection Ended at = nothing_goes front
-bytes_go_by front conn bytes connection Reading at =
-    let its =
-    inputs_go front.setting (ways_of front) conn (having_read front.setting connection bytes) (inputs_of_more front.setting connection.reader bytes) in
-    turned_goes front conn connection at _ (record { outs = its.outs; more = its.more })
-bytes_go_by front conn bytes connection (Waits tag it) at =
-    let its =
-    inputs_go front.setting (ways_of front) conn (having_read front.setting connection bytes) (inputs_of_more front.setting connection.reader bytes) in
-    turned_goes front conn connection at _ (record { outs = its.outs; more = its.more })
+bytes_go_by front conn bytes connection Reading at = reads_go front conn bytes connection at
+bytes_go_by front conn bytes connection (Waits tag it) at = reads_go front conn bytes connection at
+bytes_go_by front conn bytes connection (Lists tag it) at = reads_go front conn bytes connection at
 
 bytes_go : (front : Front) (conn : ℕ) (bytes : List ℕ) (found : Option Connection) → connection_at front conn ≡ found
     → FrontGoes front (front_bytes_at front conn bytes found)

@@ -29,7 +29,7 @@ use Rattle.mur_base.specs.declared.point.What.{What}
 use Rattle.mur_base.specs.declared.point.What.TheVariants.{Lost as lost}
 use Rattle.mur_config.specs.declared.config.Config.{Config}
 use Rattle.mur_config.specs.Nodes.{AreNodes}
-use Rattle.mur_model.specs.History.{Talk}
+use Rattle.mur_model.specs.History.{Talk, TalkGoesOn}
 use Rattle.schedule_text.specs.declared.event.Event.{Event}
 use Rattle.schedule_text.specs.declared.event.Event.TheVariants.{Deliver}
 use Rattle.cluster_core.specs.declared.world.World.{World}
@@ -51,6 +51,7 @@ use Rattle.cluster_core.proofs.Routing.HomeAnswers.{IsServed, ask_is_served}
 use Rattle.cluster_core.proofs.Routing.HowMade.{IsMadeSo, IsToldAlone, all_made}
 use Rattle.cluster_core.proofs.Routing.HowMade.IsMadeSo.{is_taken, is_told}
 use Rattle.cluster_core.proofs.Routing.Makes.{DiffersAt, MasterDeed, master_deeds, master_makes}
+use Rattle.cluster_core.proofs.Routing.NamesTaken.{takes_noop}
 use Rattle.cluster_core.proofs.Routing.Works.{IsUnderWay, ask_tells, line_tells}
 use Rattle.cluster_core.proofs.Starts.Begins.{start_quiet}
 
@@ -91,7 +92,8 @@ within number count = by (nat_le number count) refl
 
 module _ (config : Config) (are : AreNodes config.nodes) (steps : List Event)
     (laws : (before later : List Event) → steps ≡ before ++ later → LawBehind config before) (law : LawBehind config steps)
-    (fit : NumbersFitAll config steps) where
+    (fit : NumbersFitAll config steps) (all_said : Talk) (more : TalkGoesOn (talk_told law.story) all_said)
+    (each_more : (before later : List Event) (parts : steps ≡ before ++ later) → TalkGoesOn (talk_told (laws before later parts).story) all_said) where
   abbrev whole : World
   whole = run_steps (start config) steps
 
@@ -133,8 +135,8 @@ module _ (config : Config) (are : AreNodes config.nodes) (steps : List Event)
       (ask_tells config (λ conn. heard config conn taken.before) (at taken.before) law_then taken.from taken.to ask taken.rest
       (taken.comes ∙ ap (λ (m : LinkMsg). m ∷ taken.rest) is)).under_way
   under_way id taken (at_master line is its mine) =
-      line_tells config (λ conn. heard config conn taken.before) (at taken.before) (laws taken.before _ taken.parts) taken.from taken.to line taken.rest id
-      (taken.comes ∙ ap (λ (m : LinkMsg). m ∷ taken.rest) is) its mine (fit taken.before _ taken.parts)
+      (line_tells config (λ conn. heard config conn taken.before) (at taken.before) (laws taken.before _ taken.parts) taken.from taken.to line taken.rest id
+      (taken.comes ∙ ap (λ (m : LinkMsg). m ∷ taken.rest) is) its mine (fit taken.before _ taken.parts)).under_way
 
   no_step : (made : Mark) (how : How) → Contains whole.marks made → made.kind ≡ Told how → IsToldAlone config steps made → (taken : Taken config steps)
       → IsStepOf config steps made.ask taken → ⊥
@@ -374,5 +376,7 @@ module _ (config : Config) (are : AreNodes config.nodes) (steps : List Event)
   are_routed = record {
     asks = λ taken ask is none. answers taken ask is none;
     makes = made_for;
+    lists = λ taken id is_list. takes_noop config steps talk all_said more taken (laws taken.before _ taken.parts) (each_more taken.before _ taken.parts)
+        (fit taken.before _ taken.parts) id is_list;
     points_stand = points_stand;
   }

@@ -1,4 +1,4 @@
--- A message of a command is taken: the command waits at its client's frontend, and an ask is the one for it, at a backend.
+-- A message of a command is taken: the command waits at its client's frontend, and an ask is the one for it, at a backend. Of a LIST that is its NOOP.
 use Rattle.std.proofs.Common.{◌≡◌, ◌||◌, ℕ, ◌+◌, nat_eq, Bool, true, false, is_some, List, [], ◌∷◌, length, Some, refl, sym, ◌∙◌, ap, subst, arith}
 use Rattle.std.specs.Prelude.{All}
 use Rattle.std.specs.List.{list_any}
@@ -12,8 +12,13 @@ use Rattle.front_core.proofs.OneConnection.Places.{about, about_command, of_conn
 use Rattle.front_core.specs.declared.connection.Connection.{Connection}
 use Rattle.front_core.specs.declared.front.Front.{Front}
 use Rattle.front_core.specs.Front.{connection_at}
-use Rattle.imap_talk.specs.Heard.{Heard}
+use Rattle.imap_talk.proofs.RequestsOf.{requests_of}
+use Rattle.imap_talk.specs.Heard.{Heard, frames_heard}
+use Rattle.imap_types.specs.declared.command.Command.{Command}
 use Rattle.imap_types.specs.declared.command.Tag.{Tag}
+use Rattle.imap_types.specs.declared.request.Answer.{Answer as Replied}
+use Rattle.imap_types.specs.declared.request.Request.{Request}
+use Rattle.imap_types.specs.declared.request.Request.TheVariants.{Command as a_command}
 use Rattle.link_msg.specs.declared.ask.FrontAsk.{FrontAsk}
 use Rattle.link_msg.specs.declared.message.LinkMsg.{LinkMsg}
 use Rattle.link_msg.specs.declared.message.LinkMsg.TheVariants.{Line, Ask, Answer}
@@ -25,6 +30,9 @@ use Rattle.mupdate_codec.proofs.LineAsks.{own_command}
 use Rattle.mur_base.specs.declared.point.AskId.{AskId}
 use Rattle.mur_config.specs.declared.config.Config.{Config}
 use Rattle.mur_config.specs.Nodes.{AreNodes}
+use Rattle.mur_model.specs.declared.commands.list.Listing.{Listing}
+use Rattle.mur_model.specs.declared.session.Sess.{Sess}
+use Rattle.mur_model.specs.History.{numbered}
 use Rattle.node_step.proofs.NodeKinds.{front_is}
 use Rattle.name_commands.specs.Places.{IsNumbered, flow_message, stage_command, NamePlace as name_at}
 use Rattle.name_commands.specs.Whose.{its_command}
@@ -32,21 +40,23 @@ use Rattle.name_flows.specs.declared.flow.Flow.{Flow}
 use Rattle.point_links.specs.AtHome.{its_ask}
 use Rattle.point_links.specs.Commands.{ClientCommand}
 use Rattle.route_links.proofs.Tags.{noop_tells}
+use Rattle.route_links.specs.Answered.{noop_of}
+use Rattle.route_links.specs.Barriers.{Place as Barrier, Place as barrier}
 use Rattle.mur_base.specs.declared.home.Location.{Location}
 use Rattle.cluster_core.specs.declared.world.World.{World}
 use Rattle.cluster_core.specs.Headline.OneNode.{node_of}
 use Rattle.cluster_core.specs.Numbers.{NumbersFit}
 use Rattle.cluster_core.proofs.Commands.InPlace.{IsThere}
-use Rattle.cluster_core.proofs.Commands.Knows.{IsFlowOf, undecided, is_decided}
+use Rattle.cluster_core.proofs.Commands.Knows.{IsFlowOf, KnowsNames, undecided, is_decided, not_yet, is_listed}
 use Rattle.cluster_core.proofs.Commands.Place.{Place, Place as place}
 use Rattle.cluster_core.proofs.Commands.Standing.{Fixed, next_id}
-use Rattle.cluster_core.proofs.Connections.KeepsLaw.{IsFrontOf, KeepsLaw, fixed_of}
+use Rattle.cluster_core.proofs.Connections.KeepsLaw.{IsAt, IsFrontOf, KeepsLaw, fixed_of}
 use Rattle.cluster_core.proofs.Keeps.Numbers.{asked_fit}
 use Rattle.cluster_core.proofs.OneServer.BackendsLaw.{are_backends}
 use Rattle.cluster_core.proofs.OneServer.NamesHeld.{same_bytes}
 use Rattle.cluster_core.proofs.Points.Acts.{KnowsOf}
 use Rattle.cluster_core.proofs.Points.Found.{IsFoundIn, found_in, in_answer, in_ask, in_line, in_noop, in_ok, in_response}
-use Rattle.cluster_core.proofs.Points.Waits.{TellsPlace, WhoWaits, closed_waits, first_tells, open_waits, waits_fit}
+use Rattle.cluster_core.proofs.Points.Waits.{IsClientOf, TellsPlace, Whose, closed_lists, closed_waits, each_command_waits, first_tells, its_client, of_command, of_list, open_lists, open_waits, waits_fit}
 use Rattle.cluster_core.proofs.Routing.Begun.{IsBegun}
 use Rattle.cluster_core.proofs.Routing.FrontTells.{begun_at}
 
@@ -72,32 +82,31 @@ backend_is config heard world are law node home there =
 
 -- ---- a command that waits
 
-record WaitsSo (fixed : Fixed) (conn : ℕ) (node : List ℕ) (connection : Connection) (world : World) (story : Tale) (here : Place) : Type 0 where
-  tag : Tag
-  c : ClientCommand
-  its : c.id ≡ next_id conn (story.told conn)
-  knows : KnowsOf fixed node conn tag c story here
-  begun : begun_at connection.stage ≡ 1
-  client : node_of (client_at world conn) ≡ Some node
+-- its client asked for it: it needs a mailbox; or it is a LIST, and its NOOP or the master's OK is on its way
+data IsAsked (fixed : Fixed) (conn : ℕ) (node : List ℕ) (story : Tale) (requests : List Request) (here : Place) : Type 0 where
+  for_mailbox : (tag : Tag) (c : ClientCommand) → c.id ≡ next_id conn (story.told conn)
+      → numbered requests (length (story.told conn) + 1) ≡ Some (a_command tag c.it) → KnowsOf fixed node conn tag c story here
+      → IsAsked fixed conn node story requests here
+  for_names : (at : Barrier) → here ≡ place.is_barred at → IsAsked fixed conn node story requests here
 
-waits_so : (fixed : Fixed) (conn : ℕ) (node : List ℕ) (connection : Connection) (world : World) (story : Tale) (heard : Heard) (here : Place)
-    → WhoWaits fixed conn node connection world story heard here → WaitsSo fixed conn node connection world story here
-waits_so fixed conn node connection world story heard here (open_waits bytes e reader given waiting) = record {
-  tag = waiting.tag;
-  c = waiting.c;
-  its = waiting.of.its;
-  knows = waiting.knows;
-  begun = ap begun_at waiting.stage;
-  client = ap node_of given;
-}
-waits_so fixed conn node connection world story heard here (closed_waits bytes e stage lasts given waiting) = record {
-  tag = waiting.tag;
-  c = waiting.c;
-  its = waiting.of.its;
-  knows = waiting.knows;
-  begun = ap begun_at stage;
-  client = ap node_of given;
-}
+module _ (fixed : Fixed) (conn : ℕ) (node : List ℕ) (connection : Connection) (world : World) (story : Tale) (heard : Heard) (here : Place) where
+  has_begun : Whose fixed conn node connection world story heard here → begun_at connection.stage ≡ 1
+  has_begun (of_command (open_waits bytes e reader given waiting)) = ap begun_at waiting.stage
+  has_begun (of_command (closed_waits bytes e stage lasts given waiting)) = ap begun_at stage
+  has_begun (of_list (open_lists bytes e reader given waiting)) = ap begun_at waiting.stage
+  has_begun (of_list (closed_lists bytes e stage lasts given waiting)) = ap begun_at stage
+
+  barred : {tag : Tag} {it : Listing} {was : Sess} {told said : List Replied} {session : Sess} → KnowsNames tag it was told said session here
+      → IsAsked fixed conn node story (requests_of fixed.setting (frames_heard heard)) here
+  barred (not_yet said was at) = for_names barrier.asked at
+  barred (is_listed table said was at) = for_names (barrier.answered table) at
+
+  asked_so : (front : Front) → IsAt world conn node front connection → connection.answered ≡ length (story.told conn)
+      → Whose fixed conn node connection world story heard here → IsAsked fixed conn node story (requests_of fixed.setting (frames_heard heard)) here
+  asked_so front at count (of_command who) =
+      let its = each_command_waits fixed conn node front connection world story heard here at count who in for_mailbox its.tag its.c its.its its.asked its.knows
+  asked_so front at count (of_list (open_lists bytes e reader given waiting)) = barred waiting.knows
+  asked_so front at count (of_list (closed_lists bytes e stage lasts given waiting)) = barred waiting.knows
 
 -- what its place tells, where nothing is decided there
 module _ (fixed : Fixed) (front : List ℕ) (conn : ℕ) (tag : Tag) (c : ClientCommand) (story : Tale) where
@@ -130,9 +139,15 @@ module _ (config : Config) (heard : ℕ → Heard) (world : World) (law : KeepsL
     pub begun : IsBegun world id
     pub last : id.command ≡ length (law.story.told id.conn) + 1
 
+  -- its client asked for this under its number
+  abbrev pub IsOf : AskId → Tag → Command → Type 0
+  IsOf id tag it = numbered (law.story.talk.requests id.conn) id.command ≡ Some (a_command tag it)
+
   -- the ask of a command of this frontend, at a backend
   pub record AskTells (from to : List ℕ) (ask : FrontAsk) : Type 0 where
+    pub tag : Tag
     pub c : ClientCommand
+    pub asked : IsOf ask.id tag c.it
     pub ask_is : ask ≡ its_ask c
     pub front : Front
     pub at : front_at world from ≡ Some front
@@ -140,13 +155,19 @@ module _ (config : Config) (heard : ℕ → Heard) (world : World) (law : KeepsL
     pub there : home_at world to ≡ Some home
     pub under_way : IsUnderWay ask.id
 
+  -- a line of a command that needs a mailbox, or the NOOP of a LIST
+  pub data IsLineOf (id : AskId) (line : List ℕ) : Type 0 where
+    of_mailbox : (tag : Tag) (c : ClientCommand) → IsOf id tag c.it → IsLineOf id line
+    of_names : line ≡ noop_line id → IsLineOf id line
+
+  pub record LineTells (id : AskId) (line : List ℕ) : Type 0 where
+    pub is_line : IsLineOf id line
+    pub under_way : IsUnderWay id
+
   module _ (from to : List ℕ) (message : LinkMsg) (rest : List LinkMsg) (first : on_link world.links from to ≡ message ∷ rest) (conn : ℕ)
       (own : about message ≡ of_connection conn) where
     tells : TellsPlace (fixed_of config) conn world law.story (heard conn) from to message
     tells = first_tells (fixed_of config) conn world law.story (heard conn) from to message rest first own (law.connections conn)
-
-    waits : WaitsSo (fixed_of config) conn tells.node tells.connection world law.story tells.here
-    waits = waits_so (fixed_of config) conn tells.node tells.connection world law.story (heard conn) tells.here tells.who
 
     abbrev open_id : AskId
     open_id = next_id conn (law.story.told conn)
@@ -157,76 +178,113 @@ module _ (config : Config) (heard : ℕ → Heard) (world : World) (law : KeepsL
     its_front : IsFrontOf config world law.master tells.node tells.front
     its_front = law.nodes.fronts tells.node tells.front (tells.at).at
 
+    abbrev requests : List Request
+    requests = requests_of (fixed_of config).setting (frames_heard (heard conn))
+
+    asked : IsAsked (fixed_of config) conn tells.node law.story requests tells.here
+    asked = asked_so (fixed_of config) conn tells.node tells.connection world law.story (heard conn) tells.here tells.front tells.at tells.count tells.who
+
+    its_client_at : IsClientOf conn tells.node world
+    its_client_at = its_client (fixed_of config) conn tells.node tells.connection world law.story (heard conn) tells.here tells.who
+
     begun_so : (id : AskId) → id ≡ open_id → IsUnderWay id
     begun_so id e =
         let same : id.conn ≡ conn = ap (λ (i : AskId). i.conn) e in
         let last : id.command ≡ length (law.story.told conn) + 1 = ap (λ (i : AskId). i.command) e in
+        let one : begun_at (tells.connection).stage ≡ 1 =
+        has_begun (fixed_of config) conn tells.node tells.connection world law.story (heard conn) tells.here tells.who in
         record {
           begun = record {
             node = tells.node;
             front = tells.front;
             at = front_is (node_at world tells.node) tells.front (tells.at).at;
-            client = ap (λ k. node_of (client_at world k)) same ∙ waits.client;
+            client = ap (λ k. node_of (client_at world k)) same ∙ ap node_of its_client_at.is ∙ ap (λ n. Some n) its_client_at.at;
             has = record {
               connection = tells.connection;
               at = ap (connection_at tells.front) same ∙ (tells.at).has;
-              most = omega (arith, last, tells.count, waits.begun);
+              most = omega (arith, last, tells.count, one);
             };
           };
           last = last ∙ ap (λ k. length (law.story.told k) + 1) (sym same);
         }
 
+    is_of : (id : AskId) (tag : Tag) (it : Command) → id ≡ open_id → numbered requests (length (law.story.told conn) + 1) ≡ Some (a_command tag it)
+        → IsOf id tag it
+    is_of id tag it e is =
+        subst (λ (i : AskId). IsOf i tag it) (sym e)
+        (subst (λ (r : List Request). numbered r (length (law.story.told conn) + 1) ≡ Some (a_command tag it)) (sym (law.requests conn)) is)
+
+    -- an ask of it is taken
     ask_by : (ask : FrontAsk) → message ≡ Ask ask → (here : Place) → IsFoundIn (master_of config) tells.node open_id from to message here
-        → KnowsOf (fixed_of config) tells.node conn waits.tag waits.c law.story here → IsThere (home_at world) here → AskTells from to ask
-    ask_by ask is _ (in_ask server asked e1 e2 e3) knows there =
-        let same : ask ≡ asked = same_ask (sym is ∙ sym e3) in
-        let its : ask ≡ its_ask waits.c = same ∙ asked_of (fixed_of config) tells.node conn waits.tag waits.c law.story server asked knows in
+        → IsAsked (fixed_of config) conn tells.node law.story requests here → IsThere (home_at world) here → AskTells from to ask
+    ask_by ask is _ (in_ask server asking e1 e2 e3) (for_mailbox tag c its request knows) there =
+        let same : ask ≡ asking = same_ask (sym is ∙ sym e3) in
+        let own : ask ≡ its_ask c = same ∙ asked_of (fixed_of config) tells.node conn tag c law.story server asking knows in
+        let number : ask.id ≡ open_id = ap (λ (a : FrontAsk). a.id) own ∙ its in
         record {
-          c = waits.c;
-          ask_is = its;
+          tag = tag;
+          c = c;
+          asked = is_of ask.id tag c.it number request;
+          ask_is = own;
           front = tells.front;
           at = ap (front_at world) (sym e1) ∙ (tells.at).at;
           home = there.0;
           there = ap (home_at world) (sym e2) ∙ there.1;
-          under_way = begun_so ask.id (ap (λ (a : FrontAsk). a.id) its ∙ waits.its);
+          under_way = begun_so ask.id number;
         }
-    ask_by ask is _ (in_answer server answer e1 e2 e3) knows there = absurd (let no : Answer answer ≡ Ask ask = e3 ∙ is in cc)
-    ask_by ask is _ (in_line me name flow e1 e2 e3) knows there = absurd (no_line _ ask (e3 ∙ is))
-    ask_by ask is _ (in_response me name flow it e1 e2 e3) knows there = absurd (no_line _ ask (e3 ∙ is))
-    ask_by ask is _ (in_noop e1 e2 e3) knows there = absurd (no_line _ ask (e3 ∙ is))
-    ask_by ask is _ (in_ok table e1 e2 e3) knows there = absurd (no_line _ ask (e3 ∙ is))
+    ask_by ask is _ (in_ask server asking e1 e2 e3) (for_names at barred) there = cc
+    ask_by ask is _ (in_answer server answer e1 e2 e3) asked there = absurd (let no : Answer answer ≡ Ask ask = e3 ∙ is in cc)
+    ask_by ask is _ (in_line me name flow e1 e2 e3) asked there = absurd (no_line _ ask (e3 ∙ is))
+    ask_by ask is _ (in_response me name flow it e1 e2 e3) asked there = absurd (no_line _ ask (e3 ∙ is))
+    ask_by ask is _ (in_noop e1 e2 e3) asked there = absurd (no_line _ ask (e3 ∙ is))
+    ask_by ask is _ (in_ok table e1 e2 e3) asked there = absurd (no_line _ ask (e3 ∙ is))
 
     ask_so : (ask : FrontAsk) → message ≡ Ask ask → AskTells from to ask
-    ask_so ask is = ask_by ask is tells.here found waits.knows (tells.placed).there
+    ask_so ask is = ask_by ask is tells.here found asked (tells.placed).there
 
     -- the master takes a line of it
-    line_by : (line : List ℕ) (id : AskId) → message ≡ Line line → line_ask line ≡ Some id → to ≡ master_of config → IsNumbered open_id → (here : Place)
-        → IsFoundIn (master_of config) tells.node open_id from to message here
-        → KnowsOf (fixed_of config) tells.node conn waits.tag waits.c law.story here → IsThere (home_at world) here → id ≡ open_id
-    line_by line id is its mine numbered _ (in_noop e1 e2 e3) knows there =
-        let same : line ≡ noop_line open_id = same_line (sym is ∙ sym e3) in
-        same_id (sym its ∙ ap line_ask same ∙ noop_tells open_id numbered)
-    line_by line id is its mine numbered _ (in_line me name flow e1 e2 e3) knows there =
-        let asked : flow.ask ≡ open_id = (sent_of (fixed_of config) tells.node conn waits.tag waits.c law.story me name flow knows).its ∙ waits.its in
-        let told : its_command (flow_message me name flow) ≡ Some open_id =
-        own_command flow.ask (stage_command me name flow.stage) ∙ ap (λ (a : AskId). ask_id_of (tag_of a)) asked ∙ ask_again open_id numbered.0 numbered.1 in
-        same_id (sym its ∙ ap its_command (sym is ∙ sym e3) ∙ told)
-    line_by line id is its mine numbered _ (in_ask server asked e1 e2 e3) knows there = absurd (let no : Ask asked ≡ Line line = e3 ∙ is in cc)
-    line_by line id is its mine numbered _ (in_answer server answer e1 e2 e3) knows there = absurd (let no : Answer answer ≡ Line line = e3 ∙ is in cc)
-    line_by line id is its mine numbered _ (in_response me name flow it e1 e2 e3) knows there =
-        absurd ((law.many.each me.server there.0 there.1).apart (e2 ∙ mine ∙ sym law.nodes.me))
-    line_by line id is its mine numbered _ (in_ok table e1 e2 e3) knows there = absurd (its_front.no_master (e2 ∙ mine))
+    module _ (line : List ℕ) (id : AskId) (is : message ≡ Line line) (its : line_ask line ≡ Some id) (mine : to ≡ master_of config)
+        (numbered_so : IsNumbered open_id) where
+      noop_is : noop_of open_id ≡ message → line ≡ noop_line open_id
+      noop_is e = same_line (sym is ∙ sym e)
 
-    line_so : (line : List ℕ) (id : AskId) → message ≡ Line line → line_ask line ≡ Some id → to ≡ master_of config → NumbersFit heard → IsUnderWay id
+      -- the NOOP of a command
+      noop_id : noop_of open_id ≡ message → id ≡ open_id
+      noop_id e = same_id (sym its ∙ ap line_ask (noop_is e) ∙ noop_tells open_id numbered_so)
+
+      of_command_so : (tag : Tag) (c : ClientCommand) → numbered requests (length (law.story.told conn) + 1) ≡ Some (a_command tag c.it) → id ≡ open_id
+          → LineTells id line
+      of_command_so tag c request number = record { is_line = of_mailbox tag c (is_of id tag c.it number request); under_way = begun_so id number }
+
+      line_by : (here : Place) → IsFoundIn (master_of config) tells.node open_id from to message here
+          → IsAsked (fixed_of config) conn tells.node law.story requests here → IsThere (home_at world) here → LineTells id line
+      line_by _ (in_noop e1 e2 e3) (for_mailbox tag c own request knows) there = of_command_so tag c request (noop_id e3)
+      line_by _ (in_noop e1 e2 e3) (for_names at barred) there =
+          record { is_line = of_names (noop_is e3 ∙ ap noop_line (sym (noop_id e3))); under_way = begun_so id (noop_id e3) }
+      line_by _ (in_line me name flow e1 e2 e3) (for_mailbox tag c own request knows) there =
+          let number : flow.ask ≡ open_id = (sent_of (fixed_of config) tells.node conn tag c law.story me name flow knows).its ∙ own in
+          let told : its_command (flow_message me name flow) ≡ Some open_id =
+          own_command flow.ask (stage_command me name flow.stage) ∙ ap (λ (a : AskId). ask_id_of (tag_of a)) number
+          ∙ ask_again open_id numbered_so.0 numbered_so.1 in
+          of_command_so tag c request (same_id (sym its ∙ ap its_command (sym is ∙ sym e3) ∙ told))
+      line_by _ (in_line me name flow e1 e2 e3) (for_names at barred) there = cc
+      line_by _ (in_ask server asking e1 e2 e3) asked there = absurd (let no : Ask asking ≡ Line line = e3 ∙ is in cc)
+      line_by _ (in_answer server answer e1 e2 e3) asked there = absurd (let no : Answer answer ≡ Line line = e3 ∙ is in cc)
+      line_by _ (in_response me name flow it e1 e2 e3) asked there =
+          absurd ((law.many.each me.server there.0 there.1).apart (e2 ∙ mine ∙ sym law.nodes.me))
+      line_by _ (in_ok table e1 e2 e3) asked there = absurd (its_front.no_master (e2 ∙ mine))
+
+    line_so : (line : List ℕ) (id : AskId) → message ≡ Line line → line_ask line ≡ Some id → to ≡ master_of config → NumbersFit heard → LineTells id line
     line_so line id is its mine fits =
-        let numbered : IsNumbered open_id = waits_fit (fixed_of config) conn tells.node tells.front tells.connection world law.story (heard conn) tells.here
+        let numbered_so : IsNumbered open_id =
+        waits_fit (fixed_of config) conn tells.node tells.front tells.connection world law.story (heard conn) tells.here
         (asked_fit config heard world law fits) tells.at tells.who in
-        begun_so id (line_by line id is its mine numbered tells.here found waits.knows (tells.placed).there)
+        line_by line id is its mine numbered_so tells.here found asked (tells.placed).there
 
   pub ask_tells : (from to : List ℕ) (ask : FrontAsk) (rest : List LinkMsg) → on_link world.links from to ≡ Ask ask ∷ rest → AskTells from to ask
   ask_tells from to ask rest first = ask_so from to (Ask ask) rest first (ask.id).conn refl ask refl
 
   pub line_tells : (from to line : List ℕ) (rest : List LinkMsg) (id : AskId) → on_link world.links from to ≡ Line line ∷ rest → line_ask line ≡ Some id
-      → to ≡ master_of config → NumbersFit heard → IsUnderWay id
+      → to ≡ master_of config → NumbersFit heard → LineTells id line
   line_tells from to line rest id first its mine fits =
       line_so from to (Line line) rest first id.conn (ap about_command its) line id refl its mine fits

@@ -43,6 +43,7 @@ use Rattle.store_law.specs.NoneLost.{LosesNone}
 use Rattle.store_law.specs.OthersUnseen.{KeepsToItsOwn}
 use Rattle.store_law.specs.Examined.{ReadsWhatIsExamined}
 use Rattle.store_law.specs.Lines.{SpeaksByNumbers}
+use Rattle.store_law.specs.Listed.{ListsMailboxes}
 use Rattle.store_law.specs.Mirror.{ViewsAreTold}
 use Rattle.store_law.specs.NewsTold.{NewsAreTold}
 use Rattle.cluster_core.specs.Headline.Points.{AreMadeBy, LosesTheNext}
@@ -112,6 +113,8 @@ pub record IsToldSoFar (config : Config) (talk : Talk) (points : List Point) (st
   pub done : DoesWhatItSays (law_setting config) last.store
   -- whatever a client asks, its user learns nothing of a mailbox on which they have no rights, and changes nothing in it
   pub others_unseen : (conn : ℕ) → KeepsToItsOwn (law_setting config) last.store (last.sessions conn)
+  -- a LIST tells the mailboxes on which its user has rights, as they are shown to the user, and changes nothing (RFC 9051, 6.3.9)
+  pub lists : ListsMailboxes (law_setting config) last.store
   -- what a client concludes of its mailbox from the lines that it is given is so of its session's view (RFC 9051, 2.3.1.2)
   pub views_told : ViewsAreTold so_far (history_of world) last
   -- and of its mailbox as it is then, once it is answered OK a NOOP or another command behind which it is told all (RFC 9051, 5.2 and 6.1.2)

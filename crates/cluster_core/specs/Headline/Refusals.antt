@@ -45,7 +45,7 @@ pub record IsReservedThen (config : Config) (steps : List Event) (point : Point)
 
 abbrev pub CauseOf : Config → List Event → Point → What → Type 0
 CauseOf config steps point reserved = IsReservedThen config steps point
--- no link breaks yet
+-- no link breaks, so every node is reached
 CauseOf config steps point (unreached node) = ⊥
 CauseOf config steps point _ = ⊤
 

@@ -1,9 +1,14 @@
 -- Which step is the point of a command: one in which a backend takes its ask for a mailbox's messages or the master takes a line under its tag, or one in
--- which its frontend answers it alone. A step that carries it out counts though its client is never told: a backend says so in its answer, and the master
+-- which its frontend answers it alone. A LIST asks no backend: its point is the step in which the master takes its NOOP; or its frontend's own, as where it
+-- asks for the separator or its session may not list. A step that carries it out counts though its client is never told: a backend says so in its answer, and the master
 -- makes a mailbox or takes one away.
 use Rattle.std.specs.Prelude.{◌≡◌, ◌≢◌, ℕ, ◌+◌, ◌≤◌, ◌<◌, Bool, true, false, List, [], ◌∷◌, ◌++◌, length, All, Contains, Some}
+use Rattle.ask_routes.specs.Barrier.{noop_line}
+use Rattle.imap_types.specs.declared.command.Command.TheVariants as command
+use Rattle.imap_types.specs.declared.command.Tag.{Tag}
 use Rattle.imap_types.specs.declared.op.Op.{Op}
 use Rattle.imap_types.specs.declared.op.Op.TheVariants.{Create}
+use Rattle.imap_types.specs.declared.request.Request.TheVariants.{Command as a_command}
 use Rattle.link_msg.specs.declared.answer.AnswerBody.{AnswerBody}
 use Rattle.link_msg.specs.declared.answer.AnswerBody.TheVariants.{Done}
 use Rattle.link_msg.specs.declared.ask.FrontAsk.{FrontAsk}
@@ -16,7 +21,7 @@ use Rattle.mur_base.specs.declared.point.Point.{Point}
 use Rattle.mur_base.specs.declared.point.What.{What}
 use Rattle.mur_base.specs.declared.point.What.TheVariants.{Reply as replied, Lost as lost}
 use Rattle.mur_config.specs.declared.config.Config.{Config}
-use Rattle.mur_model.specs.History.{Talk}
+use Rattle.mur_model.specs.History.{Talk, numbered}
 use Rattle.node_record.specs.Table.{is_mailbox_if, record_at}
 use Rattle.schedule_text.specs.declared.event.Event.{Event}
 use Rattle.schedule_text.specs.declared.event.Event.TheVariants.{Deliver}
@@ -51,6 +56,18 @@ pub record Taken (config : Config) (steps : List Event) : Type 0 where
 pub data IsStepOf (config : Config) (steps : List Event) (id : AskId) (taken : Taken config steps) : Type 0 where
   at_home : (ask : FrontAsk) → taken.message ≡ Ask ask → ask.id ≡ id → creates ask.op ≡ false → IsBackend config taken.to → IsStepOf config steps id taken
   at_master : (line : List ℕ) → taken.message ≡ Line line → line_ask line ≡ Some id → taken.to ≡ master_of config → IsStepOf config steps id taken
+
+-- the command of this number is a LIST
+pub record IsList (talk : Talk) (id : AskId) : Type 0 where
+  pub tag : Tag
+  pub reference : List ℕ
+  pub mailbox : List ℕ
+  pub asked : numbered (talk.requests id.conn) id.command ≡ Some (a_command tag (command.List reference mailbox))
+
+-- the master takes the NOOP of this command
+pub record TakesNoop (config : Config) (steps : List Event) (taken : Taken config steps) (id : AskId) : Type 0 where
+  pub line : taken.message ≡ Line (noop_line id)
+  pub to : taken.to ≡ master_of config
 
 -- in one of these steps the node works at which a client is connected
 pub record IsAtItsNode (config : Config) (steps : List Event) (conn : ℕ) (step : ℕ) : Type 0 where
@@ -127,4 +144,6 @@ pub record AreRouted (config : Config) (talk : Talk) (steps : List Event) (point
   pub asks : (taken : Taken config steps) (ask : FrontAsk) → taken.message ≡ Ask ask → creates ask.op ≡ false → AnswersAsk config talk steps points taken ask
   pub makes : (taken : Taken config steps) (name : List ℕ) → ChangesMailbox config steps taken name
       → CountsFor talk points (length taken.before + 1) taken.message
+  -- no other step works on a LIST (RFC 9051, 6.3.9) than one in which the master takes its NOOP
+  pub lists : (taken : Taken config steps) (id : AskId) → IsList talk id → IsStepOf config steps id taken → TakesNoop config steps taken id
   pub points_stand : All (StandsAt config steps) points
