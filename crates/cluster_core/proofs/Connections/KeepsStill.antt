@@ -24,6 +24,7 @@ use Rattle.node_step.specs.declared.node.NodeState.{NodeState}
 use Rattle.node_step.specs.declared.node.NodeState.TheVariants as state
 use Rattle.node_step.specs.NodeStep.{as_back, as_front, as_master}
 use Rattle.cluster_core.specs.declared.world.World.{World}
+use Rattle.std.proofs.lemmas.Option.{same_Some}
 use Rattle.cluster_core.proofs.Commands.Place.{Place}
 use Rattle.cluster_core.proofs.Commands.Standing.{Fixed}
 use Rattle.cluster_core.proofs.Connections.ConnectionLaw.{IsInNoneOf, IsInPlaceOf, MarksStay, PlacesStay}
@@ -118,9 +119,6 @@ still_kept config heard after world next master alike same law nodes many feeds 
 
 -- ---- a world in which nothing changed but perhaps the number of its last step
 
-just_front : {one other : Front} → Some one ≡ Some other → one ≡ other
-just_front e = cc
-
 abbrev IsThere : Fixed → World → List ℕ → Front → ℕ → ℕ → Place → Type 0
 IsThere fixed next node f conn command here = IsInPlaceOf fixed next node f.replica (record { conn = conn; command = command }) here
 
@@ -134,7 +132,7 @@ alike_but_steps fixed world next nodes clients broken links marks steps =
       fronts = λ conn node. same_front conn (front_at world node) (front_at next node) (fronts node);
       clients = λ conn. same_client (ap (λ c. value_at nat_cmp c conn) clients);
       in_place = λ conn node was now before after command here is.
-          (let same : was ≡ now = just_front (sym before ∙ (sym (fronts node) ∙ after)) in
+          (let same : was ≡ now = same_Some _ _ (sym before ∙ (sym (fronts node) ∙ after)) in
           subst (λ (f : Front). IsThere fixed next node f conn command here) same ((stay conn).in_place node was.replica command here is));
       in_none = λ conn. (stay conn).in_none;
       broken = broken;

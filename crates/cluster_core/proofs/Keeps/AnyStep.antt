@@ -19,6 +19,8 @@ use Rattle.node_step.specs.declared.node.NodeState.TheVariants as state
 use Rattle.node_step.specs.NodeStep.{as_back, as_front, as_master}
 use Rattle.cluster_core.specs.declared.world.World.{World}
 use Rattle.cluster_core.specs.Flow.{run_steps}
+use Rattle.node_step.proofs.NodeKinds.{a_back, a_front}
+use Rattle.cluster_core.proofs.Nodes.Comes.{a_master}
 use Rattle.cluster_core.proofs.Answers.AnswerComes.{NamesBackend}
 use Rattle.cluster_core.proofs.Answers.FrontTakes.{MessageNamesBackend}
 use Rattle.cluster_core.proofs.Connections.KeepsLaw.{KeepsLaw}
@@ -43,18 +45,6 @@ AnswersNameBackends world = (from to : List ℕ) (message : LinkMsg) (rest : Lis
 pub record HoldsBeside (config : Config) (world : World) : Type 0 where
   pub always : HoldsAlways world
   pub names : AnswersNameBackends world
-
-a_front : (front : Front) → as_front (Some (state.Front front)) ≡ Some front
-unfolding as_front
-a_front front = refl
-
-a_back : (home : BackNode) → as_back (Some (state.Back home)) ≡ Some home
-unfolding as_back
-a_back home = refl
-
-a_master : (master : Master) → as_master (Some (state.Master master)) ≡ Some master
-unfolding as_master
-a_master master = refl
 
 module _ (config : Config) (heard : ℕ → Heard) (world : World) (law : KeepsLaw config heard world) (beside : HoldsBeside config world) where
   sender_by : (from : List ℕ) (message : LinkMsg) (rest : List LinkMsg) → on_link world.links from (master_of config) ≡ message ∷ rest

@@ -13,7 +13,8 @@ use Rattle.cluster_core.specs.Headline.Outside.{table_at}
 use Rattle.cluster_core.proofs.Commands.Moving.{MovesBy}
 use Rattle.cluster_core.proofs.Connections.KeepsLaw.{KeepsLaw, KeepsOn}
 use Rattle.cluster_core.proofs.OneServer.EachStep.{EachKeeps, LawBehind, TellsMoves, heard_next, kept_all}
-use Rattle.cluster_core.proofs.OneServer.MarksGoOn.{run_steps-append, steps_made}
+use Rattle.cluster_core.proofs.Runs.StepsMade.{steps_made}
+use Rattle.cluster_core.proofs.Runs.Unrolled.{run_steps-append}
 use Rattle.cluster_core.proofs.OneServer.MovingLaw.{StartsWith, moves_then, moving_of}
 use Rattle.cluster_core.proofs.OneServer.OneHome.{one_home_each}
 use Rattle.cluster_core.specs.Numbers.{NumbersFit, NumbersFitAll}

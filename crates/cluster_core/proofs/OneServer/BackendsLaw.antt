@@ -12,7 +12,7 @@ use Rattle.mur_config.specs.Nodes.{AreNodes, is_node_named, node_named}
 use Rattle.cluster_core.specs.Headline.Backends.{IsBackendOf, IsBackend}
 use Rattle.cluster_core.specs.World.{or_backend, backends_of}
 use Rattle.mur_config.proofs.NodesApart.{head_apart, tail_apart}
-use Rattle.cluster_core.proofs.OneServer.OneHome.{all_named}
+use Rattle.cluster_core.proofs.Starts.Kinds.{all_named}
 use Rattle.cluster_core.proofs.OneServer.NamesHeld.{bytes_itself}
 
 found_first : (node : Node) (nodes : List Node) → node_named node.name (node ∷ nodes) ≡ Some node
