@@ -30,7 +30,7 @@ use Rattle.cluster_core.proofs.Commands.Standing.{Fixed}
 use Rattle.cluster_core.proofs.Connections.ConnectionLaw.{IsInNoneOf, IsInPlaceOf, MarksStay, PlacesStay}
 use Rattle.cluster_core.proofs.Connections.KeepsLaw.{AreNodesOf, ConnectionIs, FeedsHold, KeepsLaw, KeepsOn, fixed_of, murder_of}
 use Rattle.cluster_core.proofs.Connections.KeepsLaw.ConnectionIs.{is_nobody, is_elsewhere, is_open, is_closed}
-use Rattle.cluster_core.proofs.Connections.Stays.{SameFront, StaysInPlace, connection_stays, same_front}
+use Rattle.cluster_core.proofs.Connections.Stays.{SameFront, StaysInPlace, connection_stays, same_front, no_front as no_front_now}
 use Rattle.cluster_core.proofs.Connections.Stays.SameFront.{both_none, both}
 use Rattle.cluster_core.proofs.Connections.StillFed.{feeds_alike}
 use Rattle.cluster_core.proofs.Feeds.Many.{same_murder}
@@ -61,10 +61,6 @@ not_at_both world conn node other front client known is none one two at known_at
     let nodes : node ≡ other = sym at ∙ (let e : client ≡ known = cc in ap (λ (c : Client). c.at) e) ∙ known_at in
     let no : Some front ≡ None = sym is ∙ ap (front_at world) nodes ∙ none in
     cc
-
-no_front_now : (conn : ℕ) (was now : Option Front) → SameFront conn was now → was ≡ None → now ≡ None
-no_front_now conn was now both_none e = refl
-no_front_now conn was now (both one two same) e = cc
 
 pub alike_stays : (fixed : Fixed) (conn : ℕ) (world next : World) (story : Tale) (heard : Heard) → SeesAlike fixed world next
     → ClientStays conn world next → ConnectionIs fixed conn world story heard → ConnectionIs fixed conn next story heard

@@ -87,7 +87,7 @@ front_was conn one now front both_none e = cc
 front_was conn one now front (both was next same) e = let is : next ≡ front = cc in
     record { front = was; is = refl; same = sym same ∙ ap (λ f. connection_at f conn) is }
 
-no_front : (conn : ℕ) (one now : Option Front) → SameFront conn one now → one ≡ None → now ≡ None
+pub no_front : (conn : ℕ) (one now : Option Front) → SameFront conn one now → one ≡ None → now ≡ None
 no_front conn one now both_none e = refl
 no_front conn one now (both was next same) e = cc
 

@@ -32,7 +32,7 @@ use Rattle.cluster_core.proofs.Nodes.Carried.{is_made}
 use Rattle.cluster_core.proofs.Nodes.Comes.{FrontMoved, HomeMoved, IsOfClient, front_does, front_moved, home_moved, master_no_front_at, master_no_home_at, with_front, with_home}
 use Rattle.cluster_core.proofs.Nodes.Known.{HearsLine, KeepsKnown, bytes_known, connect_known, hang_known, hears_line, others_known}
 
-no_one : {X : Type 0} (found : Option X) (x : X) → found ≡ Some x → found ≡ None → ⊥
+pub no_one : {X : Type 0} (found : Option X) (x : X) → found ≡ Some x → found ≡ None → ⊥
 no_one found x one none = (let no : Some x ≡ None = sym one ∙ none in cc)
 
 -- of what stands on the links it is

@@ -24,24 +24,11 @@ use Rattle.mur_base.specs.declared.point.AskId.{AskId}
 use Rattle.route_links.proofs.BarrierLaw.{hears_one}
 use Rattle.route_links.specs.Answered.{IsNumbered, noop_of, ok_of}
 use Rattle.route_links.specs.Barriers.{IsBarrierAt, IsOkOf, Place as Barrier, Place as barrier}
+use Rattle.cluster_core.proofs.Nodes.Known.{no_update}
 use Rattle.cluster_core.proofs.Commands.Place.{Place, at_barrier, its_message, Place as place}
 use Rattle.cluster_core.proofs.Places.Numbered.{noop_numbered, ok_numbered}
 
 -- ---- an OK is no news
-
-update_tells_none : ask_id_of (Text (codes "u")) ≡ None
-unfolding ask_id_of
-update_tells_none = ap (λ p. ask_in p) (none_of (codes "u") refl [])
-
-no_update : (tag : Tag) (told : AskId) → ask_id_of tag ≡ Some told → is_update_tag tag ≡ false
-no_update Star told e = refl
-no_update (Text text) told e = by (pointwise nat_eq text (codes "u")) refl
-  where
-    by : (same : Bool) → pointwise nat_eq text (codes "u") ≡ same → same ≡ false
-    by false h = refl
-    by true h =
-        let is : text ≡ codes "u" = same_text text (codes "u") (sym h) in
-        let no : None ≡ Some told = sym update_tells_none ∙ (sym (ap (λ t. ask_id_of (Text t)) is) ∙ e) in cc
 
 under_ok : (tag : Tag) (it : MResponse) (told : AskId) → ok_under tag it ≡ Some told → is_update_tag tag ≡ false
 under_ok tag (response.Ok text) told e = no_update tag told e
