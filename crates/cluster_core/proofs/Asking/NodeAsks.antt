@@ -14,7 +14,7 @@ use Rattle.feed_core.specs.declared.replica.Replica.{Replica}
 use Rattle.feed_core.proofs.RoutesLaw.{found_nearest}
 use Rattle.front_core.specs.declared.front.Front.{Front}
 use Rattle.front_core.specs.Front.{Stepped, connection_at, deliver, line_by, line_from, up_from, waits_for, ways_of}
-use Rattle.front_core.proofs.OwnOuts.{AreLetOut, HasConnections, MayAsk, MovesBy, bytes_own, connect_own, message_own}
+use Rattle.front_core.proofs.OwnOuts.{AreLetOut, MayAsk, MovesBy, bytes_own, connect_own, message_own}
 use Rattle.imap_types.specs.declared.op.Op.TheVariants.{Create}
 use Rattle.link_msg.specs.declared.answer.AnswerBody.TheVariants.{Moved}
 use Rattle.link_msg.specs.declared.ask.FrontAsk.{FrontAsk}

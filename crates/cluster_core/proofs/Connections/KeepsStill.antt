@@ -31,7 +31,6 @@ use Rattle.cluster_core.proofs.Connections.ConnectionLaw.{IsInNoneOf, IsInPlaceO
 use Rattle.cluster_core.proofs.Connections.KeepsLaw.{AreNodesOf, ConnectionIs, FeedsHold, KeepsLaw, KeepsOn, fixed_of, murder_of}
 use Rattle.cluster_core.proofs.Connections.KeepsLaw.ConnectionIs.{is_nobody, is_elsewhere, is_open, is_closed}
 use Rattle.cluster_core.proofs.Connections.Stays.{SameFront, StaysInPlace, connection_stays, same_front, no_front as no_front_now}
-use Rattle.cluster_core.proofs.Connections.Stays.SameFront.{both_none, both}
 use Rattle.cluster_core.proofs.Connections.StillFed.{feeds_alike}
 use Rattle.cluster_core.proofs.Feeds.Many.{same_murder}
 use Rattle.cluster_core.proofs.Nodes.Comes.{home_comes, home_does, none_comes, with_home}

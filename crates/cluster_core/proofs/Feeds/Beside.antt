@@ -123,10 +123,6 @@ module _ (config : Config) (world : World) (master : Master) (nodes : AreNodesOf
       (λ any front is. taken_else world.links from node any name (inr (λ e. home_apart node home at (sym e))))
       (λ any front is. taken_else world.links from node name any (inr (front_no_home any node front home is at)))
 
-  -- and what it does without a message
-  pub home_rests_feeds : (node : List ℕ) (home : BackNode) (next : BackActed) → home_at world node ≡ Some home → FeedsHold config (with_home world node next) master
-  home_rests_feeds node home next at = home_does_feeds node home at world.links next (λ any front is. refl) (λ any front is. refl)
-
   -- ---- a frontend
 
   module _ (node : List ℕ) (was : Front) (at : front_at world node ≡ Some was) (links : Links LinkMsg) (next : Stepped)

@@ -1,6 +1,5 @@
 -- A MESSAGE IS DELIVERED, whoever takes it: the law is kept, where the world holds what stands beside the law.
 use Rattle.std.proofs.Common.{◌≡◌, ℕ, List, ◌∷◌, Option, None, Some, refl, sym, ◌∙◌, ap, subst}
-use Rattle.back_node.specs.declared.node.BackNode.{BackNode}
 use Rattle.cluster_core.specs.Headline.Outside.{table_by, table_at}
 use Rattle.cluster_core.specs.World.{master_of, comes, home_at, master_at, node_at, taken_from_link}
 use Rattle.front_core.specs.declared.front.Front.{Front}

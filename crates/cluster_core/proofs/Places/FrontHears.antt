@@ -1,7 +1,6 @@
 -- What a frontend's link with the master makes of a barrier where the first message on it is taken: one that isn't the OK leaves it where it is, and an OK
 -- tells no replica anything.
-use Rattle.std.proofs.Common.{◌≡◌, ◌≢◌, ◌⊎◌, inl, inr, ℕ, Bool, true, false, cond, if◌then◌else◌, nat_eq, codes, List, [], ◌∷◌, filter, Option, None, Some, refl, sym, ◌∙◌, ap, subst, eqb-true}
-use Rattle.std.specs.Cmp.Lexicographic.{pointwise, same_text}
+use Rattle.std.proofs.Common.{◌≡◌, ◌≢◌, ◌⊎◌, inl, inr, ℕ, Bool, true, false, cond, if◌then◌else◌, List, [], ◌∷◌, filter, Option, None, Some, refl, sym, ◌∙◌, ap, subst, eqb-true}
 use Rattle.ask_routes.proofs.BarrierLaw.{ok_tells_its_command}
 use Rattle.ask_routes.specs.Barrier.{barrier_answered, ok_ask, ok_under}
 use Rattle.feed_core.specs.declared.replica.Replica.{Replica}
@@ -13,13 +12,10 @@ use Rattle.link_msg.specs.declared.message.LinkMsg.{LinkMsg}
 use Rattle.link_msg.specs.declared.message.LinkMsg.TheVariants.{Up, End, Line, Ask, Answer}
 use Rattle.link_queue.proofs.Wires.{same_itself}
 use Rattle.link_queue.specs.Links.{Links, on_link}
-use Rattle.mupdate_codec.proofs.AsksLaw.{none_of}
-use Rattle.mupdate_codec.specs.Asks.{ask_id_of, ask_in}
 use Rattle.mupdate_codec.specs.Whole.{response_in}
 use Rattle.mupdate_codec.specs.declared.command.MResponse.{MResponse}
 use Rattle.mupdate_codec.specs.declared.command.MResponse.TheVariants as response
 use Rattle.mupdate_codec.specs.declared.tag.Tag.{Tag}
-use Rattle.mupdate_codec.specs.declared.tag.Tag.TheVariants.{Star, Text}
 use Rattle.mur_base.specs.declared.point.AskId.{AskId}
 use Rattle.route_links.proofs.BarrierLaw.{hears_one}
 use Rattle.route_links.specs.Answered.{IsNumbered, noop_of, ok_of}

@@ -5,7 +5,7 @@ use Rattle.std.specs.Cmp.Lexicographic.{slice_cmp}
 use Rattle.feed_core.specs.declared.replica.Replica.{Replica}
 use Rattle.feed_links.specs.Lines.{messages_to}
 use Rattle.feed_links.specs.OneFeed.{IsFed}
-use Rattle.front_core.proofs.OneConnection.Places.{IsPlaced, about, about_command, of_connection, others_taken}
+use Rattle.front_core.proofs.OneConnection.Places.{IsPlaced, about, of_connection, others_taken}
 use Rattle.link_msg.specs.declared.message.LinkMsg.{LinkMsg}
 use Rattle.link_queue.specs.Links.{Links, on_link}
 use Rattle.many_links.specs.Murder.{Murder, put_all, taken}
@@ -19,10 +19,8 @@ use Rattle.name_commands.specs.Whose.{is_of_connection, is_own_out}
 use Rattle.name_commands.proofs.Marks.{says_others}
 use Rattle.name_commands.proofs.MasterLaw.{other_lines_pass, other_nodes_pass}
 use Rattle.name_links.specs.Serials.{Given}
-use Rattle.route_links.specs.Answered.{IsNumbered, noop_of}
 use Rattle.route_links.specs.Barriers.{IsBarrierAt}
 use Rattle.route_links.proofs.BarrierLaw.{others_are_taken, takes as takes_other}
-use Rattle.route_links.proofs.Tags.{noop_tells}
 use Rattle.cluster_core.proofs.Places.FrontSends.{about_noop}
 use Rattle.cluster_core.proofs.Commands.InPlace.{ShowEach}
 use Rattle.cluster_core.proofs.Commands.Place.{Place, at_backend, at_barrier, its_message, Place as place}
