@@ -3,7 +3,6 @@ pub mod InTime
 pub mod OneNodeLaw
 pub mod Unrolled
 pub mod FlowMade
-pub mod WholeLaw
 pub mod CarryOn
 pub mod NotLost
 pub mod OwnNodes

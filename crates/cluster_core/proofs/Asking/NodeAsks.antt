@@ -14,7 +14,7 @@ use Rattle.feed_core.specs.declared.replica.Replica.{Replica}
 use Rattle.feed_core.proofs.RoutesLaw.{found_nearest}
 use Rattle.front_core.specs.declared.front.Front.{Front}
 use Rattle.front_core.specs.Front.{Stepped, connection_at, deliver, line_by, line_from, up_from, waits_for, ways_of}
-use Rattle.front_core.proofs.OwnOuts.{AreLetOut, HasConnections, MayAsk, MovesBy, bytes_own, connect_own, message_own}
+use Rattle.front_core.proofs.OwnOuts.{AreLetOut, MayAsk, MovesBy, bytes_own, connect_own, message_own}
 use Rattle.imap_types.specs.declared.op.Op.TheVariants.{Create}
 use Rattle.link_msg.specs.declared.answer.AnswerBody.TheVariants.{Moved}
 use Rattle.link_msg.specs.declared.ask.FrontAsk.{FrontAsk}
@@ -34,7 +34,7 @@ use Rattle.node_step.proofs.OwnOuts.{ComesFrom, MayMark, takes_lets}
 use Rattle.cluster_core.specs.Headline.Asks.{IsFirstBackend, IsRightlyAsked, IsRightlySent}
 use Rattle.cluster_core.specs.Headline.Asks.IsRightlyAsked.{by_record, by_name_above, by_no_name}
 use Rattle.cluster_core.proofs.Nodes.Known.{answer_known, bytes_known, ok_known}
-use Rattle.cluster_core.proofs.Runs.QuietNodes.{AnyClient}
+use Rattle.cluster_core.proofs.Runs.QuietNodes.{AnyClient, any_connections, any_watchers}
 
 -- ---- by the records of a frontend
 
@@ -73,9 +73,6 @@ may_ask_by nodes front now is same = record {
 }
 
 -- ---- a frontend
-
-any_connections : (front : Front) → HasConnections AnyClient front
-any_connections front conn connection at = tt
 
 -- a message sends no command on
 abbrev pub MovesNobody : NodeInput → Type 0
@@ -155,10 +152,6 @@ module _ (nodes : List Node) (found : Option Front) where
   comes_from (From name (Line line)) = λ bytes. tt
   comes_from (From name (Ask ask)) = λ answer. tt
   comes_from (From name (Answer answer)) = tt
-
-  any_watchers : (watchers : List (ℕ × Tag)) → AllByRecursion (λ (e : ℕ × Tag). AnyClient e.0) watchers
-  any_watchers [] = tt
-  any_watchers (e ∷ watchers) = (tt, any_watchers watchers)
 
   any_streams : (streams : List (List ℕ × Tag)) → AllByRecursion (λ (e : List ℕ × Tag). (bytes : List ℕ) → May e.0 (Line bytes)) streams
   any_streams [] = tt

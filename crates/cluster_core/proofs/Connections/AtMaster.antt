@@ -14,6 +14,7 @@ use Rattle.node_step.specs.declared.input.NodeInput.{NodeInput}
 use Rattle.node_step.specs.declared.input.NodeInput.TheVariants.{Opened, Piece, Hung, From}
 use Rattle.node_step.specs.declared.node.NodeState.TheVariants as state
 use Rattle.cluster_core.specs.declared.world.World.{World}
+use Rattle.std.proofs.lemmas.Option.{same_Some}
 use Rattle.cluster_core.proofs.Connections.ConnectionLaw.{PlacesStay}
 use Rattle.cluster_core.proofs.Connections.GivenAlone.{GivenAlone, given_alone}
 use Rattle.cluster_core.proofs.Connections.KeepsLaw.{KeepsLaw, KeepsOn, fixed_of}
@@ -38,9 +39,6 @@ its_own master conn (Opened other) is = subst (λ c. AreItsOwn c (master_does ma
 its_own master conn (Piece other bytes) is = subst (λ c. AreItsOwn c (master_does master (Piece other bytes)).outs) is (bytes_alone master other bytes).own
 its_own master conn (Hung other) is = tt
 its_own master conn (From name message) is = absurd is
-
-just_front : {one other : Front} → Some one ≡ Some other → one ≡ other
-just_front h = cc
 
 -- all but the client's bytes, and the master's own connections, is as it was
 module _ (config : Config) (heard : ℕ → Heard) (world : World) (conn : ℕ) (input : NodeInput) (given : List ℕ) (law : KeepsLaw config heard world)
@@ -68,7 +66,7 @@ module _ (config : Config) (heard : ℕ → Heard) (world : World) (conn : ℕ) 
 
   replicas : ReplicasStay world next
   replicas any was now before later =
-      ap (λ (f : Front). f.replica) (just_front (sym later ∙ (moved.fronts any ∙ before)))
+      ap (λ (f : Front). f.replica) (same_Some _ _ (sym later ∙ (moved.fronts any ∙ before)))
 
   clients : (other : ℕ) → ClientStays other world next
   clients other = ⊎_elim

@@ -594,12 +594,3 @@ module _ (fixed : Fixed) (front : List ℕ) (replica : Replica) (conn : ℕ) whe
       (awaited_here fixed front replica conn inputs connection before told world why was)
   inputs_kept (Faults fault ∷ new) held before told sends last = λ inputs connection world all was.
       fault_kept inputs new held connection before told world fault last.0 last.1 was
-
-  -- the same of inputs that follow some of all that there are
-  pub follow_all : (all : List Input) (held : Option (List ℕ)) (before : World) (told : Tale) → MaySend before told → told.talk.requests conn ≡ requests_in all
-      → (passed new : List Input) (connection : Connection) (world : World) → passed ++ new ≡ all → FaultsLast new held
-      → ReadsOn fixed front replica conn passed connection before told world
-      → StandsOn fixed front replica conn all held (come connection new).connection before told (carry_all front world (come connection new).outs)
-  follow_all all held before told sends requests passed new connection world parts last was =
-      subst (λ f. StandsOn fixed front replica conn f held (come connection new).connection before told (carry_all front world (come connection new).outs)) parts
-      (inputs_kept new held before told sends last passed connection world (requests ∙ ap requests_in (sym parts)) was)

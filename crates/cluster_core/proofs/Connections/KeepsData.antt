@@ -41,6 +41,7 @@ use Rattle.node_step.specs.declared.node.NodeState.TheVariants as state
 use Rattle.node_step.proofs.NodeKinds.{front_is}
 use Rattle.schedule_text.specs.declared.event.Event.TheVariants.{Data}
 use Rattle.cluster_core.specs.declared.world.World.{World}
+use Rattle.std.proofs.lemmas.Option.{same_Some}
 use Rattle.cluster_core.proofs.Commands.Place.{Place as place}
 use Rattle.cluster_core.proofs.Commands.Released.{begun_released, released_count, stands_released}
 use Rattle.cluster_core.proofs.Commands.Standing.{Fixed, HasBegunSo, Stands, next_id}
@@ -228,11 +229,8 @@ module _ (config : Config) (heard : ℕ → Heard) (world : World) (law : KeepsL
           → GoesOn law.story.talk.requests told.talk.requests
       ended_asked stage standing = asked_more config heard conn bytes more (reading_of (setting_of config) bytes) e refl law.story.talk.requests law.requests
 
-      just_front : {one other : Front} → Some one ≡ Some other → one ≡ other
-      just_front h = cc
-
       same_replicas : ReplicasStay world world
-      same_replicas any was now before later = ap (λ (f : Front). f.replica) (just_front (sym later ∙ before))
+      same_replicas any was now before later = ap (λ (f : Front). f.replica) (same_Some _ _ (sym later ∙ before))
 
   ended_more : connection.stage ≡ Ended
       → IsStanding fixed node front.replica conn (inputs_in (setting_of config) (bytes ++ more)) (begun (bytes ++ more)) connection world told

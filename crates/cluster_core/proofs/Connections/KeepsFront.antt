@@ -31,6 +31,7 @@ use Rattle.node_step.specs.declared.node.NodeState.TheVariants as state
 use Rattle.cluster_core.specs.World.{setting_of, carry, carry_all, client_at, front_at, given_more, home_at}
 use Rattle.cluster_core.specs.declared.world.Client.{Client}
 use Rattle.cluster_core.specs.declared.world.World.{World}
+use Rattle.std.proofs.lemmas.Option.{same_Some}
 use Rattle.cluster_core.proofs.Commands.Standing.{Fixed, next_id}
 use Rattle.cluster_core.proofs.Connections.ConnectionLaw.{IsMade, IsStanding, MarksStay, PlacesStay}
 use Rattle.cluster_core.proofs.Connections.KeepsLaw.{ConnectionIs, FeedsHold, IsAt, IsGone, KeepsLaw, KeepsOn, fixed_of, murder_of}
@@ -90,19 +91,16 @@ fronts_at_other world next node front later other at moved same any = ⊎_elim
     (λ (ne : any ≢ node). same_front other (front_at world any) (front_at next any) (moved.fronts any ne))
     (same_or_other (slice_cmp nat_cmp) names_apart any node)
 
-just_front : {one other : Front} → Some one ≡ Some other → one ≡ other
-just_front e = cc
-
 -- and every replica is as it was
 pub replicas_stay : (world next : World) (node : List ℕ) (front later : Front) → front_at world node ≡ Some front → FrontMoved world node later next
     → later.replica ≡ front.replica → ReplicasStay world next
 replicas_stay world next node front later at moved same any was now before after = ⊎_elim
     (λ (e : any ≡ node).
-    let one : front ≡ was = just_front (sym at ∙ (ap (front_at world) (sym e) ∙ before)) in
-    let two : later ≡ now = just_front (sym moved.own ∙ (ap (front_at next) (sym e) ∙ after)) in
+    let one : front ≡ was = same_Some _ _ (sym at ∙ (ap (front_at world) (sym e) ∙ before)) in
+    let two : later ≡ now = same_Some _ _ (sym moved.own ∙ (ap (front_at next) (sym e) ∙ after)) in
     ap (λ (f : Front). f.replica) (sym two) ∙ same ∙ ap (λ (f : Front). f.replica) one)
     (λ (ne : any ≢ node).
-    let is : was ≡ now = just_front (sym before ∙ (sym (moved.fronts any ne) ∙ after)) in
+    let is : was ≡ now = same_Some _ _ (sym before ∙ (sym (moved.fronts any ne) ∙ after)) in
     ap (λ (f : Front). f.replica) (sym is))
     (same_or_other (slice_cmp nat_cmp) names_apart any node)
 

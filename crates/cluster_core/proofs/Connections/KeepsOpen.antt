@@ -37,6 +37,7 @@ use Rattle.node_step.specs.declared.input.NodeInput.TheVariants.{Opened}
 use Rattle.node_step.specs.declared.node.NodeState.TheVariants as state
 use Rattle.schedule_text.specs.declared.event.Event.TheVariants.{Open}
 use Rattle.cluster_core.specs.declared.world.World.{World}
+use Rattle.std.proofs.lemmas.Option.{same_Some}
 use Rattle.cluster_core.proofs.Commands.Place.{Place as place}
 use Rattle.cluster_core.proofs.Commands.Standing.{Fixed}
 use Rattle.cluster_core.proofs.Commands.Standing.Stands.{reads}
@@ -123,9 +124,6 @@ requests_first config story heard conn node e all other = ⊎_elim
 
 -- ---- at a node that is no frontend
 
-just_front : {one other : Front} → Some one ≡ Some other → one ≡ other
-just_front h = cc
-
 joined_keeps : (config : Config) (heard : ℕ → Heard) (world : World) (node : List ℕ) (conn : ℕ) (law : KeepsLaw config heard world)
     → front_at world node ≡ None → IsNew (fixed_of config) conn world law.story (heard conn)
     → KeepsOn config law.story (after_open config heard node conn) (with_client world node conn)
@@ -134,7 +132,7 @@ joined_keeps config heard world node conn law none first =
     let next : World = with_client world node conn in
     let off : is_frontend config node ≡ false = sym ((law.nodes).frontends node) ∙ ap is_some none in
     let stay : (other : ℕ) → PlacesStay fixed other world next = λ other. alike_stay fixed other world next (λ any. refl) refl in
-    let replicas : ReplicasStay world next = λ any was now before later. ap (λ (f : Front). f.replica) (just_front (sym later ∙ before)) in
+    let replicas : ReplicasStay world next = λ any was now before later. ap (λ (f : Front). f.replica) (same_Some _ _ (sym later ∙ before)) in
     record {
       law = record {
         master = law.master;

@@ -24,13 +24,13 @@ use Rattle.node_step.specs.declared.node.NodeState.{NodeState}
 use Rattle.node_step.specs.declared.node.NodeState.TheVariants as state
 use Rattle.node_step.specs.NodeStep.{as_back, as_front, as_master}
 use Rattle.cluster_core.specs.declared.world.World.{World}
+use Rattle.std.proofs.lemmas.Option.{same_Some}
 use Rattle.cluster_core.proofs.Commands.Place.{Place}
 use Rattle.cluster_core.proofs.Commands.Standing.{Fixed}
 use Rattle.cluster_core.proofs.Connections.ConnectionLaw.{IsInNoneOf, IsInPlaceOf, MarksStay, PlacesStay}
 use Rattle.cluster_core.proofs.Connections.KeepsLaw.{AreNodesOf, ConnectionIs, FeedsHold, KeepsLaw, KeepsOn, fixed_of, murder_of}
 use Rattle.cluster_core.proofs.Connections.KeepsLaw.ConnectionIs.{is_nobody, is_elsewhere, is_open, is_closed}
-use Rattle.cluster_core.proofs.Connections.Stays.{SameFront, StaysInPlace, connection_stays, same_front}
-use Rattle.cluster_core.proofs.Connections.Stays.SameFront.{both_none, both}
+use Rattle.cluster_core.proofs.Connections.Stays.{SameFront, StaysInPlace, connection_stays, same_front, no_front as no_front_now}
 use Rattle.cluster_core.proofs.Connections.StillFed.{feeds_alike}
 use Rattle.cluster_core.proofs.Feeds.Many.{same_murder}
 use Rattle.cluster_core.proofs.Nodes.Comes.{home_comes, home_does, none_comes, with_home}
@@ -60,10 +60,6 @@ not_at_both world conn node other front client known is none one two at known_at
     let nodes : node ≡ other = sym at ∙ (let e : client ≡ known = cc in ap (λ (c : Client). c.at) e) ∙ known_at in
     let no : Some front ≡ None = sym is ∙ ap (front_at world) nodes ∙ none in
     cc
-
-no_front_now : (conn : ℕ) (was now : Option Front) → SameFront conn was now → was ≡ None → now ≡ None
-no_front_now conn was now both_none e = refl
-no_front_now conn was now (both one two same) e = cc
 
 pub alike_stays : (fixed : Fixed) (conn : ℕ) (world next : World) (story : Tale) (heard : Heard) → SeesAlike fixed world next
     → ClientStays conn world next → ConnectionIs fixed conn world story heard → ConnectionIs fixed conn next story heard
@@ -118,9 +114,6 @@ still_kept config heard after world next master alike same law nodes many feeds 
 
 -- ---- a world in which nothing changed but perhaps the number of its last step
 
-just_front : {one other : Front} → Some one ≡ Some other → one ≡ other
-just_front e = cc
-
 abbrev IsThere : Fixed → World → List ℕ → Front → ℕ → ℕ → Place → Type 0
 IsThere fixed next node f conn command here = IsInPlaceOf fixed next node f.replica (record { conn = conn; command = command }) here
 
@@ -134,7 +127,7 @@ alike_but_steps fixed world next nodes clients broken links marks steps =
       fronts = λ conn node. same_front conn (front_at world node) (front_at next node) (fronts node);
       clients = λ conn. same_client (ap (λ c. value_at nat_cmp c conn) clients);
       in_place = λ conn node was now before after command here is.
-          (let same : was ≡ now = just_front (sym before ∙ (sym (fronts node) ∙ after)) in
+          (let same : was ≡ now = same_Some _ _ (sym before ∙ (sym (fronts node) ∙ after)) in
           subst (λ (f : Front). IsThere fixed next node f conn command here) same ((stay conn).in_place node was.replica command here is));
       in_none = λ conn. (stay conn).in_none;
       broken = broken;

@@ -2,7 +2,6 @@
 -- was, that its client, its marks and the tale of it are the same, and that its command is where it was. `fixed_places` gives that from `PlacesStay` where
 -- each frontend's replica is as it was.
 use Rattle.std.proofs.Common.{◌≡◌, ◌≢◌, ℕ, ◌+◌, Bool, true, false, List, length, Option, None, Some, refl, sym, ◌∙◌, ap, subst}
-use Rattle.std.specs.declared.cmp.Ordering.{Ordering}
 use Rattle.std.proofs.Math.Logic.{⊎_elim}
 use Rattle.feed_core.specs.declared.replica.Replica.{Replica}
 use Rattle.front_core.specs.Ending.{EndsOnlyLast}
@@ -16,8 +15,6 @@ use Rattle.imap_wire.specs.Frames.{begun}
 use Rattle.mark_history.specs.Marked.{Tale, last_mark}
 use Rattle.mark_history.specs.declared.mark.Mark.{Mark}
 use Rattle.mur_base.specs.declared.point.AskId.{AskId}
-use Rattle.mur_base.specs.Map.{value_at, with_value}
-use Rattle.mur_base.proofs.MapLaws.{TellsApart, same_or_other, value_at-with_value, value_at-with_value-other}
 use Rattle.route_links.specs.Barriers.{Place as Barrier, Place as barrier}
 use Rattle.cluster_core.specs.declared.world.World.{World}
 use Rattle.cluster_core.specs.World.{client_at, front_at}
@@ -87,7 +84,7 @@ front_was conn one now front both_none e = cc
 front_was conn one now front (both was next same) e = let is : next ≡ front = cc in
     record { front = was; is = refl; same = sym same ∙ ap (λ f. connection_at f conn) is }
 
-no_front : (conn : ℕ) (one now : Option Front) → SameFront conn one now → one ≡ None → now ≡ None
+pub no_front : (conn : ℕ) (one now : Option Front) → SameFront conn one now → one ≡ None → now ≡ None
 no_front conn one now both_none e = refl
 no_front conn one now (both was next same) e = cc
 
@@ -171,13 +168,3 @@ same_front conn (Some front) now e = subst (λ f. SameFront conn (Some front) f)
 pub is_not_closed : (heard : Heard) (bytes : List ℕ) → heard ≡ client bytes false → has_closed heard ≡ true → ⊥
 unfolding has_closed
 is_not_closed heard bytes e shut = (let both : false ≡ true = sym (ap has_closed e) ∙ shut in cc)
-
--- one value put in its own place
-pub same_put : {K X : Type 0} (cmp : K → K → Ordering) (apart : TellsApart cmp) (entries : List (K × X)) (key : K) (value : X)
-    → value_at cmp entries key ≡ Some value
-    → (other : K) → value_at cmp (with_value cmp entries key value) other ≡ value_at cmp entries other
-same_put cmp apart entries key value at other = ⊎_elim
-    (λ (e : other ≡ key). subst (λ k. value_at cmp (with_value cmp entries key value) k ≡ value_at cmp entries k) (sym e)
-    (value_at-with_value cmp apart entries key value value at ∙ sym at))
-    (λ (ne : other ≢ key). value_at-with_value-other cmp apart entries key other value ne)
-    (same_or_other cmp apart other key)

@@ -15,6 +15,7 @@ use Rattle.master_core.specs.declared.master.Master.{Master}
 use Rattle.mur_base.proofs.MapLaws.{names_apart, same_or_other}
 use Rattle.mur_config.specs.declared.config.Config.{Config}
 use Rattle.cluster_core.specs.declared.world.World.{World}
+use Rattle.std.proofs.lemmas.Option.{same_Some}
 use Rattle.cluster_core.proofs.Connections.KeepsLaw.{AreKeptAtBackends, FeedsHold, IsFedAt, KnowsBackends, TableNamesBackends}
 use Rattle.cluster_core.proofs.Nodes.Comes.{FrontMoved}
 use Rattle.cluster_core.proofs.Places.FrontWorlds.{SameHomes}
@@ -28,16 +29,13 @@ pub record WasFront (world : World) (node : List ℕ) (now : Front) : Type 0 whe
 abbrev pub FrontsWere : World → World → Type 0
 FrontsWere world next = (node : List ℕ) (now : Front) → front_at next node ≡ Some now → WasFront world node now
 
-just_front : {one other : Front} → Some one ≡ Some other → one ≡ other
-just_front e = cc
-
 pub fronts_were : (world next : World) (node : List ℕ) (front later : Front) → front_at world node ≡ Some front → FrontMoved world node later next
     → later.replica ≡ front.replica → FrontsWere world next
 fronts_were world next node front later at moved same any now there = ⊎_elim
     (λ (e : any ≡ node). record {
       was = front;
       at = ap (front_at world) e ∙ at;
-      same = ap (λ (f : Front). f.replica) (sym (just_front (sym moved.own ∙ (ap (front_at next) (sym e) ∙ there)))) ∙ same;
+      same = ap (λ (f : Front). f.replica) (sym (same_Some _ _ (sym moved.own ∙ (ap (front_at next) (sym e) ∙ there)))) ∙ same;
     })
     (λ (ne : any ≢ node). record { was = now; at = sym (moved.fronts any ne) ∙ there; same = refl })
     (same_or_other (slice_cmp nat_cmp) names_apart any node)

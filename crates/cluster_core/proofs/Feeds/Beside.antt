@@ -32,7 +32,7 @@ use Rattle.cluster_core.proofs.Nodes.Carried.{is_made}
 use Rattle.cluster_core.proofs.Nodes.Comes.{FrontMoved, HomeMoved, IsOfClient, front_does, front_moved, home_moved, master_no_front_at, master_no_home_at, with_front, with_home}
 use Rattle.cluster_core.proofs.Nodes.Known.{HearsLine, KeepsKnown, bytes_known, connect_known, hang_known, hears_line, others_known}
 
-no_one : {X : Type 0} (found : Option X) (x : X) → found ≡ Some x → found ≡ None → ⊥
+pub no_one : {X : Type 0} (found : Option X) (x : X) → found ≡ Some x → found ≡ None → ⊥
 no_one found x one none = (let no : Some x ≡ None = sym one ∙ none in cc)
 
 -- of what stands on the links it is
@@ -122,10 +122,6 @@ module _ (config : Config) (world : World) (master : Master) (nodes : AreNodesOf
       home_does_feeds node home at (without_first world.links from node) next
       (λ any front is. taken_else world.links from node any name (inr (λ e. home_apart node home at (sym e))))
       (λ any front is. taken_else world.links from node name any (inr (front_no_home any node front home is at)))
-
-  -- and what it does without a message
-  pub home_rests_feeds : (node : List ℕ) (home : BackNode) (next : BackActed) → home_at world node ≡ Some home → FeedsHold config (with_home world node next) master
-  home_rests_feeds node home next at = home_does_feeds node home at world.links next (λ any front is. refl) (λ any front is. refl)
 
   -- ---- a frontend
 

@@ -12,12 +12,9 @@ use Rattle.feed_links.specs.Lines.{messages_to}
 use Rattle.feed_links.specs.OneFeed.{AreNoops, IsNoop}
 use Rattle.feed_links.proofs.FeedLaw.{both}
 use Rattle.feed_links.proofs.Names.{other_name}
-use Rattle.front_core.specs.Reading.{inputs_of_more}
 use Rattle.front_core.specs.declared.connection.Connection.{Connection}
 use Rattle.front_core.specs.declared.connection.Stage.{Stage}
 use Rattle.front_core.specs.declared.connection.Stage.TheVariants.{Reading, Waits, Lists, Ended}
-use Rattle.front_core.specs.declared.front.Front.{Front}
-use Rattle.front_core.specs.Front.{bytes_by, bytes_in, connect, connect_at, connection_at, front_bytes_at, having_read, ways_of}
 use Rattle.front_core.specs.Taken.{Turned, Ways, answers_last, answers_now, comes_at, input_comes, input_in, inputs_come, next_of, request_in, to_begin, turned_by_need}
 use Rattle.imap_talk.specs.declared.inputs.Input.{Input}
 use Rattle.imap_talk.specs.declared.inputs.Input.TheVariants.{GoesOn, Asks, Faults}
@@ -136,40 +133,3 @@ module _ (setting : Setting) (ways : Ways) (apart : AreApart ways) (conn : ℕ) 
       let turned : Turned = comes_at setting ways conn connection input connection.stage in
       both (IsWellSent ways.master) turned.outs (inputs_come setting ways conn turned.connection inputs).outs one.outs
       (inputs_well turned.connection inputs (omega (arith, less, one.count)))
-
--- bytes of a client: no more inputs end in them than there are numbers left
-module _ (front : Front) (apart : AreApart (ways_of front)) (conn : ℕ) (fits : conn < 2 ^ 64) (bytes : List ℕ) where
-  abbrev HasNumbersFor : Connection → Type 0
-  HasNumbersFor connection = connection.answered + length (inputs_of_more front.setting connection.reader bytes) < 2 ^ 64
-
-  bytes_by_well : (connection : Connection) (stage : Stage) → HasNumbersFor connection → AreWellSent front.master (bytes_by front conn bytes connection stage).outs
-  unfolding bytes_by
-  bytes_by_well connection Ended less = tt
-  bytes_by_well connection Reading less =
-      inputs_well front.setting (ways_of front) apart conn fits (having_read front.setting connection bytes)
-      (inputs_of_more front.setting connection.reader bytes) less
-  bytes_by_well connection (Waits tag it) less =
-      inputs_well front.setting (ways_of front) apart conn fits (having_read front.setting connection bytes)
-      (inputs_of_more front.setting connection.reader bytes) less
-  bytes_by_well connection (Lists tag it) less =
-      inputs_well front.setting (ways_of front) apart conn fits (having_read front.setting connection bytes)
-      (inputs_of_more front.setting connection.reader bytes) less
-
-  bytes_at_well : (found : Option Connection) → ((connection : Connection) → found ≡ Some connection → HasNumbersFor connection)
-      → AreWellSent front.master (front_bytes_at front conn bytes found).outs
-  unfolding front_bytes_at
-  bytes_at_well None less = tt
-  bytes_at_well (Some connection) less = bytes_by_well connection connection.stage (less connection refl)
-
-  pub bytes_well : ((connection : Connection) → connection_at front conn ≡ Some connection → HasNumbersFor connection)
-      → AreWellSent front.master (bytes_in front conn bytes).outs
-  unfolding bytes_in
-  bytes_well less = bytes_at_well (connection_at front conn) less
-
-pub connect_well : (front : Front) (conn : ℕ) → AreWellSent front.master (connect front conn).outs
-unfolding connect connect_at
-connect_well front conn = by (connection_at front conn)
-  where
-    by : (found : Option Connection) → AreWellSent front.master (connect_at front conn found).outs
-    by None = (tt, tt)
-    by (Some there) = tt

@@ -24,7 +24,8 @@ use Rattle.node_step.specs.declared.node.NodeState.TheVariants as state
 use Rattle.node_step.specs.NodeStep.{as_back, as_front, as_master}
 use Rattle.cluster_core.specs.declared.world.World.{World}
 use Rattle.cluster_core.specs.World.{comes, master_at, node_at}
-use Rattle.cluster_core.proofs.Nodes.Comes.{front_comes, front_does, home_comes, home_does, master_comes, master_does, none_comes}
+use Rattle.node_step.proofs.NodeKinds.{a_back, a_front}
+use Rattle.cluster_core.proofs.Nodes.Comes.{front_comes, front_does, home_comes, home_does, master_comes, master_does, none_comes, a_master}
 use Rattle.cluster_core.proofs.Points.Outside.{AreThey, IsIts, says_watched}
 use Rattle.cluster_core.proofs.Keeps.Always.{HoldsAlways, IsWell, made_holds}
 use Rattle.cluster_core.proofs.Keeps.Watchers.{bytes_watch, connects_watch, leaves_watch}
@@ -112,18 +113,6 @@ no_master_back home master e = cc
 the_master : (one other : Master) → as_master (Some (state.Master one)) ≡ Some other → one ≡ other
 unfolding as_master
 the_master one other e = cc
-
-a_front : (front : Front) → as_front (Some (state.Front front)) ≡ Some front
-unfolding as_front
-a_front front = refl
-
-a_back : (home : BackNode) → as_back (Some (state.Back home)) ≡ Some home
-unfolding as_back
-a_back home = refl
-
-a_master : (master : Master) → as_master (Some (state.Master master)) ≡ Some master
-unfolding as_master
-a_master master = refl
 
 module _ (world : World) (node : List ℕ) (input : NodeInput) (holds : HoldsAlways world) (fits : InputFits world node input) where
   by_node : (found : Option NodeState) → node_at world node ≡ found → HoldsAlways (comes world node input)

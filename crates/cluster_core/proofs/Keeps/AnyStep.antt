@@ -1,6 +1,5 @@
 -- EVERY EVENT OF A RUN KEEPS THE LAW.
 use Rattle.std.proofs.Common.{◌≡◌, ◌≢◌, inl, inr, ℕ, List, [], ◌∷◌, Option, None, Some, refl, sym, ◌∙◌, ap}
-use Rattle.back_node.specs.declared.node.BackNode.{BackNode}
 use Rattle.cluster_core.specs.World.{master_of, home_at, node_at, start}
 use Rattle.front_core.specs.declared.front.Front.{Front}
 use Rattle.imap_talk.specs.Heard.{Heard}
@@ -19,6 +18,8 @@ use Rattle.node_step.specs.declared.node.NodeState.TheVariants as state
 use Rattle.node_step.specs.NodeStep.{as_back, as_front, as_master}
 use Rattle.cluster_core.specs.declared.world.World.{World}
 use Rattle.cluster_core.specs.Flow.{run_steps}
+use Rattle.node_step.proofs.NodeKinds.{a_back, a_front}
+use Rattle.cluster_core.proofs.Nodes.Comes.{a_master}
 use Rattle.cluster_core.proofs.Answers.AnswerComes.{NamesBackend}
 use Rattle.cluster_core.proofs.Answers.FrontTakes.{MessageNamesBackend}
 use Rattle.cluster_core.proofs.Connections.KeepsLaw.{KeepsLaw}
@@ -43,18 +44,6 @@ AnswersNameBackends world = (from to : List ℕ) (message : LinkMsg) (rest : Lis
 pub record HoldsBeside (config : Config) (world : World) : Type 0 where
   pub always : HoldsAlways world
   pub names : AnswersNameBackends world
-
-a_front : (front : Front) → as_front (Some (state.Front front)) ≡ Some front
-unfolding as_front
-a_front front = refl
-
-a_back : (home : BackNode) → as_back (Some (state.Back home)) ≡ Some home
-unfolding as_back
-a_back home = refl
-
-a_master : (master : Master) → as_master (Some (state.Master master)) ≡ Some master
-unfolding as_master
-a_master master = refl
 
 module _ (config : Config) (heard : ℕ → Heard) (world : World) (law : KeepsLaw config heard world) (beside : HoldsBeside config world) where
   sender_by : (from : List ℕ) (message : LinkMsg) (rest : List LinkMsg) → on_link world.links from (master_of config) ≡ message ∷ rest

@@ -1,6 +1,5 @@
 -- A MESSAGE IS DELIVERED, whoever takes it: the law is kept, where the world holds what stands beside the law.
 use Rattle.std.proofs.Common.{◌≡◌, ℕ, List, ◌∷◌, Option, None, Some, refl, sym, ◌∙◌, ap, subst}
-use Rattle.back_node.specs.declared.node.BackNode.{BackNode}
 use Rattle.cluster_core.specs.Headline.Outside.{table_by, table_at}
 use Rattle.cluster_core.specs.World.{master_of, comes, home_at, master_at, node_at, taken_from_link}
 use Rattle.front_core.specs.declared.front.Front.{Front}
@@ -15,10 +14,11 @@ use Rattle.node_step.specs.declared.node.NodeState.{NodeState}
 use Rattle.node_step.specs.declared.node.NodeState.TheVariants as state
 use Rattle.node_step.specs.NodeStep.{as_back, as_front, as_master}
 use Rattle.cluster_core.specs.declared.world.World.{World}
+use Rattle.node_step.proofs.NodeKinds.{a_back, a_front}
 use Rattle.cluster_core.proofs.Answers.FrontTakes.{MessageNamesBackend}
 use Rattle.cluster_core.proofs.Commands.Moving.{MovesBy}
 use Rattle.cluster_core.proofs.Connections.KeepsLaw.{KeepsLaw, KeepsOn}
-use Rattle.cluster_core.proofs.Nodes.Comes.{master_comes, master_moved}
+use Rattle.cluster_core.proofs.Nodes.Comes.{master_comes, master_moved, a_master}
 use Rattle.cluster_core.proofs.Points.Outside.{WatchersAreIts}
 use Rattle.cluster_core.proofs.Keeps.ToFront.{to_front_keeps}
 use Rattle.cluster_core.proofs.Keeps.ToHome.{to_home_keeps}
@@ -35,18 +35,6 @@ pub record StandsBeside (config : Config) (world : World) : Type 0 where
       → MessageNamesBackend (home_at world) message
   -- the master is sent messages by frontends and backends alone
   pub senders : (from : List ℕ) (message : LinkMsg) (rest : List LinkMsg) → on_link world.links from (master_of config) ≡ message ∷ rest → IsOne world from
-
-a_front : (front : Front) → as_front (Some (state.Front front)) ≡ Some front
-unfolding as_front
-a_front front = refl
-
-a_back : (home : BackNode) → as_back (Some (state.Back home)) ≡ Some home
-unfolding as_back
-a_back home = refl
-
-a_master : (master : Master) → as_master (Some (state.Master master)) ≡ Some master
-unfolding as_master
-a_master master = refl
 
 module _ (config : Config) (heard : ℕ → Heard) (world : World) (law : KeepsLaw config heard world) (beside : StandsBeside config world)
     (fits : NumbersFit heard) (from to : List ℕ) (message : LinkMsg) (rest : List LinkMsg) (first : on_link world.links from to ≡ message ∷ rest)

@@ -22,6 +22,7 @@ use Rattle.mur_base.specs.declared.point.AskId.{AskId}
 use Rattle.mur_config.specs.declared.config.Config.{Config}
 use Rattle.node_step.specs.declared.input.NodeInput.TheVariants.{From}
 use Rattle.cluster_core.specs.declared.world.World.{World}
+use Rattle.std.proofs.lemmas.Option.{same_Some}
 use Rattle.cluster_core.proofs.Commands.Standing.{Fixed, next_id}
 use Rattle.cluster_core.proofs.Connections.KeepsLaw.{ConnectionIs, IsAt, KeepsLaw, KeepsOn, fixed_of}
 use Rattle.cluster_core.proofs.Connections.KeepsLaw.ConnectionIs.{is_nobody, is_elsewhere, is_open, is_closed}
@@ -50,12 +51,6 @@ up_is_none is = (let no : Up ≡ Line is.0 = is.1 in cc)
 end_is_none : IsLine End → ⊥
 end_is_none is = (let no : End ≡ Line is.0 = is.1 in cc)
 
-same_connection : {one other : Connection} → Some one ≡ Some other → one ≡ other
-same_connection e = cc
-
-same_front : {one other : Front} → Some one ≡ Some other → one ≡ other
-same_front e = cc
-
 module _ (config : Config) (heard : ℕ → Heard) (world : World) (law : KeepsLaw config heard world) (from to : List ℕ) (front : Front)
     (rest : List LinkMsg) (there : front_at world to ≡ Some front) (fits : NumbersFit heard) where
   abbrev fixed : Fixed
@@ -79,8 +74,8 @@ module _ (config : Config) (heard : ℕ → Heard) (world : World) (law : KeepsL
   room_of : (conn : ℕ) (node : List ℕ) (its : Front) (connection : Connection) → node ≡ to → IsAt world conn node its connection
       → HasRoomAt connection connection.stage → (found : Connection) → connection_at front conn ≡ Some found → HasRoomAt found found.stage
   room_of conn node its connection same at room found is =
-      let fronts : its ≡ front = same_front (sym at.at ∙ (ap (front_at world) same ∙ there)) in
-      let both : connection ≡ found = same_connection (sym at.has ∙ (ap (λ (f : Front). connection_at f conn) fronts ∙ is)) in
+      let fronts : its ≡ front = same_Some _ _ (sym at.at ∙ (ap (front_at world) same ∙ there)) in
+      let both : connection ≡ found = same_Some _ _ (sym at.has ∙ (ap (λ (f : Front). connection_at f conn) fronts ∙ is)) in
       subst (λ (c : Connection). HasRoomAt c c.stage) both room
 
   ended_room : (connection : Connection) → connection.stage ≡ Ended → HasRoomAt connection connection.stage

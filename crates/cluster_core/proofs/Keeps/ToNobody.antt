@@ -10,6 +10,7 @@ use Rattle.mur_config.specs.declared.config.Config.{Config}
 use Rattle.node_step.specs.NodeStep.{as_back, as_front, as_master}
 use Rattle.node_step.specs.declared.input.NodeInput.TheVariants.{From}
 use Rattle.cluster_core.specs.declared.world.World.{World}
+use Rattle.std.proofs.lemmas.Option.{same_Some}
 use Rattle.cluster_core.proofs.Commands.InPlace.{IsInNone, IsInPlace}
 use Rattle.cluster_core.proofs.Commands.Standing.{Fixed}
 use Rattle.cluster_core.proofs.Connections.ConnectionLaw.{IsInNoneOf, IsInPlaceOf}
@@ -21,9 +22,6 @@ use Rattle.cluster_core.proofs.Nodes.Comes.{none_comes}
 use Rattle.cluster_core.proofs.Steps.Murders.{IsFirstOn}
 use Rattle.cluster_core.proofs.Steps.Nobody.{IsNobody, to_nobody_stays, to_nobody_stays_none}
 use Rattle.cluster_core.proofs.Steps.Worlds.{in_murder, none_in_murder}
-
-just_one : {one other : Front} → Some one ≡ Some other → one ≡ other
-just_one e = cc
 
 no_front : as_front None ≡ None
 unfolding as_front
@@ -65,7 +63,7 @@ module _ (config : Config) (heard : ℕ → Heard) (world : World) (law : KeepsL
 
   in_place : (conn : ℕ) → StaysInPlace fixed conn world next
   in_place conn node was now before after command here is =
-      let same : was ≡ now = just_one (sym before ∙ after) in
+      let same : was ≡ now = same_Some _ _ (sym before ∙ after) in
       let ne : to ≢ node = (λ e. (let no : None ≡ Some was = sym front_none ∙ ap (front_at world) e ∙ before in cc)) in
       let stays = to_nobody_stays murder from to message node was.replica (record { conn = conn; command = command }) here nobody ne is_first
       (in_murder fixed world law.master law.nodes.me node was.replica (record { conn = conn; command = command }) here is) in

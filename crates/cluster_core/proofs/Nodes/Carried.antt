@@ -28,7 +28,7 @@ none_lost node (Close conn) = refl
 none_lost node (mark ask counts) = refl
 none_lost node (tell ask how) = refl
 
-pub all_go : (node : List ℕ) (outs : List Out) → not_lost [] node outs ≡ outs
+all_go : (node : List ℕ) (outs : List Out) → not_lost [] node outs ≡ outs
 unfolding not_lost
 all_go node [] = refl
 all_go node (out ∷ outs) =
@@ -79,13 +79,13 @@ pub record IsCarried (node : List ℕ) (world : World) (outs : List Out) (next :
   pub marks : next.marks ≡ world.marks ++ marks_made world.steps outs
   pub steps : next.steps ≡ world.steps
 
-record IsOneCarried (node : List ℕ) (world : World) (out : Out) (next : World) : Type 0 where
-  nodes : next.nodes ≡ world.nodes
-  clients : next.clients ≡ given_out world.clients out
-  broken : next.broken ≡ world.broken
-  links : next.links ≡ put_out node world.links out
-  marks : next.marks ≡ world.marks ++ mark_made world.steps out
-  steps : next.steps ≡ world.steps
+pub record IsOneCarried (node : List ℕ) (world : World) (out : Out) (next : World) : Type 0 where
+  pub nodes : next.nodes ≡ world.nodes
+  pub clients : next.clients ≡ given_out world.clients out
+  pub broken : next.broken ≡ world.broken
+  pub links : next.links ≡ put_out node world.links out
+  pub marks : next.marks ≡ world.marks ++ mark_made world.steps out
+  pub steps : next.steps ≡ world.steps
 
 given_carried : (node : List ℕ) (world : World) (conn : ℕ) (bytes : List ℕ) (found : Option Client)
     → (next : World) × (next ≡ given_more world conn bytes found) × (next ≡ record world { clients = given_by world.clients conn bytes found })
@@ -94,7 +94,7 @@ given_carried node world conn bytes None = (world, refl, refl)
 given_carried node world conn bytes (Some client) =
     (record world { clients = with_value nat_cmp world.clients conn (record client { given = client.given ++ bytes }) }, refl, refl)
 
-one_carried : (node : List ℕ) (world : World) (out : Out) → IsOneCarried node world out (carry node world out)
+pub one_carried : (node : List ℕ) (world : World) (out : Out) → IsOneCarried node world out (carry node world out)
 unfolding carry given_out put_out
 one_carried node world (to_client conn bytes) =
     let is = given_carried node world conn bytes (client_at world conn) in

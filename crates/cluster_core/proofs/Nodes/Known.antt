@@ -115,7 +115,7 @@ update_tells_none : ask_id_of (Text (codes "u")) ≡ None
 unfolding ask_id_of split_dash
 update_tells_none = refl
 
-no_update : (tag : Tag) (id : AskId) → ask_id_of tag ≡ Some id → is_update_tag tag ≡ false
+pub no_update : (tag : Tag) (id : AskId) → ask_id_of tag ≡ Some id → is_update_tag tag ≡ false
 no_update Star id told = refl
 no_update (Text text) id told = by_test (pointwise nat_eq text (codes "u")) refl
   where

@@ -10,10 +10,11 @@ use Rattle.cluster_core.specs.declared.world.World.{World}
 use Rattle.cluster_core.specs.Flow.{run_steps, steps_of_run}
 use Rattle.cluster_core.specs.Headline.HomeLaw.{KeepsOneHomeEach}
 use Rattle.cluster_core.specs.Headline.Outside.{table_at}
+use Rattle.cluster_core.proofs.Runs.OneNodeLaw.{one_more_step}
 use Rattle.cluster_core.proofs.Commands.Moving.{MovesBy}
 use Rattle.cluster_core.proofs.Connections.KeepsLaw.{KeepsLaw, KeepsOn}
 use Rattle.cluster_core.proofs.OneServer.EachStep.{EachKeeps, LawBehind, TellsMoves, heard_next, kept_all}
-use Rattle.cluster_core.proofs.OneServer.MarksGoOn.{run_steps-append, steps_made}
+use Rattle.cluster_core.proofs.Runs.StepsMade.{steps_made}
 use Rattle.cluster_core.proofs.OneServer.MovingLaw.{StartsWith, moves_then, moving_of}
 use Rattle.cluster_core.proofs.OneServer.OneHome.{one_home_each}
 use Rattle.cluster_core.specs.Numbers.{NumbersFit, NumbersFitAll}
@@ -32,16 +33,12 @@ HoldsBehindAll config Holds steps = (before later : List Event) → steps ≡ be
 same_heard : {A B : Type 0} {f g : A → B} → ((x : A) → f x ≡ g x) → f ≡ g
 same_heard h = λ i x. h x i
 
-one_more : (world : World) (before : List Event) (event : Event) → run_steps world (before ++ event ∷ []) ≡ steps_by (run_steps world before) event
-unfolding run_steps
-one_more world before event = run_steps-append world before (event ∷ [])
-
 -- what holds of a world and what was heard, as a run has both
 as_run : (config : Config) (before : List Event) (event : Event) (P : (ℕ → Heard) → World → Type 0)
     → P (λ conn. hears config conn (heard config conn before) event) (steps_by (run_steps (start config) before) event)
     → P (λ conn. heard config conn (before ++ event ∷ [])) (run_steps (start config) (before ++ event ∷ []))
 as_run config before event P is =
-    subst (λ (w : World). P (λ conn. heard config conn (before ++ event ∷ [])) w) (sym (one_more (start config) before event))
+    subst (λ (w : World). P (λ conn. heard config conn (before ++ event ∷ [])) w) (sym (one_more_step (start config) before event))
     (subst (λ (came : ℕ → Heard). P came (steps_by (run_steps (start config) before) event))
     (sym (same_heard (λ conn. heard_next config conn before event))) is)
 
@@ -67,7 +64,7 @@ moves_next config steps before event later moving e same =
     (sym same)
     (subst (λ n. MovesBy (moving_of config steps) (n + 1) (table_at (steps_by (run_steps (start config) before) event) (master_of config)))
     (sym (steps_made config before))
-    (subst (λ (w : World). MovesBy (moving_of config steps) (length before + 1) (table_at w (master_of config))) (one_more (start config) before event)
+    (subst (λ (w : World). MovesBy (moving_of config steps) (length before + 1) (table_at w (master_of config))) (one_more_step (start config) before event)
     (moves_then config steps before event later e)))
 
 pub each_keeps : (config : Config) (steps : List Event) (Holds : World → Type 0) → StepsKeep config Holds steps

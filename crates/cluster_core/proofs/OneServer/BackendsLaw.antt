@@ -1,9 +1,8 @@
 -- The listed backends are those of the configuration.
-use Rattle.std.proofs.Common.{◌≡◌, ◌≢◌, ℕ, Bool, true, false, cond, List, [], ◌∷◌, Some, refl, ◌∙◌, ap, get_or}
+use Rattle.std.proofs.Common.{◌≡◌, ◌≢◌, ℕ, cond, List, [], ◌∷◌, Some, refl, ◌∙◌, ap, get_or}
 use Rattle.std.specs.Prelude.{All, AllPairs}
 use Rattle.std.specs.Str.{bytes_eq}
 use Rattle.std.proofs.lemmas.List.Elements.{All-cons, All-nil}
-use Rattle.std.proofs.lemmas.Slice.Eq.{bytes_eq-Decides}
 use Rattle.mur_config.specs.declared.config.Config.{Config}
 use Rattle.mur_config.specs.declared.node.Kind.{Kind}
 use Rattle.mur_config.specs.declared.node.Kind.TheVariants.{Master, Frontend, Backend as backend_kind}
@@ -12,23 +11,19 @@ use Rattle.mur_config.specs.Nodes.{AreNodes, is_node_named, node_named}
 use Rattle.cluster_core.specs.Headline.Backends.{IsBackendOf, IsBackend}
 use Rattle.cluster_core.specs.World.{or_backend, backends_of}
 use Rattle.mur_config.proofs.NodesApart.{head_apart, tail_apart}
-use Rattle.cluster_core.proofs.OneServer.OneHome.{all_named}
+use Rattle.cluster_core.proofs.Starts.Kinds.{all_named, not_equal}
 use Rattle.cluster_core.proofs.OneServer.NamesHeld.{bytes_itself}
 
 found_first : (node : Node) (nodes : List Node) → node_named node.name (node ∷ nodes) ≡ Some node
 unfolding node_named is_node_named
 found_first node nodes = ap (λ b. cond b (Some node) (node_named node.name nodes)) (bytes_itself node.name)
 
-not_same : (one other : List ℕ) (b : Bool) → bytes_eq one other ≡ b → one ≢ other → b ≡ false
-not_same one other true e ne = absurd (ne ((bytes_eq-Decides one other).0 e))
-not_same one other false e ne = refl
-
 -- a backend of some nodes is one of these and another before them, which has another name
 found_behind : (node : Node) (nodes : List Node) (name : List ℕ) → node.name ≢ name → IsBackendOf nodes name → IsBackendOf (node ∷ nodes) name
 unfolding node_named is_node_named
 found_behind node nodes name ne is = record {
   node = is.node;
-  at = ap (λ b. cond b (Some node) (node_named name nodes)) (not_same node.name name (bytes_eq node.name name) refl ne) ∙ is.at;
+  at = ap (λ b. cond b (Some node) (node_named name nodes)) (not_equal node.name name (bytes_eq node.name name) refl ne) ∙ is.at;
   kind = is.kind;
 }
 

@@ -4,7 +4,7 @@ use Rattle.std.specs.Prelude.{All, AllPairs, count_by}
 use Rattle.std.specs.Ordering.{nat_cmp}
 use Rattle.std.specs.Cmp.Lexicographic.{slice_cmp}
 use Rattle.std.specs.Str.{bytes_eq}
-use Rattle.std.proofs.lemmas.List.Elements.{All-cons, All-head, All-nil, All-tail}
+use Rattle.std.proofs.lemmas.List.Elements.{All-head, All-tail}
 use Rattle.std.proofs.lemmas.List.Kept.{AllPairs-cons}
 use Rattle.std.proofs.lemmas.List.Sums.{sum_by-append}
 use Rattle.backend_core.specs.HomeLaws.{is_open}
@@ -25,25 +25,12 @@ use Rattle.cluster_core.specs.World.{backends_of, layout_of, or_backend}
 use Rattle.cluster_core.specs.declared.world.World.{World}
 use Rattle.cluster_core.specs.Headline.OpenAt.{IsOpenAt, OpensAtOneNode}
 use Rattle.cluster_core.specs.Shown.{held_at_node, home_row, home_rows, home_rows_of, names_at, row_if, rows_of_all}
+use Rattle.cluster_core.proofs.Starts.Kinds.{all_named}
 use Rattle.cluster_core.proofs.Connections.KeepsLaw.{KeepsLaw}
 use Rattle.cluster_core.proofs.OneServer.NamesHeld.{is_name, names_cons, names_rise, nothing_rises, once_among, same_bytes}
 use Rattle.cluster_core.proofs.OneServer.OpenLaw.{open_at_one}
 
 -- ---- the backends of a configuration are each listed once
-
-name_by : (P : List ℕ → Type 0) (node : Node) (kind : Kind) (names : List (List ℕ)) → P node.name → All P names
-    → All P (or_backend kind node.name names)
-unfolding or_backend
-name_by P node Master names its all = all
-name_by P node Frontend names its all = all
-name_by P node backend_kind names its all = All-cons P node.name names its all
-
-pub all_named : (P : List ℕ → Type 0) (nodes : List Node) → All (λ (node : Node). P node.name) nodes → All P (backends_of nodes)
-unfolding backends_of
-all_named P [] all = All-nil P
-all_named P (node ∷ nodes) all =
-    name_by P node node.kind (backends_of nodes) (All-head (λ (n : Node). P n.name) node nodes all)
-    (all_named P nodes (All-tail (λ (n : Node). P n.name) node nodes all))
 
 abbrev pub AreApart : List (List ℕ) → Type 0
 AreApart names = AllPairs (λ (one other : List ℕ). one ≢ other) names

@@ -17,6 +17,7 @@ use Rattle.node_record.specs.Table.{MailboxTable}
 use Rattle.route_links.proofs.Tags.{ok_is_read}
 use Rattle.route_links.specs.Answered.{ok_line, ok_of}
 use Rattle.route_links.specs.Barriers.{Place as barrier}
+use Rattle.std.proofs.lemmas.Option.{none-some, same_Some}
 use Rattle.cluster_core.proofs.Commands.InPlace.{IsInNone, IsInPlace, IsThere}
 use Rattle.cluster_core.proofs.Commands.Place.{Place, carried, its_message, Place as place}
 use Rattle.cluster_core.proofs.Places.Numbered.{ok_numbered}
@@ -82,9 +83,6 @@ NoneComes = (master : List ℕ) (nodes : Nodes) (links : Links LinkMsg) (from to
 
 -- ---- the message of a place
 
-same_carried : (one other : Carried LinkMsg) → Some one ≡ Some other → one ≡ other
-same_carried one other e = cc
-
 pub record IsCarried (a b : List ℕ) (own : LinkMsg) (from to : List ℕ) (message : LinkMsg) : Type 0 where
   pub from_is : a ≡ from
   pub to_is : b ≡ to
@@ -93,7 +91,7 @@ pub record IsCarried (a b : List ℕ) (own : LinkMsg) (from to : List ℕ) (mess
 pub carried_parts : (a b : List ℕ) (own : LinkMsg) (from to : List ℕ) (message : LinkMsg) → carried a b own ≡ carried from to message
     → IsCarried a b own from to message
 carried_parts a b own from to message e =
-    let same = same_carried (record { from = a; to = b; message = own }) (record { from = from; to = to; message = message }) e in
+    let same = same_Some (record { from = a; to = b; message = own }) (record { from = from; to = to; message = message }) e in
     record {
       from_is = ap (λ (c : Carried LinkMsg). c.from) same;
       to_is = ap (λ (c : Carried LinkMsg). c.to) same;
@@ -146,9 +144,6 @@ answer_tells master nodes links from to answer rest front replica id here fronte
 same_line : (one other : List ℕ) → Line one ≡ Line other → one ≡ other
 same_line one other e = cc
 
-same_told : (one other : AskId) → Some one ≡ Some other → one ≡ other
-same_told one other e = cc
-
 -- it is read, since it tells the command
 ok_again : (bytes : List ℕ) (id : AskId) → about (Line bytes) ≡ of_connection id.conn → Line bytes ≡ ok_of id → barrier_answered bytes ≡ Some id
 ok_again bytes id own is =
@@ -158,7 +153,7 @@ ok_by : (master from to bytes : List ℕ) (told : AskId) (front : List ℕ) (id 
     → about (Line bytes) ≡ of_connection id.conn → WhatComes master from to (Line bytes) front id here → OkIsIts front to told id here
 ok_by master from to bytes told front id here ok own (its_answer answer is at here_is) = cc
 ok_by master from to bytes told front id here ok own (its_ok table is of_master at here_is) =
-    record { own = same_told told id (sym ok ∙ ok_again bytes id own is); at = at; table = table; here_is = here_is }
+    record { own = same_Some told id (sym ok ∙ ok_again bytes id own is); at = at; table = table; here_is = here_is }
 
 pub about_ok : (bytes : List ℕ) (told : AskId) → barrier_answered bytes ≡ Some told → about (Line bytes) ≡ of_connection told.conn
 about_ok bytes told ok = ap about_command (ok_tells_its_command bytes told ok)
@@ -193,9 +188,6 @@ idle_is_nobodys master nodes links from to message rest front replica id here fr
 
 -- ---- a connection that is in none
 
-not_there : (it : Carried LinkMsg) → None ≡ Some it → ⊥
-not_there it e = cc
-
 pub none_comes : NoneComes
 none_comes master nodes links from to message rest conn first is own =
-    not_there _ (first_of links from to message rest (of_connection conn) None first own is.message).0
+    none-some _ (first_of links from to message rest (of_connection conn) None first own is.message).0

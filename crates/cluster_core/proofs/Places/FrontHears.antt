@@ -1,7 +1,6 @@
 -- What a frontend's link with the master makes of a barrier where the first message on it is taken: one that isn't the OK leaves it where it is, and an OK
 -- tells no replica anything.
-use Rattle.std.proofs.Common.{◌≡◌, ◌≢◌, ◌⊎◌, inl, inr, ℕ, Bool, true, false, cond, if◌then◌else◌, nat_eq, codes, List, [], ◌∷◌, filter, Option, None, Some, refl, sym, ◌∙◌, ap, subst, eqb-true}
-use Rattle.std.specs.Cmp.Lexicographic.{pointwise, same_text}
+use Rattle.std.proofs.Common.{◌≡◌, ◌≢◌, ◌⊎◌, inl, inr, ℕ, Bool, true, false, cond, if◌then◌else◌, List, [], ◌∷◌, filter, Option, None, Some, refl, sym, ◌∙◌, ap, subst, eqb-true}
 use Rattle.ask_routes.proofs.BarrierLaw.{ok_tells_its_command}
 use Rattle.ask_routes.specs.Barrier.{barrier_answered, ok_ask, ok_under}
 use Rattle.feed_core.specs.declared.replica.Replica.{Replica}
@@ -13,35 +12,19 @@ use Rattle.link_msg.specs.declared.message.LinkMsg.{LinkMsg}
 use Rattle.link_msg.specs.declared.message.LinkMsg.TheVariants.{Up, End, Line, Ask, Answer}
 use Rattle.link_queue.proofs.Wires.{same_itself}
 use Rattle.link_queue.specs.Links.{Links, on_link}
-use Rattle.mupdate_codec.proofs.AsksLaw.{none_of}
-use Rattle.mupdate_codec.specs.Asks.{ask_id_of, ask_in}
 use Rattle.mupdate_codec.specs.Whole.{response_in}
 use Rattle.mupdate_codec.specs.declared.command.MResponse.{MResponse}
 use Rattle.mupdate_codec.specs.declared.command.MResponse.TheVariants as response
 use Rattle.mupdate_codec.specs.declared.tag.Tag.{Tag}
-use Rattle.mupdate_codec.specs.declared.tag.Tag.TheVariants.{Star, Text}
 use Rattle.mur_base.specs.declared.point.AskId.{AskId}
 use Rattle.route_links.proofs.BarrierLaw.{hears_one}
 use Rattle.route_links.specs.Answered.{IsNumbered, noop_of, ok_of}
 use Rattle.route_links.specs.Barriers.{IsBarrierAt, IsOkOf, Place as Barrier, Place as barrier}
+use Rattle.cluster_core.proofs.Nodes.Known.{no_update}
 use Rattle.cluster_core.proofs.Commands.Place.{Place, at_barrier, its_message, Place as place}
 use Rattle.cluster_core.proofs.Places.Numbered.{noop_numbered, ok_numbered}
 
 -- ---- an OK is no news
-
-update_tells_none : ask_id_of (Text (codes "u")) ≡ None
-unfolding ask_id_of
-update_tells_none = ap (λ p. ask_in p) (none_of (codes "u") refl [])
-
-no_update : (tag : Tag) (told : AskId) → ask_id_of tag ≡ Some told → is_update_tag tag ≡ false
-no_update Star told e = refl
-no_update (Text text) told e = by (pointwise nat_eq text (codes "u")) refl
-  where
-    by : (same : Bool) → pointwise nat_eq text (codes "u") ≡ same → same ≡ false
-    by false h = refl
-    by true h =
-        let is : text ≡ codes "u" = same_text text (codes "u") (sym h) in
-        let no : None ≡ Some told = sym update_tells_none ∙ (sym (ap (λ t. ask_id_of (Text t)) is) ∙ e) in cc
 
 under_ok : (tag : Tag) (it : MResponse) (told : AskId) → ok_under tag it ≡ Some told → is_update_tag tag ≡ false
 under_ok tag (response.Ok text) told e = no_update tag told e

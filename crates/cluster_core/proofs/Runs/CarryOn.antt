@@ -3,7 +3,7 @@ use Rattle.std.proofs.Common.{◌≡◌, ℕ, ◌+◌, Bool, true, false, if◌t
 use Rattle.link_msg.specs.declared.out.Out.{Out}
 use Rattle.cluster_core.specs.declared.world.World.{World}
 use Rattle.cluster_core.specs.World.{carry, carry_all, carry_or_lose, is_lost, not_lost}
-use Rattle.cluster_core.proofs.Runs.WholeLaw.{carry_broken}
+use Rattle.cluster_core.proofs.Nodes.Carried.{one_carried}
 
 pub empty_by_length : {X : Type 0} (xs : List X) → length xs ≡ 0 → xs ≡ []
 empty_by_length [] h = refl
@@ -29,7 +29,7 @@ left_by : (node : List ℕ) (world : World) (out : Out) (rest : List Out) (lost 
 unfolding carry_all
 left_by node world out rest true is = sym (goes_by node world out rest true is)
 left_by node world out rest false is =
-    ap (λ broken. carry_all node (carry node world out) (not_lost broken node rest)) (carry_broken node world out)
+    ap (λ broken. carry_all node (carry node world out) (not_lost broken node rest)) (one_carried node world out).broken
     ∙ sym (goes_by node world out rest false is)
 
 pub carried_on : (node : List ℕ) (world next : World) (out : Out) (all rest : List Out) → all ≡ out ∷ rest → next ≡ carry_or_lose node world out

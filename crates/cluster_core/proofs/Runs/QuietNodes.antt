@@ -306,7 +306,7 @@ moves_any End = tt
 moves_any (Line line) = tt
 moves_any (Ask ask) = tt
 
-any_connections : (front : Front) → HasConnections AnyClient front
+pub any_connections : (front : Front) → HasConnections AnyClient front
 any_connections front conn connection at = tt
 
 front_quiet : (front : Front) (input : NodeInput) → AreQuietOuts ⊥ (front_takes front input).outs
@@ -317,7 +317,7 @@ front_quiet front (Hung conn) = tt
 front_quiet front (From name message) =
     (message_own AnyClient QuietTo front (any_connections front) (asks_any front) name message (moves_any message)).outs
 
-any_watchers : (watchers : List (ℕ × Tag)) → AllByRecursion (λ (e : ℕ × Tag). AnyClient e.0) watchers
+pub any_watchers : (watchers : List (ℕ × Tag)) → AllByRecursion (λ (e : ℕ × Tag). AnyClient e.0) watchers
 any_watchers [] = tt
 any_watchers (e ∷ watchers) = (tt, any_watchers watchers)
 

@@ -353,7 +353,7 @@ among_between from to (first ∷ froms) nodes (suc k) h e there joined =
     Contains-append_right (links_from first nodes) (links_between froms nodes) (link from to)
     (among_between from to froms nodes k (omega arith) e there joined)
 
-not_equal : (one other : List ℕ) (same : Bool) → bytes_eq one other ≡ same → one ≢ other → same ≡ false
+pub not_equal : (one other : List ℕ) (same : Bool) → bytes_eq one other ≡ same → one ≢ other → same ≡ false
 not_equal one other true e ne = absurd (ne ((bytes_eq-Decides one other).0 e))
 not_equal one other false e ne = refl
 

@@ -50,6 +50,8 @@ use Rattle.node_step.specs.declared.node.NodeState.TheVariants as state
 use Rattle.node_step.specs.NodeStep.{as_back, as_front, as_master}
 use Rattle.node_step.proofs.NodeKinds.{back_is, back_no_front, front_is, front_no_back}
 use Rattle.cluster_core.specs.declared.world.World.{World}
+use Rattle.cluster_core.proofs.Feeds.Beside.{no_one}
+use Rattle.cluster_core.proofs.Nodes.Comes.{a_master}
 use Rattle.cluster_core.proofs.Commands.InPlace.{ShowEach}
 use Rattle.cluster_core.proofs.Commands.Place.{Place as place}
 use Rattle.cluster_core.proofs.Connections.ConnectionLaw.{IsInNoneOf}
@@ -60,13 +62,6 @@ use Rattle.cluster_core.proofs.Starts.Begins.Starts.{is_front, is_home, is_silen
 use Rattle.cluster_core.proofs.OneServer.MovingLaw.{StartsWith}
 use Rattle.cluster_core.proofs.Starts.Places.{named_place}
 use Rattle.cluster_core.proofs.Starts.Kinds.{backend_named, first_backend, is_backend_node, only_master}
-
-no_one : {X : Type 0} (found : Option X) (x : X) → found ≡ Some x → found ≡ None → ⊥
-no_one found x one none = (let no : Some x ≡ None = sym one ∙ none in cc)
-
-a_master : (master : Master) → as_master (Some (state.Master master)) ≡ Some master
-unfolding as_master
-a_master master = refl
 
 front_no_master : (found : Option NodeState) (front : Front) → as_front found ≡ Some front → as_master found ≡ None
 unfolding as_master

@@ -5,7 +5,7 @@ use Rattle.std.specs.Cmp.Lexicographic.{slice_cmp}
 use Rattle.feed_core.specs.declared.replica.Replica.{Replica}
 use Rattle.feed_links.specs.Lines.{messages_to}
 use Rattle.feed_links.specs.OneFeed.{IsFed}
-use Rattle.front_core.proofs.OneConnection.Places.{IsPlaced, about, about_command, of_connection, others_taken}
+use Rattle.front_core.proofs.OneConnection.Places.{IsPlaced, about, of_connection, others_taken}
 use Rattle.link_msg.specs.declared.message.LinkMsg.{LinkMsg}
 use Rattle.link_queue.specs.Links.{Links, on_link}
 use Rattle.many_links.specs.Murder.{Murder, put_all, taken}
@@ -19,20 +19,15 @@ use Rattle.name_commands.specs.Whose.{is_of_connection, is_own_out}
 use Rattle.name_commands.proofs.Marks.{says_others}
 use Rattle.name_commands.proofs.MasterLaw.{other_lines_pass, other_nodes_pass}
 use Rattle.name_links.specs.Serials.{Given}
-use Rattle.route_links.specs.Answered.{IsNumbered, noop_of}
 use Rattle.route_links.specs.Barriers.{IsBarrierAt}
 use Rattle.route_links.proofs.BarrierLaw.{others_are_taken, takes as takes_other}
-use Rattle.route_links.proofs.Tags.{noop_tells}
+use Rattle.cluster_core.proofs.Places.FrontSends.{about_noop}
 use Rattle.cluster_core.proofs.Commands.InPlace.{ShowEach}
 use Rattle.cluster_core.proofs.Commands.Place.{Place, at_backend, at_barrier, its_message, Place as place}
 use Rattle.cluster_core.proofs.Steps.MasterLinks.{barrier_behind, downs_taken, shows_behind, up_else, up_first}
 use Rattle.cluster_core.proofs.Steps.MasterSteps.{IsFedFront, LinesLeave, LinesLeaveNone, MasterTakes}
 use Rattle.cluster_core.proofs.Steps.Murders.{IsIn}
 use Rattle.cluster_core.proofs.Steps.Outs.{not_about_it, puts_none}
-
--- the NOOP of a command is about its connection
-pub noop_about : (id : AskId) → IsNumbered id → about (noop_of id) ≡ of_connection id.conn
-noop_about id numbered = ap about_command (noop_tells id numbered)
 
 -- ---- it takes a message
 
@@ -92,7 +87,7 @@ module _ (murder : Murder) (given : Given) (store : Store) (from : List ℕ) (me
       (λ n. IsBarrierAt id (at_barrier here) takes.first.rest (on_link murder.links me front ++ messages_to front (node_says murder.master n message).outs)
       replica) same
       (takes_other id (at_barrier here) murder.master front takes.first.rest (on_link murder.links me front) message replica
-      (λ e. other (ap about e ∙ noop_about id fed.numbered))
+      (λ e. other (ap about e ∙ about_noop id fed.numbered))
       (first_up front (λ up. IsFed murder.master front up (on_link murder.links me front) replica) same fed.fed)
       (first_up front (λ up. IsBarrierAt id (at_barrier here) up (on_link murder.links me front) replica) same is.barrier)))
       (λ ne. others_are_taken id (at_barrier here) murder.master front from (on_link murder.links front me) (on_link murder.links me front) message replica

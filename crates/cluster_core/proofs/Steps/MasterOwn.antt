@@ -37,11 +37,11 @@ use Rattle.route_links.specs.Answered.{noop_of, ok_of}
 use Rattle.route_links.specs.Barriers.{IsBarrierAt, Place as barrier}
 use Rattle.route_links.proofs.AnsweredLaw.{noop_is_answered}
 use Rattle.route_links.proofs.BarrierLaw.{others_are_taken, takes_noop}
+use Rattle.cluster_core.proofs.Places.FrontSends.{about_noop}
 use Rattle.cluster_core.proofs.Commands.InPlace.{ShowEach}
 use Rattle.cluster_core.proofs.Commands.Place.{Place, at_backend, carried, Place as place}
 use Rattle.cluster_core.proofs.Steps.Heads.{its_first}
 use Rattle.cluster_core.proofs.Steps.MasterLinks.{barrier_behind, downs_taken, shows_behind, up_else, up_first}
-use Rattle.cluster_core.proofs.Steps.MasterOthers.{noop_about}
 use Rattle.cluster_core.proofs.Steps.MasterSteps.{HasAnswered, IsFedFront, IsInBehind, LineIsTaken, MasterTakes, NoopIsTaken}
 use Rattle.cluster_core.proofs.Steps.Murders.{IsIn, at_other, at_own, its_me, no_front, shows_on}
 use Rattle.cluster_core.proofs.Steps.Outs.{own_it, puts_one}
@@ -70,7 +70,7 @@ module _ (murder : Murder) (given : Given) (store : Store) (front : List ℕ) (r
   ok_about = ap about_command (own_response id (response.Ok done) ∙ ask_again id fed.numbered.0 fed.numbered.1)
 
   none_left : IsPlaced (of_connection id.conn) left None
-  none_left = (its_first murder front replica id (place.is_barred barrier.asked) front me (noop_of id) takes.first (noop_about id fed.numbered) is).1
+  none_left = (its_first murder front replica id (place.is_barred barrier.asked) front me (noop_of id) takes.first (about_noop id fed.numbered) is).1
 
   ok_placed : IsPlaced (of_connection id.conn) (put_all me left next.outs) (carried me front (ok_of id))
   unfolding put_all put_out
