@@ -32,7 +32,7 @@ impl Fault {
     pub fn text(self) -> &'static str {
         match self {
             Fault::Usage =>
-                "bench [frames|commands|replies|boxes|search|configurations|mupdate [ROUNDS]]",
+                "bench [frames|commands|replies|lists|boxes|search|configurations|mupdate [ROUNDS]]",
             Fault::Memory => "out of memory",
             Fault::Io => "a clock, the arguments or the output failed",
             Fault::Date => "no date",

@@ -1,6 +1,6 @@
 //! Times libraries of the Murder, each beside plain work on the same bytes:
-//! `bench frames|commands|replies|boxes|search|configurations|mupdate ROUNDS` does what the bench does so many times, and says how long it
-//! took. Without a number each is done once, and only what it came to is counted; without a word that is done of all seven.
+//! `bench frames|commands|replies|lists|boxes|search|configurations|mupdate ROUNDS` does what the bench does so many times, and says how long it
+//! took. Without a number each is done once, and only what it came to is counted; without a word that is done of all eight.
 #![tactic(auto)]
 
 mod boxes;
@@ -8,6 +8,7 @@ mod commands;
 mod configurations;
 mod fault;
 mod frames;
+mod lists;
 mod making;
 mod mupdate;
 mod replies;
@@ -26,16 +27,18 @@ enum Bench {
     Frames,
     Commands,
     Replies,
+    Lists,
     Boxes,
     Search,
     Configurations,
     Mupdate,
 }
 
-static BENCHES: [(&str, Bench); 7] = [
+static BENCHES: [(&str, Bench); 8] = [
     ("frames", Bench::Frames),
     ("commands", Bench::Commands),
     ("replies", Bench::Replies),
+    ("lists", Bench::Lists),
     ("boxes", Bench::Boxes),
     ("search", Bench::Search),
     ("configurations", Bench::Configurations),
@@ -57,6 +60,7 @@ impl Bench {
             Bench::Frames => frames::run(rt, task),
             Bench::Commands => commands::run(rt, task),
             Bench::Replies => replies::run(rt, task),
+            Bench::Lists => lists::run(rt, task),
             Bench::Boxes => boxes::run(rt, task),
             Bench::Search => search::run(rt, task),
             Bench::Configurations => configurations::run(rt, task),
