@@ -3,7 +3,9 @@
 use Rattle.std.proofs.Common.{◌≡◌, ℕ, ◌+◌, ◌<◌, ◌^◌, List, [], ◌∷◌, ◌++◌, length, Option, None, Some, refl, sym, ◌∙◌, ap, subst, append_assoc, length-append, true, false, arith}
 use Rattle.std.specs.Ordering.{nat_cmp}
 use Rattle.std.proofs.lemmas.List.{append-nil}
-use Rattle.asking_core.specs.Begins.{Begun, ask_of, at_barrier, at_server, first_sent}
+use Rattle.asking_core.specs.Begins.{Begun, ask_of, first_sent}
+use Rattle.asking_core.specs.declared.waiting.At.{At}
+use Rattle.asking_core.specs.declared.waiting.At.TheVariants.{Home, Barrier}
 use Rattle.asking_core.specs.declared.waiting.Waiting.{Waiting as Ask_waits}
 use Rattle.feed_core.specs.declared.replica.Replica.{Replica}
 use Rattle.front_core.proofs.OneConnection.LastAnswer.{all_go_on}
@@ -315,6 +317,22 @@ module _ (fixed : Fixed) (front : List ℕ) (replica : Replica) (conn : ℕ) whe
         knows = undecided was.reading.said (of.was_is ∙ was.reading.session_is) so;
       }))
 
+  -- the command, as it begins to wait
+  abbrev begins_at : (id : AskId) (session : Sess) (it : Command) (name : List ℕ) (work : Work) → need_of fixed.setting session it ≡ Mailbox name work → At
+      → ClientCommand
+  begins_at id session it name work need at = record {
+    setting = fixed.setting;
+    id = id;
+    was = session;
+    it = it;
+    name = name;
+    work = work;
+    waiting = record (to_begin name (asked_for name work)) { at = at };
+    need = need;
+    name_is = refl;
+    asking_is = refl;
+  }
+
   asked_by : (inputs waiting : List Input) (held : Option (List ℕ)) (connection : Connection) (before : World) (told : Tale) (world : World)
       (request : Request) (tag : Tag) (it : Command) (name : List ℕ) (work : Work) (begun : Begun)
       (was : ReadsOn fixed front replica conn inputs connection before told world)
@@ -327,36 +345,13 @@ module _ (fixed : Fixed) (front : List ℕ) (replica : Replica) (conn : ℕ) whe
   asked_by inputs waiting held connection before told world request tag it name work begun was is need last may numbered (by_server server there) =
       let first : Ask_waits = to_begin name (asked_for name work) in
       let ask : FrontAsk = ask_of (next_at connection) connection.session first in
-      let c : ClientCommand = record {
-        setting = fixed.setting;
-        id = next_id conn (was.story.told conn);
-        was = connection.session;
-        it = it;
-        name = name;
-        work = work;
-        waiting = at_server first server;
-        need = need;
-        name_is = refl;
-        asking_is = refl;
-      } in
+      let c : ClientCommand = begins_at (next_id conn (was.story.told conn)) connection.session it name work need (Home server) in
       waits_here inputs waiting held connection before told world request tag server (Ask ask) c (place.is_asked server ask) was is last
       (record { setting_is = refl; its = refl; was_is = refl }) refl
       (ap (λ n. ask_of (record { conn = conn; command = n + 1 }) connection.session first) was.reading.count) tt
       (asks_so fixed world front server replica ask may.frontend there)
   asked_by inputs waiting held connection before told world request tag it name work begun was is need last may numbered (by_master cause) =
-      let first : Ask_waits = to_begin name (asked_for name work) in
-      let c : ClientCommand = record {
-        setting = fixed.setting;
-        id = next_id conn (was.story.told conn);
-        was = connection.session;
-        it = it;
-        name = name;
-        work = work;
-        waiting = at_barrier first cause;
-        need = need;
-        name_is = refl;
-        asking_is = refl;
-      } in
+      let c : ClientCommand = begins_at (next_id conn (was.story.told conn)) connection.session it name work need (Barrier cause) in
       waits_here inputs waiting held connection before told world request tag fixed.master (noop_of (next_at connection)) c (place.is_barred barrier.asked) was
       is last (record { setting_is = refl; its = refl; was_is = refl }) tt tt tt
       (bars_so fixed world front replica (next_at connection) may.frontend numbered)

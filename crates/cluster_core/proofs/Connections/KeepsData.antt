@@ -1,7 +1,6 @@
 -- Bytes of a client keep the law.
 use Rattle.std.proofs.Common.{◌≡◌, ◌≢◌, ℕ, true, false, List, [], ◌∷◌, ◌++◌, Option, None, Some, inl, inr, refl, sym, ◌∙◌, ap, subst, append_assoc}
 use Rattle.std.proofs.Math.Logic.{⊎_elim}
-use Rattle.std.proofs.lemmas.Bool.{cases_eq}
 use Rattle.cluster_core.specs.Heard.{hears}
 use Rattle.cluster_core.specs.World.{master_of, setting_of, carry_all, client_at, client_does, front_at, node_at}
 use Rattle.feed_core.specs.declared.replica.Replica.{Replica}
@@ -52,7 +51,7 @@ use Rattle.cluster_core.proofs.Connections.KeepsFront.{front_keeps, is_at_after,
 use Rattle.cluster_core.proofs.Connections.KeepsLaw.{ConnectionIs, FeedsHold, IsAt, KeepsLaw, KeepsOn, fixed_of}
 use Rattle.cluster_core.proofs.Connections.KeepsLaw.ConnectionIs.{is_nobody, is_elsewhere, is_open, is_closed}
 use Rattle.cluster_core.proofs.Connections.KeepsStill.{MasterServes, elsewhere_kept, put_kept, same_kept}
-use Rattle.cluster_core.proofs.Connections.Stays.{ReplicasStay, connection_stays, fixed_places, is_not_closed, same_front}
+use Rattle.cluster_core.proofs.Connections.Stays.{ReplicasStay, fixed_places, is_not_closed, same_front, each_stays}
 use Rattle.cluster_core.proofs.Feeds.Beside.{front_client_feeds}
 use Rattle.cluster_core.proofs.Feeds.Many.{front_keeps_many}
 use Rattle.cluster_core.proofs.Nodes.Comes.{front_comes, with_front}
@@ -200,13 +199,9 @@ module _ (config : Config) (heard : ℕ → Heard) (world : World) (law : KeepsL
       feeds = law.feeds;
       is_told = asks_more world.steps world.marks law.story _ (ended_asked stage standing) law.is_told;
       requests = λ other. refl;
-      connections = λ other. ⊎_elim
-          (λ (same : other ≡ conn). subst (λ c. ConnectionIs fixed c world told (after c)) (sym same)
-          (subst (λ h. ConnectionIs fixed conn world told h) (sym (heard_more config conn bytes more (heard conn) e))
-          (is_open (bytes ++ more) node front connection at (inl stage) standing)))
-          (λ (ne : other ≢ conn). subst (λ h. ConnectionIs fixed other world told h) (sym (other_heard config conn other more (heard other) ne))
-          (connection_stays fixed other world world law.story told (heard other)
-          (record {
+      connections = each_stays fixed world world law.story told heard after conn (client (bytes ++ more) false) law.connections
+          (λ other ne. other_heard config conn other more (heard other) ne)
+          (λ other ne. record {
             fronts = λ any. same_front other (front_at world any) (front_at world any) refl;
             client = refl;
             in_place = fixed_places fixed other world world (record { in_place = λ f r c here is. is; in_none = λ is. is }) same_replicas;
@@ -216,8 +211,8 @@ module _ (config : Config) (heard : ℕ → Heard) (world : World) (law : KeepsL
             said = refl;
             session = refl;
             moving = refl;
-          }) (law.connections other)))
-          (cases_eq other conn);
+          })
+          (heard_more config conn bytes more (heard conn) e) (is_open (bytes ++ more) node front connection at (inl stage) standing);
     };
     more = record { requests = ended_asked stage standing; answers = same_lists law.story.told; serials = same_lists law.story.talk.serials };
     closed = λ other shut. refl;

@@ -35,7 +35,7 @@ use Rattle.std.proofs.lemmas.Option.{same_Some}
 use Rattle.cluster_core.proofs.Commands.Standing.{Fixed, next_id}
 use Rattle.cluster_core.proofs.Connections.ConnectionLaw.{IsMade, IsStanding, MarksStay, PlacesStay}
 use Rattle.cluster_core.proofs.Connections.KeepsLaw.{ConnectionIs, FeedsHold, IsAt, IsGone, KeepsLaw, KeepsOn, fixed_of, murder_of}
-use Rattle.cluster_core.proofs.Connections.Stays.{ReplicasStay, SameFront, connection_stays, fixed_places, marked_stays, same_front}
+use Rattle.cluster_core.proofs.Connections.Stays.{ReplicasStay, SameFront, fixed_places, marked_stays, same_front, each_stays}
 use Rattle.cluster_core.proofs.Connections.Stays.SameFront.{both}
 use Rattle.cluster_core.proofs.Nodes.Carried.{is_made}
 use Rattle.cluster_core.proofs.Nodes.Comes.{FrontMoved, front_moved, with_front}
@@ -173,15 +173,12 @@ front_keeps config heard after origin law links conn node front was connection o
         is_told = subst (λ m. AreMarked (setting_of config) next.steps m story) (sym (same_marks world node front conn connection outs))
             (subst (λ n. AreMarked (setting_of config) n carried.marks story) (sym (same_steps world node front conn connection outs)) made.is_told);
         requests = λ other. ap (λ (r : ℕ → List Request). r other) made.goes_on.requests ∙ requests other;
-        connections = λ other. ⊎_elim
-            (λ (same : other ≡ conn). subst (λ c. ConnectionIs fixed c next story (after c)) (sym same) mine)
-            (λ (ne : other ≢ conn). subst (λ h. ConnectionIs fixed other next story h) (sym (others other ne))
+        connections = each_stays fixed origin next law.story story heard after conn (after conn) law.connections others (λ other ne.
             (let stay : PlacesStay fixed other origin next = stays_on fixed other origin carried next
             (stays_on fixed other origin world carried (places other ne) (made.others.places other ne))
             (alike_stay fixed other carried next (same_homes world node front conn connection outs at made.others.nodes)
             (same_links world node front conn connection outs)) in
-            connection_stays fixed other origin next law.story story (heard other)
-            (record {
+            record {
               fronts = fronts_at_other origin next node front later other at moved
                   (value_at-with_value-other nat_cmp numbers_apart front.connections conn other connection ne);
               client = same_clients world node front conn connection outs other ∙ made.others.clients other ne;
@@ -192,8 +189,7 @@ front_keeps config heard after origin law links conn node front was connection o
               said = made.goes_on.said other ne ∙ ap (λ (t : ℕ → List Answer). t other) same_said;
               session = made.goes_on.sessions other ne ∙ ap (λ (c : Course). c.sessions other) same_course;
               moving = made.goes_on.moving ∙ same_moving;
-            }) (law.connections other)))
-            (cases_eq other conn);
+            })) refl mine;
       };
       more = talks_follow (talk_told law.story) (talk_told told) (talk_told story) more made.goes_on.more;
       closed = λ other shut. ⊎_elim

@@ -47,7 +47,7 @@ use Rattle.cluster_core.proofs.Connections.KeepsLaw.{AreNodesOf, ConnectionIs, I
 use Rattle.cluster_core.proofs.Connections.KeepsLaw.ConnectionIs.{is_nobody, is_elsewhere, is_open, is_closed}
 use Rattle.cluster_core.proofs.Connections.KeepsStill.{MasterServes, elsewhere_kept, same_kept}
 use Rattle.cluster_core.proofs.Connections.Nowhere.{in_nowhere}
-use Rattle.cluster_core.proofs.Connections.Stays.{ReplicasStay, connection_stays, fixed_places, same_front}
+use Rattle.cluster_core.proofs.Connections.Stays.{ReplicasStay, fixed_places, same_front, each_stays}
 use Rattle.cluster_core.proofs.Connections.StillFed.{feeds_alike, fronts_were}
 use Rattle.cluster_core.proofs.Feeds.Many.{front_keeps_many, same_murder}
 use Rattle.cluster_core.proofs.Nodes.Comes.{FrontMoved, front_comes, front_moved, with_front}
@@ -144,19 +144,9 @@ joined_keeps config heard world node conn law none first =
         feeds = feeds_alike config world next law.master (λ any. refl) refl (λ any now there. record { was = now; at = there; same = refl }) law.feeds;
         is_told = law.is_told;
         requests = requests_first config law.story heard conn node first.nobody_is law.requests;
-        connections = λ other. ⊎_elim
-            (λ (same : other ≡ conn). subst (λ c. ConnectionIs fixed c next law.story (after_open config heard node conn c)) (sym same)
-            (subst (λ h. ConnectionIs fixed conn next law.story h) (sym (hears_first config conn (heard conn) node false first.nobody_is off))
-            (is_elsewhere node [] (value_at-with_entry nat_cmp numbers_apart world.clients conn (record { at = node; given = [] })) none
-            (record {
-              told = (first.untold).told;
-              said = (first.untold).said;
-              session = (first.untold).session;
-              nothing = (stay conn).in_none (first.untold).nothing;
-            }))))
-            (λ (ne : other ≢ conn). subst (λ h. ConnectionIs fixed other next law.story h) (sym (other_after config heard node conn other ne))
-            (connection_stays fixed other world next law.story law.story (heard other)
-            (record {
+        connections = each_stays fixed world next law.story law.story heard (after_open config heard node conn) conn (opened_at false) law.connections
+            (λ other ne. other_after config heard node conn other ne)
+            (λ other ne. record {
               fronts = λ any. same_front other (front_at world any) (front_at next any) refl;
               client = clients_other world node conn other ne;
               in_place = fixed_places fixed other world next (stay other) replicas;
@@ -166,8 +156,15 @@ joined_keeps config heard world node conn law none first =
               said = refl;
               session = refl;
               moving = refl;
-            }) (law.connections other)))
-            (cases_eq other conn);
+            })
+            (hears_first config conn (heard conn) node false first.nobody_is off)
+            (is_elsewhere node [] (value_at-with_entry nat_cmp numbers_apart world.clients conn (record { at = node; given = [] })) none
+            (record {
+              told = (first.untold).told;
+              said = (first.untold).said;
+              session = (first.untold).session;
+              nothing = (stay conn).in_none (first.untold).nothing;
+            }));
       };
       more = same_talk (talk_told law.story);
       closed = λ other shut. refl;
@@ -257,9 +254,23 @@ front_keeps_open config heard world node conn front law at first =
         feeds = feeds_alike config world next law.master moved.homes refl (fronts_were world next node front later at moved refl) law.feeds;
         is_told = law.is_told;
         requests = requests_first config law.story heard conn node first.nobody_is law.requests;
-        connections = λ other. ⊎_elim
-            (λ (same : other ≡ conn). subst (λ c. ConnectionIs fixed c next law.story (after_open config heard node conn c)) (sym same)
-            (subst (λ h. ConnectionIs fixed conn next law.story h) (sym (hears_first config conn (heard conn) node true first.nobody_is on))
+        connections = each_stays fixed world next law.story law.story heard (after_open config heard node conn) conn (opened_at true) law.connections
+            (λ other ne. other_after config heard node conn other ne)
+            (λ other ne. record {
+              fronts = fronts_at_other world next node front later other at moved
+                  (value_at-with_entry-other nat_cmp numbers_apart front.connections conn other new_connection ne);
+              client = value_at-with_value-other nat_cmp numbers_apart (with_entry nat_cmp world.clients conn new_client) conn other
+                  (record { at = node; given = [] ++ greeting }) ne
+                  ∙ clients_other world node conn other ne;
+              in_place = fixed_places fixed other world next (stay other) (replicas_stay world next node front later at moved refl);
+              in_none = (stay other).in_none;
+              marks = λ command. refl;
+              told = refl;
+              said = refl;
+              session = refl;
+              moving = refl;
+            })
+            (hears_first config conn (heard conn) node true first.nobody_is on)
             (is_open [] node later new_connection
             (record { at = moved.own; has = value_at-with_entry nat_cmp numbers_apart front.connections conn new_connection })
             (inr (first_reader (setting_of config)))
@@ -276,24 +287,7 @@ front_keeps_open config heard world node conn front law at first =
               stands = reads refl refl (sym (first.untold).session) (ap has_ended (first.untold).session) (all_answered (setting_of config)
                   (law.story.told conn) (first.untold).told)
                   ((first.untold).said ∙ sym (first.untold).told) refl;
-            }))))
-            (λ (ne : other ≢ conn). subst (λ h. ConnectionIs fixed other next law.story h) (sym (other_after config heard node conn other ne))
-            (connection_stays fixed other world next law.story law.story (heard other)
-            (record {
-              fronts = fronts_at_other world next node front later other at moved
-                  (value_at-with_entry-other nat_cmp numbers_apart front.connections conn other new_connection ne);
-              client = value_at-with_value-other nat_cmp numbers_apart (with_entry nat_cmp world.clients conn new_client) conn other
-                  (record { at = node; given = [] ++ greeting }) ne
-                  ∙ clients_other world node conn other ne;
-              in_place = fixed_places fixed other world next (stay other) (replicas_stay world next node front later at moved refl);
-              in_none = (stay other).in_none;
-              marks = λ command. refl;
-              told = refl;
-              said = refl;
-              session = refl;
-              moving = refl;
-            }) (law.connections other)))
-            (cases_eq other conn);
+            }));
       };
       more = same_talk (talk_told law.story);
       closed = λ other shut. refl;

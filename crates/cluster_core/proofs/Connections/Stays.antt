@@ -3,6 +3,7 @@
 -- each frontend's replica is as it was.
 use Rattle.std.proofs.Common.{◌≡◌, ◌≢◌, ℕ, ◌+◌, Bool, true, false, List, length, Option, None, Some, refl, sym, ◌∙◌, ap, subst}
 use Rattle.std.proofs.Math.Logic.{⊎_elim}
+use Rattle.std.proofs.lemmas.Bool.{cases_eq}
 use Rattle.feed_core.specs.declared.replica.Replica.{Replica}
 use Rattle.front_core.specs.Ending.{EndsOnlyLast}
 use Rattle.front_core.proofs.OneConnection.Readings.{inputs_in}
@@ -160,6 +161,18 @@ connection_stays fixed conn world next story later heard stays (is_closed bytes 
           (subst (λ s. IsLeft fixed node conn (requests_in (inputs_in fixed.setting bytes)) (story.told conn) (story.talk.answers conn) s gone.here)
           (sym stays.session) gone.left));
     })
+
+-- each connection, where just one does anything
+pub each_stays : (fixed : Fixed) (world next : World) (story later : Tale) (heard after : ℕ → Heard) (conn : ℕ) (own : Heard)
+    → ((other : ℕ) → ConnectionIs fixed other world story (heard other)) → ((other : ℕ) → other ≢ conn → after other ≡ heard other)
+    → ((other : ℕ) → other ≢ conn → StaysAt fixed other world next story later) → after conn ≡ own → ConnectionIs fixed conn next later own
+    → (other : ℕ) → ConnectionIs fixed other next later (after other)
+each_stays fixed world next story later heard after conn own were others stays is mine other = ⊎_elim
+    (λ (same : other ≡ conn). subst (λ c. ConnectionIs fixed c next later (after c)) (sym same)
+    (subst (λ h. ConnectionIs fixed conn next later h) (sym is) mine))
+    (λ (ne : other ≢ conn). subst (λ h. ConnectionIs fixed other next later h) (sym (others other ne))
+    (connection_stays fixed other world next story later (heard other) (stays other ne) (were other)))
+    (cases_eq other conn)
 
 pub same_front : (conn : ℕ) (one now : Option Front) → now ≡ one → SameFront conn one now
 same_front conn None now e = subst (λ f. SameFront conn None f) (sym e) both_none

@@ -1,30 +1,18 @@
 -- What holds of the master, the backends and the one store holds after each step of a node.
-use Rattle.std.proofs.Common.{◌≡◌, ◌≢◌, ◌⊎◌, ℕ, nat_eq, true, false, List, ◌∷◌, ◌++◌, Some, refl, sym, ap, subst, ◌∙◌}
-use Rattle.std.specs.List.{list_any}
-use Rattle.std.specs.Cmp.Lexicographic.{pointwise}
-use Rattle.back_links.specs.BackEvents.{IsFitting}
-use Rattle.back_links.specs.MasterEvents.{given_in}
+use Rattle.std.proofs.Common.{◌≡◌, ◌≢◌, ◌⊎◌, ℕ, List, ◌∷◌, ◌++◌, Some, refl, sym, ap, ◌∙◌}
 use Rattle.back_node.specs.declared.node.BackNode.{BackNode}
 use Rattle.back_node.specs.Acted.{BackActed}
-use Rattle.back_node.specs.Takes.{node_takes}
 use Rattle.cluster_core.specs.World.{master_of, front_at, home_at, taken_from_link}
 use Rattle.front_core.specs.declared.front.Front.{Front}
 use Rattle.front_core.specs.Front.{Stepped}
-use Rattle.link_msg.specs.declared.ask.FrontAsk.{FrontAsk}
 use Rattle.link_msg.specs.declared.message.LinkMsg.{LinkMsg}
-use Rattle.link_msg.specs.declared.message.LinkMsg.TheVariants.{Ask}
 use Rattle.link_queue.specs.Links.{Links, on_link, without_first}
 use Rattle.many_links.specs.FrontEvents.{IsFront}
-use Rattle.many_links.specs.HomeEvents.{IsStoreWith, is_served}
 use Rattle.many_links.specs.ManyHold.{ManyHold}
-use Rattle.many_links.specs.MasterEvents.{StoreTakes}
 use Rattle.many_links.specs.Murder.{Murder, after_front, after_home, after_master, put_all}
 use Rattle.many_links.proofs.FrontLaw.{alike_hold, outs_keep_many, passing_keeps_many}
-use Rattle.many_links.proofs.HomeLaw.{asks_keep_many, hears_keeps_many, serves_keeps_many}
-use Rattle.many_links.proofs.MasterLaw.{clients_keep_many, frontends_keep_many}
-use Rattle.many_links.proofs.TakesLaw.{takes_keeps_many}
+use Rattle.many_links.proofs.MasterLaw.{clients_keep_many}
 use Rattle.master_core.specs.declared.master.Master.{Master}
-use Rattle.master_core.specs.Linked.{node_says}
 use Rattle.master_core.specs.Outside.{Stepped as Served}
 use Rattle.mur_config.specs.declared.config.Config.{Config}
 use Rattle.mur_model.specs.declared.store.Store.{Store}
@@ -81,32 +69,6 @@ module _ (config : Config) (world : World) (master : Master) (given : Given) (st
       ((home_moved (taken_from_link world from node) node home next at).all)
       (is_made (taken_from_link world from node) node (state.Back next.state) next.outs).links hold
 
-  -- it takes the first message of the master
-  pub home_hears_many : (node : List ℕ) (home : BackNode) (message : LinkMsg) (rest : List LinkMsg) → home_at world node ≡ Some home
-      → on_link world.links (master_of config) node ≡ message ∷ rest
-      → ManyHold (murder_of (with_home (taken_from_link world (master_of config) node) node (node_takes home (master_of config) message)) master) given store
-  home_hears_many node home message rest at first =
-      home_murder (master_of config) node home (node_takes home (master_of config) message) store at
-      (subst (λ me. ManyHold (after_home (murder_of world master) (without_first world.links me node) node (node_takes home me message)) given store) nodes.me
-      (hears_keeps_many (murder_of world master) given store node home message rest many at
-      (ap (λ me. on_link world.links me node) nodes.me ∙ first)))
-
-  -- any other message of another node
-  pub home_asked_many : (from node : List ℕ) (home : BackNode) (message : LinkMsg) → home_at world node ≡ Some home → from ≢ master_of config → IsFitting message
-      → is_served home message ≡ false
-      → ManyHold (murder_of (with_home (taken_from_link world from node) node (node_takes home from message)) master) given store
-  home_asked_many from node home message at ne fits unserved =
-      home_murder from node home (node_takes home from message) store at
-      (asks_keep_many (murder_of world master) given store node home from message many at (λ e. ne (e ∙ nodes.me)) fits unserved)
-
-  -- an ask for messages of a mailbox that is open there: the store does what the backend does
-  pub home_serves_many : (from node : List ℕ) (home : BackNode) (ask : FrontAsk) (later : Store) → home_at world node ≡ Some home → from ≢ master_of config
-      → is_served home (Ask ask) ≡ true → IsStoreWith store later (node_takes home from (Ask ask)).state.home ask.name
-      → ManyHold (murder_of (with_home (taken_from_link world from node) node (node_takes home from (Ask ask))) master) given later
-  home_serves_many from node home ask later at ne served with_it =
-      home_murder from node home (node_takes home from (Ask ask)) later at
-      (serves_keeps_many (murder_of world master) given store later node home from ask many at (λ e. ne (e ∙ nodes.me)) served with_it)
-
   -- ---- the master
 
   abbrev name : List ℕ
@@ -120,33 +82,6 @@ module _ (config : Config) (world : World) (master : Master) (given : Given) (st
       ((master_moved (record world { links = links }) name master next nodes.is_there).homes)
       ((is_made (record world { links = links }) name (state.Master next.master) next.outs).links
       ∙ ap (λ me. put_all me links next.outs) (sym nodes.me)) hold
-
-  -- what the store does where the master takes the first line of a backend
-  pub record MasterTakesOne (node : List ℕ) (message : LinkMsg) : Type 0 where
-    pub later : Store
-    pub does : StoreTakes message (node_says master node message).outs (given_in master.table node message) store later
-    pub hold : ManyHold (murder_of (with_master (taken_from_link world node name) name (node_says master node message)) (node_says master node message).master)
-        (given ++ given_in master.table node message) later
-
-  pub master_takes_many : (node : List ℕ) (home : BackNode) (message : LinkMsg) (rest : List LinkMsg) → home_at world node ≡ Some home
-      → on_link world.links node name ≡ message ∷ rest → MasterTakesOne node message
-  master_takes_many node home message rest at first =
-      let one = takes_keeps_many (murder_of world master) given store node home message rest many at (ap (on_link world.links node) nodes.me ∙ first) in
-      record {
-        later = one.later;
-        does = one.does;
-        hold = master_murder (without_first world.links node name) (node_says master node message) (given ++ given_in master.table node message) one.later
-            (subst (λ me. ManyHold (after_master (murder_of world master) (without_first world.links node me) (node_says master node message))
-            (given ++ given_in master.table node message) one.later) nodes.me one.hold);
-      }
-
-  -- any message of a node that is no backend
-  pub master_hears_many : (node : List ℕ) (message : LinkMsg) → list_any (pointwise nat_eq node) master.backends ≡ false
-      → ManyHold (murder_of (with_master (taken_from_link world node name) name (node_says master node message)) (node_says master node message).master) given store
-  master_hears_many node message none =
-      master_murder (without_first world.links node name) (node_says master node message) given store
-      (subst (λ me. ManyHold (after_master (murder_of world master) (without_first world.links node me) (node_says master node message)) given store) nodes.me
-      (frontends_keep_many (murder_of world master) given store node message many none))
 
   -- what a client from outside does
   pub master_serves_many : (input : NodeInput) → IsOfClient input

@@ -23,18 +23,6 @@ use Rattle.cluster_core.proofs.Steps.Murders.{IsFirstOn}
 use Rattle.cluster_core.proofs.Steps.Nobody.{IsNobody, to_nobody_stays, to_nobody_stays_none}
 use Rattle.cluster_core.proofs.Steps.Worlds.{in_murder, none_in_murder}
 
-no_front : as_front None ≡ None
-unfolding as_front
-no_front = refl
-
-no_home : as_back None ≡ None
-unfolding as_back
-no_home = refl
-
-no_master : as_master None ≡ None
-unfolding as_master
-no_master = refl
-
 module _ (config : Config) (heard : ℕ → Heard) (world : World) (law : KeepsLaw config heard world) (from to : List ℕ) (message : LinkMsg)
     (rest : List LinkMsg) (none : node_at world to ≡ None) (first : on_link world.links from to ≡ message ∷ rest) where
   abbrev fixed : Fixed
@@ -47,13 +35,16 @@ module _ (config : Config) (heard : ℕ → Heard) (world : World) (law : KeepsL
   murder = murder_of world law.master
 
   front_none : front_at world to ≡ None
-  front_none = ap as_front none ∙ no_front
+  unfolding as_front
+  front_none = ap as_front none
 
   home_none : home_at world to ≡ None
-  home_none = ap as_back none ∙ no_home
+  unfolding as_back
+  home_none = ap as_back none
 
   apart : to ≢ master_of config
-  apart e = (let no : None ≡ Some law.master = sym no_master ∙ ap as_master (sym none) ∙ ap (λ n. as_master (node_at world n)) e ∙ law.nodes.is_there in cc)
+  unfolding as_master
+  apart e = (let no : None ≡ Some law.master = ap as_master (sym none) ∙ ap (λ n. as_master (node_at world n)) e ∙ law.nodes.is_there in cc)
 
   nobody : IsNobody murder to
   nobody = record { no_master = λ e. apart (e ∙ law.nodes.me); no_home = home_none }

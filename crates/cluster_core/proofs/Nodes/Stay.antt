@@ -35,6 +35,18 @@ use Rattle.cluster_core.proofs.Connections.KeepsLaw.{AreNodesOf, IsFrontOf}
 use Rattle.cluster_core.proofs.Nodes.Comes.{FrontMoved, HomeMoved, MasterMoved, front_does, front_moved, home_moved, master_does, master_moved, with_front, with_home, with_master}
 use Rattle.cluster_core.proofs.Nodes.Known.{KeepsSelf, front_self}
 
+-- a frontend of the next world that was one before
+front_still : (config : Config) (world next : World) (master later : Master) (any : List ℕ) (front : Front) → IsFrontOf config world master any front
+    → home_at next any ≡ None → later.backends ≡ master.backends → IsFrontOf config next later any front
+front_still config world next master later any front had none same = record {
+  master_is = had.master_is;
+  first_is = had.first_is;
+  setting_is = had.setting_is;
+  no_master = had.no_master;
+  no_home = none;
+  no_backend = ap (λ b. list_any (pointwise nat_eq any) b) same ∙ had.no_backend;
+}
+
 -- ---- a frontend in another state
 
 module _ (config : Config) (world next : World) (master : Master) (nodes : AreNodesOf config world master) (node : List ℕ) (was later : Front)
@@ -55,14 +67,7 @@ module _ (config : Config) (world next : World) (master : Master) (nodes : AreNo
   other_front : (any : List ℕ) (front : Front) → any ≢ node → front_at next any ≡ Some front → IsFrontOf config next master any front
   other_front any front ne there =
       let had = nodes.fronts any front (sym (moved.fronts any ne) ∙ there) in
-      record {
-        master_is = had.master_is;
-        first_is = had.first_is;
-        setting_is = had.setting_is;
-        no_master = had.no_master;
-        no_home = moved.homes any ∙ had.no_home;
-        no_backend = had.no_backend;
-      }
+      front_still config world next master master any front had (moved.homes any ∙ had.no_home) refl
 
   pub front_cores : AreNodesOf config next master
   front_cores = record {
@@ -97,14 +102,7 @@ module _ (config : Config) (world next : World) (master : Master) (nodes : AreNo
   still_front : (any : List ℕ) (front : Front) → front_at next any ≡ Some front → IsFrontOf config next master any front
   still_front any front there =
       let had = nodes.fronts any front (sym (moved.fronts any) ∙ there) in
-      record {
-        master_is = had.master_is;
-        first_is = had.first_is;
-        setting_is = had.setting_is;
-        no_master = had.no_master;
-        no_home = no_home_still any had.no_home;
-        no_backend = had.no_backend;
-      }
+      front_still config world next master master any front had (no_home_still any had.no_home) refl
 
   pub home_nodes : AreNodesOf config next master
   home_nodes = record {
@@ -130,17 +128,10 @@ pub record KeepsMaster (was now : Master) : Type 0 where
 
 module _ (config : Config) (world next : World) (was later : Master) (nodes : AreNodesOf config world was) (self : KeepsMaster was later)
     (moved : MasterMoved world (master_of config) later next) where
-  front_still : (any : List ℕ) (front : Front) → front_at next any ≡ Some front → IsFrontOf config next later any front
-  front_still any front there =
+  front_there : (any : List ℕ) (front : Front) → front_at next any ≡ Some front → IsFrontOf config next later any front
+  front_there any front there =
       let had = nodes.fronts any front (sym (moved.fronts any) ∙ there) in
-      record {
-        master_is = had.master_is;
-        first_is = had.first_is;
-        setting_is = had.setting_is;
-        no_master = had.no_master;
-        no_home = moved.homes any ∙ had.no_home;
-        no_backend = ap (λ b. list_any (pointwise nat_eq any) b) self.backends ∙ had.no_backend;
-      }
+      front_still config world next was later any front had (moved.homes any ∙ had.no_home) self.backends
 
   pub master_nodes : AreNodesOf config next later
   master_nodes = record {
@@ -150,7 +141,7 @@ module _ (config : Config) (world next : World) (was later : Master) (nodes : Ar
         (λ (e : any ≡ master_of config). e)
         (λ (ne : any ≢ master_of config). nodes.only any other (sym (moved.masters any ne) ∙ there))
         (same_or_other (slice_cmp nat_cmp) names_apart any (master_of config));
-    fronts = front_still;
+    fronts = front_there;
     frontends = λ any. ap is_some (moved.fronts any) ∙ nodes.frontends any;
     homes = λ any. ap is_some (moved.homes any) ∙ nodes.homes any ∙ ap (λ b. list_any (pointwise nat_eq any) b) (sym self.backends);
     backends = self.backends ∙ nodes.backends;
@@ -222,14 +213,7 @@ same_nodes config world next master same nodes =
       is_there = ap as_master (at (master_of config)) ∙ nodes.is_there;
       only = λ any other there. nodes.only any other (sym (ap as_master (at any)) ∙ there);
       fronts = λ any front there. (let had = nodes.fronts any front (sym (ap as_front (at any)) ∙ there) in
-          record {
-            master_is = had.master_is;
-            first_is = had.first_is;
-            setting_is = had.setting_is;
-            no_master = had.no_master;
-            no_home = ap as_back (at any) ∙ had.no_home;
-            no_backend = had.no_backend;
-          });
+          front_still config world next master master any front had (ap as_back (at any) ∙ had.no_home) refl);
       frontends = λ any. ap (λ found. is_some (as_front found)) (at any) ∙ nodes.frontends any;
       homes = λ any. ap (λ found. is_some (as_back found)) (at any) ∙ nodes.homes any;
       backends = nodes.backends;

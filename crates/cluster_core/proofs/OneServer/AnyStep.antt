@@ -10,11 +10,11 @@ use Rattle.cluster_core.specs.declared.world.World.{World}
 use Rattle.cluster_core.specs.Flow.{run_steps, steps_of_run}
 use Rattle.cluster_core.specs.Headline.HomeLaw.{KeepsOneHomeEach}
 use Rattle.cluster_core.specs.Headline.Outside.{table_at}
+use Rattle.cluster_core.proofs.OneServer.MarksGoOn.{steps_made}
 use Rattle.cluster_core.proofs.Runs.OneNodeLaw.{one_more_step}
 use Rattle.cluster_core.proofs.Commands.Moving.{MovesBy}
 use Rattle.cluster_core.proofs.Connections.KeepsLaw.{KeepsLaw, KeepsOn}
 use Rattle.cluster_core.proofs.OneServer.EachStep.{EachKeeps, LawBehind, TellsMoves, heard_next, kept_all}
-use Rattle.cluster_core.proofs.Runs.StepsMade.{steps_made}
 use Rattle.cluster_core.proofs.OneServer.MovingLaw.{StartsWith, moves_then, moving_of}
 use Rattle.cluster_core.proofs.OneServer.OneHome.{one_home_each}
 use Rattle.cluster_core.specs.Numbers.{NumbersFit, NumbersFitAll}

@@ -1,15 +1,16 @@
--- The marks of a run that goes on are of later steps.
-use Rattle.std.proofs.Common.{◌≡◌, ◌+◌, ◌<◌, List, [], ◌∷◌, ◌++◌, sym, ◌∙◌, ap, arith, append_assoc}
+-- The marks of a run that goes on are of later steps, and each step counts one.
+use Rattle.std.proofs.Common.{◌≡◌, ◌+◌, ◌<◌, List, [], ◌∷◌, ◌++◌, length, sym, ◌∙◌, ap, arith, append_assoc}
 use Rattle.std.proofs.lemmas.List.{append-nil}
 use Rattle.std.proofs.lemmas.List.Elements.{All-append, All-nil, All-weaker}
+use Rattle.mur_config.specs.declared.config.Config.{Config}
 use Rattle.schedule_text.specs.declared.event.Event.{Event}
 use Rattle.mark_history.specs.Moments.{GoOn}
 use Rattle.mark_history.specs.declared.mark.Mark.{Mark}
 use Rattle.cluster_core.specs.declared.world.World.{World}
 use Rattle.cluster_core.specs.Flow.{run_steps}
-use Rattle.cluster_core.specs.World.{stepped, steps_by}
+use Rattle.cluster_core.specs.World.{start, stepped, steps_by}
 use Rattle.cluster_core.proofs.Runs.InTime.{takes_adds}
-pub use Rattle.cluster_core.proofs.Runs.StepsMade.{steps_made}
+use Rattle.cluster_core.proofs.Runs.RoomLaw.{start_steps, step_steps}
 pub use Rattle.cluster_core.proofs.Runs.Unrolled.{run_steps-append}
 
 goes_on : (world later : World) (event : Event) → GoOn (steps_by world event).steps (steps_by world event).marks later.marks
@@ -33,3 +34,13 @@ run_goes_on world [] = record {
   from_now = All-nil (λ (mark : Mark). world.steps < mark.step);
 }
 run_goes_on world (event ∷ events) = goes_on world (run_steps (steps_by world event) events) event (run_goes_on (steps_by world event) events)
+
+-- ---- the steps are counted
+
+steps_more : (world : World) (steps : List Event) → (run_steps world steps).steps ≡ world.steps + length steps
+unfolding run_steps
+steps_more world [] = omega arith
+steps_more world (event ∷ events) = omega (arith, steps_more (steps_by world event) events, step_steps world event)
+
+pub steps_made : (config : Config) (steps : List Event) → (run_steps (start config) steps).steps ≡ length steps
+steps_made config steps = omega (arith, steps_more (start config) steps, start_steps config)

@@ -23,8 +23,8 @@ use Rattle.cluster_core.specs.Flow.{run_steps, steps_of_run}
 use Rattle.cluster_core.specs.Headline.Outside.{table_at}
 use Rattle.cluster_core.specs.Headline.Refusals.{CauseOf, HasRelocationCause, IsReservedThen, RefusesForCauseEach}
 use Rattle.cluster_core.specs.History.{history_of}
+use Rattle.cluster_core.proofs.OneServer.MarksGoOn.{steps_made}
 use Rattle.cluster_core.proofs.OneServer.EachStep.{EachKeeps, IsKeptAt, kept_all}
-use Rattle.cluster_core.proofs.Runs.StepsMade.{steps_made}
 use Rattle.cluster_core.proofs.OneServer.MovingLaw.{moves_then, moving_of}
 use Rattle.cluster_core.proofs.Starts.StartLaw.{start_table}
 

@@ -45,6 +45,7 @@ use Rattle.schedule_text.specs.declared.event.Event.TheVariants.{Open, Data, Han
 use Rattle.cluster_core.specs.declared.world.World.{World}
 use Rattle.cluster_core.specs.Flow.{run_steps}
 use Rattle.cluster_core.specs.Headline.Serials.{is_reserve, reserves_from, reserves_in, reserves_taken}
+use Rattle.cluster_core.proofs.Starts.Ups.{one_if}
 use Rattle.cluster_core.proofs.Guests.AtMaster.{comes_so, happening_by}
 use Rattle.cluster_core.proofs.Guests.TablesStay.{step_tables}
 use Rattle.cluster_core.proofs.Keeps.Always.{HoldsAlways}
@@ -55,9 +56,6 @@ use Rattle.cluster_core.proofs.Starts.Kinds.{master_named}
 use Rattle.cluster_core.proofs.Starts.StartLaw.{start_table}
 
 -- ---- a step of the master
-
-abbrev one_if : Bool → ℕ
-one_if b = cond b 1 0
 
 module _ (table : MailboxTable) where
   abbrev then : Option MasterRecord → ℕ

@@ -48,8 +48,7 @@ use Rattle.cluster_core.specs.World.{start}
 use Rattle.cluster_core.proofs.OneServer.Boxes.{has_boxes}
 use Rattle.cluster_core.proofs.OneServer.EachStep.{EachKeeps, IsKeptAt, LawBehind, kept_all}
 use Rattle.cluster_core.proofs.OneServer.HistoryLaw.{history_is, stands_in_time}
-use Rattle.cluster_core.proofs.OneServer.MarksGoOn.{run_goes_on}
-use Rattle.cluster_core.proofs.Runs.StepsMade.{steps_made}
+use Rattle.cluster_core.proofs.OneServer.MarksGoOn.{run_goes_on, steps_made}
 use Rattle.cluster_core.proofs.Runs.Unrolled.{run_steps-append}
 use Rattle.cluster_core.proofs.OneServer.SaysOf.{IsSilent, SaysOf, says_of}
 use Rattle.cluster_core.proofs.OneServer.SerialsRise.{serials_are_low}

@@ -11,7 +11,7 @@ use Rattle.std.proofs.lemmas.Option.{same_Some}
 use Rattle.back_node.specs.declared.node.BackNode.{BackNode}
 use Rattle.back_node.proofs.Said.{none_owed_at_start}
 use Rattle.cluster_core.specs.declared.world.Client.{Client}
-use Rattle.cluster_core.specs.World.{home_of, master_of, carry, carry_all, client_at, client_does, comes_to, deliver_first, first_state, front_at, given_more, home_at, no_world, node_at, not_lost, opens, place_of, start, stepped, steps_by, taken_from_link, takes, told_up, with_client, with_node, with_nodes, with_state, with_ups}
+use Rattle.cluster_core.specs.World.{home_of, master_of, carry, carry_all, client_at, client_does, comes_to, deliver_first, first_state, front_at, home_at, no_world, node_at, not_lost, opens, place_of, start, stepped, steps_by, taken_from_link, takes, told_up, with_client, with_node, with_nodes, with_state, with_ups}
 use Rattle.feed_core.specs.Feed.{Recs}
 use Rattle.feed_core.specs.Routes.{server_at}
 use Rattle.front_core.specs.declared.front.Front.{Front}
@@ -48,11 +48,12 @@ use Rattle.cluster_core.specs.declared.world.World.{World}
 use Rattle.cluster_core.specs.Flow.{run_steps, steps_of_run}
 use Rattle.cluster_core.specs.Headline.OneNode.{GoesOverLinks}
 use Rattle.cluster_core.specs.Headline.OneStore.{AreEmpty}
+use Rattle.cluster_core.proofs.Runs.QuietNodes.{AnyClient}
 use Rattle.cluster_core.proofs.Connections.AsksFirst.{home_is_so}
 use Rattle.cluster_core.proofs.Connections.KeepsLaw.{KeepsLaw, NamesBackends}
 use Rattle.cluster_core.proofs.Starts.Kinds.{HasNode}
 use Rattle.cluster_core.proofs.Runs.LinkedNodes.{Joined, backend_with_master, front_with_backend, front_with_master, the_first}
-use Rattle.cluster_core.proofs.Runs.NeverMoved.{none_moved}
+use Rattle.cluster_core.proofs.Runs.NeverMoved.{given_links, none_moved}
 use Rattle.cluster_core.proofs.Runs.NotLost.{let_left}
 use Rattle.cluster_core.proofs.Runs.OwnNodes.{OfEachNode, comes_of_each}
 
@@ -97,9 +98,6 @@ AreOn pairs links = (from to : List ℕ) → (on_link links from to ≡ []) ⊎ 
 
 -- ---- what a node lets out
 
-abbrev AnyClient : ℕ → Type 0
-AnyClient conn = ⊤
-
 sent_by : (pairs : List Link) (links : Links LinkMsg) (node other : List ℕ) (message : LinkMsg) (from to : List ℕ) (same : Bool)
     → same_link from to node other ≡ same → Joined pairs node other → (on_link links from to ≡ []) ⊎ Joined pairs from to
     → (on_link (sent links node other message) from to ≡ []) ⊎ Joined pairs from to
@@ -111,11 +109,6 @@ sent_by pairs links node other message from to false h joined was = ⊎_elim
     ∙ append-nil (on_link links from to) ∙ empty))
     (λ there. inr there)
     was
-
-given_links : (world : World) (conn : ℕ) (bytes : List ℕ) (found : Option Client) → (given_more world conn bytes found).links ≡ world.links
-unfolding given_more
-given_links world conn bytes None = refl
-given_links world conn bytes (Some client) = refl
 
 module _ (pairs : List Link) (own : ℕ → Type 0) (marks : Type 0) (node : List ℕ) where
   carry_on : (world : World) (out : Out) → IsLetOut own (OverLink pairs node) marks out → AreOn pairs world.links → AreOn pairs (carry node world out).links

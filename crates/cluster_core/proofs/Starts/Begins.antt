@@ -1,5 +1,5 @@
 -- The nodes before the first step: each frontend and each backend was told once that its link with the master is up.
-use Rattle.std.proofs.Common.{◌≡◌, ◌≢◌, ℕ, zero, suc, ◌<◌, ◌≤◌, ◌&&◌, nat_eq, Bool, true, false, cond, if◌then◌else◌, is_some, List, [], ◌∷◌, ◌++◌, length, Option, None, Some, refl, sym, ◌∙◌, ap, subst, arith, slice_index_or}
+use Rattle.std.proofs.Common.{◌≡◌, ◌≢◌, ℕ, zero, suc, ◌<◌, ◌≤◌, ◌&&◌, nat_eq, Bool, true, false, if◌then◌else◌, is_some, List, [], ◌∷◌, ◌++◌, length, Option, None, Some, refl, sym, ◌∙◌, ap, subst, arith, slice_index_or}
 use Rattle.std.specs.List.{AllByRecursion}
 use Rattle.std.specs.Ordering.{nat_cmp, is_eq}
 use Rattle.std.specs.Cmp.Lexicographic.{pointwise, slice_cmp}
@@ -42,7 +42,7 @@ use Rattle.cluster_core.specs.declared.world.World.{World}
 use Rattle.cluster_core.proofs.Starts.Fresh.{first_by, fresh_at, fresh_empty, fresh_nodes}
 use Rattle.cluster_core.proofs.Starts.Kinds.{is_backend_node, master_named, master_node, named_among, named_so, pair_of}
 use Rattle.cluster_core.proofs.Starts.Quiet.{IsQuiet, no_place, ups_quiet}
-use Rattle.cluster_core.proofs.Starts.Ups.{Heeds, Ignores, takes_up, up_acted, ups_leave, ups_once}
+use Rattle.cluster_core.proofs.Starts.Ups.{Heeds, Ignores, takes_up, up_acted, ups_leave, ups_once, one_if}
 
 -- a frontend that has done nothing
 abbrev pub first_front : Config → List ℕ → Front
@@ -106,9 +106,6 @@ told_keeps place me = by (is_my_master (new_node place me) me) (same_name me)
     by false e = cc
 
 -- ---- the links
-
-abbrev one_if : Bool → ℕ
-one_if b = cond b 1 0
 
 -- a link that stands there does so once at least
 there_once : (pairs : List Link) (from to : List ℕ) (k : ℕ) → k < length pairs → slice_index_or pairs k (record { from = from; to = to }) ≡ record { from = from; to = to }

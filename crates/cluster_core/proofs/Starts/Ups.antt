@@ -144,7 +144,7 @@ ups_leave world (link ∷ links) name found whole at ignores =
 abbrev pub Heeds : NodeState → List ℕ → Type 0
 Heeds it master = (from : List ℕ) → from ≢ master → takes_up it from ≡ false
 
-abbrev one_if : Bool → ℕ
+abbrev pub one_if : Bool → ℕ
 one_if b = cond b 1 0
 
 another_from : (name master : List ℕ) (link : Link) → one_if (is_eq (slice_cmp nat_cmp link.from master) && is_eq (slice_cmp nat_cmp link.to name)) ≡ 0
