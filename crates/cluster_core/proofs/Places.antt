@@ -6,4 +6,3 @@ pub mod FrontFirst
 pub mod FrontHears
 pub mod FrontTakes
 pub mod FrontWorlds
-pub mod FrontKnown

@@ -10,7 +10,6 @@ pub mod OwnNodes
 pub mod OwnClientsLaw
 pub mod RoomLaw
 pub mod RunRoom
-pub mod StepsMade
 pub mod LinkedNodes
 pub mod OnPairs
 pub mod FlowRests

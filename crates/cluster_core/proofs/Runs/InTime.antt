@@ -1,5 +1,5 @@
--- Every point of a run stands behind its command, and before what follows its reply.
-use Rattle.std.proofs.Common.{◌≡◌, ℕ, ◌+◌, ◌≤◌, ◌<◌, List, [], ◌∷◌, ◌++◌, Option, None, Some, refl, sym, ◌∙◌, ap, arith, append_assoc}
+-- The marks that a step makes are of this step, and stand behind all others.
+use Rattle.std.proofs.Common.{◌≡◌, ℕ, List, [], ◌∷◌, ◌++◌, Option, None, Some, refl, sym, ◌∙◌, ap, append_assoc}
 use Rattle.std.specs.Prelude.{All}
 use Rattle.std.proofs.lemmas.List.{append-nil}
 use Rattle.std.proofs.lemmas.List.Elements.{All-append, All-nil, All-push, All-weaker}
@@ -18,9 +18,8 @@ use Rattle.mur_base.specs.declared.point.AskId.{AskId}
 use Rattle.mark_history.specs.declared.mark.MarkKind.{MarkKind}
 use Rattle.mark_history.specs.declared.mark.MarkKind.TheVariants.{Home, Told}
 use Rattle.cluster_core.specs.declared.world.World.{World}
-use Rattle.cluster_core.specs.Flow.{run_steps}
 use Rattle.link_queue.specs.Links.{on_link}
-use Rattle.cluster_core.specs.World.{not_lost, marked, client_at, node_at, given_more, carry, carry_all, acts, comes_to, with_client, opens, client_does, taken_from_link, deliver_first, takes, stepped, steps_by}
+use Rattle.cluster_core.specs.World.{not_lost, marked, client_at, node_at, given_more, carry, carry_all, acts, comes_to, with_client, opens, client_does, taken_from_link, deliver_first, takes}
 
 -- marks of one step, put behind others; the step stays
 pub record Adds (before now : World) : Type 0 where
@@ -110,34 +109,3 @@ takes_adds world (Data conn bytes) = client_adds world (Piece conn bytes) (clien
 takes_adds world (Hang conn) = client_adds world (Hung conn) (client_at world conn)
 takes_adds world (Deliver from to) = deliver_adds world from to (on_link world.links from to)
 takes_adds world event = adds_none world world refl refl
-
--- the marks of a run that goes on from here have later steps
-pub record StandsBehind (now later : World) : Type 0 where
-  pub rest : List Mark
-  pub parts : later.marks ≡ now.marks ++ rest
-  pub from_now : All (λ (mark : Mark). now.steps < mark.step) rest
-  pub steps : now.steps ≤ later.steps
-
-step_behind : (world later : World) (event : Event) → StandsBehind (steps_by world event) later → StandsBehind world later
-step_behind world later event rest =
-    let adds = takes_adds (stepped world) event in
-    record {
-      rest = adds.rest ++ rest.rest;
-      parts = rest.parts ∙ ap (λ m. m ++ rest.rest) adds.parts ∙ append_assoc world.marks adds.rest rest.rest;
-      from_now = All-append (λ (mark : Mark). world.steps < mark.step) adds.rest rest.rest
-          (All-weaker (λ (m : Mark). m.step ≡ world.steps + 1) (λ (m : Mark). world.steps < m.step) (λ m h. omega arith) adds.rest adds.in_step)
-          (All-weaker (λ (m : Mark). (steps_by world event).steps < m.step) (λ (m : Mark). world.steps < m.step)
-          (λ m h. omega (arith, h, adds.same_step)) rest.rest rest.from_now);
-      steps = omega (arith, adds.same_step, rest.steps);
-    }
-
-pub run_behind : (world : World) (events : List Event) → StandsBehind world (run_steps world events)
-unfolding run_steps
-run_behind world [] = record {
-  rest = [];
-  parts = sym (append-nil world.marks);
-  from_now = All-nil (λ (mark : Mark). world.steps < mark.step);
-  steps =
-      omega arith;
-}
-run_behind world (event ∷ events) = step_behind world _ event (run_behind (steps_by world event) events)

@@ -138,21 +138,3 @@ module _ (fixed : Fixed) (world : World) (master : Master) (me : master.me ≡ f
         (in_none_alike fixed.master (home_at world) (home_at behind) (master_moved (record world { links = left }) fixed.master master next there).homes
         (put_all fixed.master left next.outs) conn
         (subst (λ m. IsInNone m (home_at world) (put_all m left next.outs) conn) me is))
-
-  -- where it took the first message of a node, these are without it
-  module _ (from : List ℕ) (next : Stepped) (there : master_at world fixed.master ≡ Some master) where
-    abbrev took : World
-    took = with_master (taken_from_link world from fixed.master) fixed.master next
-
-    pub in_world_taken : (front : List ℕ) (replica : Replica) (id : AskId) (here : Place)
-        → IsInBehind (murder_of world master) (without_first world.links from master.me) next front replica id here
-        → IsInPlaceOf fixed took front replica id here
-    in_world_taken front replica id here is =
-        in_world_behind (without_first world.links from fixed.master) next there front replica id here
-        (subst (λ m. IsInBehind (murder_of world master) (without_first world.links from m) next front replica id here) me is)
-
-    pub none_in_world_taken : (conn : ℕ) → IsNowhereBehind (murder_of world master) (without_first world.links from master.me) next conn
-        → IsInNoneOf fixed took conn
-    none_in_world_taken conn is =
-        none_in_world_behind (without_first world.links from fixed.master) next there conn
-        (subst (λ m. IsNowhereBehind (murder_of world master) (without_first world.links from m) next conn) me is)
