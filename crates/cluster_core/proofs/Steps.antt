@@ -13,10 +13,6 @@ pub mod HomeOwn
 pub mod MasterSteps
 pub mod MasterLinks
 pub mod MasterOthers
-pub mod MasterClients
 pub mod MasterOwn
-pub mod Answers
 pub mod Worlds
-pub mod MarksLeft
-pub mod Comes
 pub mod Nobody

@@ -1,14 +1,13 @@
 -- What a frontend sends and takes leaves the commands of other connections where they are, in a world.
-use Rattle.std.proofs.Common.{◌≡◌, ◌≢◌, ℕ, List, ◌∷◌, None, Some, refl, sym, ◌∙◌, subst}
+use Rattle.std.proofs.Common.{◌≡◌, ◌≢◌, ℕ, List, ◌∷◌, Some, refl, sym, ◌∙◌, subst}
 use Rattle.ask_routes.specs.Barrier.{barrier_answered}
 use Rattle.back_node.specs.declared.node.BackNode.{BackNode}
 use Rattle.feed_core.specs.declared.replica.Replica.{Replica}
-use Rattle.feed_links.specs.Replicas.{hears}
 use Rattle.link_msg.specs.declared.answer.BackAnswer.{BackAnswer}
 use Rattle.link_msg.specs.declared.ask.FrontAsk.{FrontAsk}
 use Rattle.link_msg.specs.declared.message.LinkMsg.{LinkMsg}
 use Rattle.link_msg.specs.declared.message.LinkMsg.TheVariants.{Line, Ask, Answer}
-use Rattle.link_queue.specs.Links.{Links, on_link, sent, without_first}
+use Rattle.link_queue.specs.Links.{Links, on_link, sent}
 use Rattle.many_links.specs.Murder.{Nodes}
 use Rattle.mur_base.specs.declared.point.AskId.{AskId}
 use Rattle.route_links.specs.Answered.{IsNumbered, noop_of}
@@ -17,10 +16,9 @@ use Rattle.cluster_core.specs.World.{home_at, taken_from_link}
 use Rattle.cluster_core.proofs.Commands.InPlace.{IsInNone, IsInPlace, IsThere}
 use Rattle.cluster_core.proofs.Commands.Place.{Place, Place as place}
 use Rattle.cluster_core.proofs.Commands.Standing.{Fixed}
-use Rattle.cluster_core.proofs.Connections.ConnectionLaw.{IsInNoneOf, IsInPlaceOf, PlacesStay}
-use Rattle.cluster_core.proofs.Places.FrontFirst.{IsIdle}
+use Rattle.cluster_core.proofs.Connections.ConnectionLaw.{IsInPlaceOf, PlacesStay}
 use Rattle.cluster_core.proofs.Places.FrontSends.{ask_leaves_others, noop_leaves_others}
-use Rattle.cluster_core.proofs.Places.FrontTakes.{answer_leaves_others, idle_leaves_all, news_leave_others, none_stays, ok_leaves_others, takes_news}
+use Rattle.cluster_core.proofs.Places.FrontTakes.{answer_leaves_others, ok_leaves_others}
 use Rattle.cluster_core.proofs.Places.Stays.{IsFrontend, KeepsPlaces, keeps_same}
 
 -- ---- what holds
@@ -67,30 +65,6 @@ abbrev pub OkStays : Type 0
 OkStays = (fixed : Fixed) (world : World) (to bytes : List ℕ) (told : AskId) (rest : List LinkMsg) (conn : ℕ) → IsFrontendOf fixed world to
     → on_link world.links fixed.master to ≡ Line bytes ∷ rest → barrier_answered bytes ≡ Some told → conn ≢ told.conn
     → PlacesStay fixed conn world (taken_from_link world fixed.master to)
-
-abbrev pub IdleStays : Type 0
-IdleStays = (fixed : Fixed) (world : World) (from to : List ℕ) (message : LinkMsg) (rest : List LinkMsg) (conn : ℕ) → IsFrontendOf fixed world to
-    → on_link world.links from to ≡ message ∷ rest → IsIdle fixed.master from message → PlacesStay fixed conn world (taken_from_link world from to)
-
--- a line of the master is taken that is no OK: each command is where it was, and those of this frontend with the replica that hears the line
-pub record NewsAreHeard (fixed : Fixed) (conn : ℕ) (before after : World) (to : List ℕ) (message : LinkMsg) : Type 0 where
-  pub own : (replica : Replica) (command : ℕ) (here : Place) → IsInPlaceOf fixed before to replica (record { conn = conn; command = command }) here
-      → IsInPlaceOf fixed after to (hears replica message) (record { conn = conn; command = command }) here
-  pub others : (front : List ℕ) (replica : Replica) (command : ℕ) (here : Place) → front ≢ to
-      → IsInPlaceOf fixed before front replica (record { conn = conn; command = command }) here
-      → IsInPlaceOf fixed after front replica (record { conn = conn; command = command }) here
-  pub in_none : IsInNoneOf fixed before conn → IsInNoneOf fixed after conn
-
-abbrev pub NewsStay : Type 0
-NewsStay = (fixed : Fixed) (world after : World) (to bytes : List ℕ) (rest : List LinkMsg) (conn : ℕ) → IsFrontendOf fixed world to
-    → on_link world.links fixed.master to ≡ Line bytes ∷ rest → barrier_answered bytes ≡ None → SameHomes world after
-    → after.links ≡ without_first world.links fixed.master to → NewsAreHeard fixed conn world after to (Line bytes)
-
--- whatever a frontend takes, a connection that is in none stays so
-abbrev pub NoneStaysOf : Type 0
-NoneStaysOf = (fixed : Fixed) (world after : World) (from to : List ℕ) (message : LinkMsg) (rest : List LinkMsg) (conn : ℕ) → IsFrontendOf fixed world to
-    → on_link world.links from to ≡ message ∷ rest → SameHomes world after → after.links ≡ without_first world.links from to
-    → IsInNoneOf fixed world conn → IsInNoneOf fixed after conn
 
 -- ---- with other nodes that are the same backends
 
@@ -158,36 +132,3 @@ pub ok_stays : OkStays
 ok_stays fixed world to bytes told rest conn frontend first ok ne =
     kept_stay fixed conn world (taken_from_link world fixed.master to) (λ name. refl)
     (ok_leaves_others fixed.master (home_at world) world.links to bytes told rest conn frontend first ok ne)
-
-pub idle_stays : IdleStays
-idle_stays fixed world from to message rest conn frontend first idle =
-    kept_stay fixed conn world (taken_from_link world from to) (λ name. refl)
-    (idle_leaves_all fixed.master (home_at world) world.links from to message rest conn frontend first idle)
-
--- where the links are those behind a message
-moved_to : (fixed : Fixed) (before after : World) (links : Links LinkMsg) (front : List ℕ) (replica : Replica) (id : AskId) (here : Place)
-    → SameHomes before after → after.links ≡ links → IsInPlace fixed.master (home_at before) links front replica id here
-    → IsInPlaceOf fixed after front replica id here
-moved_to fixed before after links front replica id here alike same is =
-    moves_with fixed before after front replica id here alike
-    (subst (λ l. IsInPlace fixed.master (home_at before) l front replica id here) (sym same) is)
-
-pub none_stays_of : NoneStaysOf
-none_stays_of fixed world after from to message rest conn frontend first alike same is =
-    in_none_alike (home_at world) (home_at after) alike fixed.master after.links conn
-    (subst (λ l. IsInNone fixed.master (home_at world) l conn) (sym same)
-    (none_stays fixed.master (home_at world) world.links from to message rest conn frontend first is))
-
-pub news_stay : NewsStay
-news_stay fixed world after to bytes rest conn frontend first none alike same =
-    let links : Links LinkMsg = without_first world.links fixed.master to in
-    record {
-      own = λ replica command here is.
-          moved_to fixed world after links to (hears replica (Line bytes)) (record { conn = conn; command = command }) here alike same
-          (takes_news fixed.master (home_at world) world.links to bytes rest replica (record { conn = conn; command = command }) here frontend first none is);
-      others = λ front replica command here apart is.
-          moved_to fixed world after links front replica (record { conn = conn; command = command }) here alike same
-          (news_leave_others fixed.master (home_at world) world.links to bytes rest front replica (record { conn = conn; command = command }) here frontend
-          first none apart is);
-      in_none = none_stays_of fixed world after fixed.master to (Line bytes) rest conn frontend first alike same;
-    }

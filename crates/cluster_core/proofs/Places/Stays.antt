@@ -37,13 +37,6 @@ pub record KeepsPlaces (master : List ℕ) (nodes : Nodes) (conn : ℕ) (links n
 pub keeps_same : (master : List ℕ) (nodes : Nodes) (conn : ℕ) (links : Links LinkMsg) → KeepsPlaces master nodes conn links links
 keeps_same master nodes conn links = record { in_place = λ front replica command here is. is; in_none = λ is. is }
 
-pub keeps_behind : (master : List ℕ) (nodes : Nodes) (conn : ℕ) (one two three : Links LinkMsg) → KeepsPlaces master nodes conn one two
-    → KeepsPlaces master nodes conn two three → KeepsPlaces master nodes conn one three
-keeps_behind master nodes conn one two three first second = record {
-  in_place = λ front replica command here is. second.in_place front replica command here (first.in_place front replica command here is);
-  in_none = λ is. second.in_none (first.in_none is);
-}
-
 -- a link carries what it did
 abbrev pub IsAlike : Links LinkMsg → Links LinkMsg → List ℕ → List ℕ → Type 0
 IsAlike links next from to = on_link next from to ≡ on_link links from to

@@ -293,19 +293,3 @@ they_keep P Q to [] are = All-nil (λ (w : ℕ × Tag). Q w.0)
 they_keep P Q to (w ∷ watchers) are =
     All-cons (λ (x : ℕ × Tag). Q x.0) w watchers (to w.0 (All-head (λ (x : ℕ × Tag). P x.0) w watchers are))
     (they_keep P Q to watchers (All-tail (λ (x : ℕ × Tag). P x.0) w watchers are))
-
-abbrev pub WatchersStayIts : Type 0
-WatchersStayIts = (config : Config) (world : World) (master : Master) (from : List ℕ) (message : LinkMsg) → WatchersAreIts config world master
-    → WatchersAreIts config (with_master (taken_from_link world from (master_of config)) (master_of config) (node_says master from message))
-    (node_says master from message).master
-
-pub watchers_stay_its : WatchersStayIts
-watchers_stay_its config world master from message are =
-    let says = node_says master from message in
-    let name : List ℕ = master_of config in
-    let next : World = with_master (taken_from_link world from name) name says in
-    subst (AreThey (IsIts name next.clients)) (sym (says_watched master from message))
-    (they_keep (IsIts name world.clients) (IsIts name next.clients)
-    (λ conn its. its_then name world.clients next.clients conn
-    (subst (λ cs. Then name world.clients cs conn) (sym (is_made (taken_from_link world from name) name (state.Master says.master) says.outs).clients)
-    (all_then name world.clients says.outs (says_gives (IsIts name world.clients) master from message are) conn)) its) master.watchers are)

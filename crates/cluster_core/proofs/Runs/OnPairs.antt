@@ -77,10 +77,6 @@ know_by_law config heard world law = λ node front at. (((law.feeds).each node f
 abbrev pub KnowBackendsSoFar : Config → List Event → Type 0
 KnowBackendsSoFar config steps = (before later : List Event) → steps ≡ before ++ later → KnowBackends (run_steps (start config) before)
 
--- and after whatever steps
-abbrev pub KnowBackendsAlways : Config → Type 0
-KnowBackendsAlways config = (steps : List Event) → KnowBackends (run_steps (start config) steps)
-
 -- no answer sends a command on
 asks_too : (config : Config) (steps : List Event) → KnowBackends (run_steps (start config) steps) → AskBackends (run_steps (start config) steps)
 asks_too config steps known = record {

@@ -1,4 +1,4 @@
--- Of which kind the nodes of a configuration are: one is the master, no frontend is a backend, and each two that links join are in both directions.
+-- Of which kind the nodes of a configuration are: one is the master, the backends are those of their list, and each two that links join are in both directions.
 use Rattle.std.proofs.Common.{◌≡◌, ◌≢◌, ℕ, zero, suc, ◌<◌, ◌≤◌, ◌||◌, Bool, true, false, nat_eq, cond, if◌then◌else◌, List, [], ◌∷◌, length, Option, None, Some, refl, sym, ap, ◌∙◌, subst, arith, slice_index_or, Contains}
 use Rattle.std.specs.Prelude.{All, AllPairs}
 use Rattle.std.specs.List.{list_any}
@@ -7,7 +7,6 @@ use Rattle.std.specs.Str.{bytes_eq}
 use Rattle.std.proofs.lemmas.Slice.Eq.{bytes_eq-Decides}
 use Rattle.std.proofs.lemmas.List.Elements.{All-head, All-tail, All-cons, All-nil, Contains-append_left, Contains-append_right}
 use Rattle.cluster_core.specs.Headline.Outside.{is_master_node}
-use Rattle.cluster_core.specs.Heard.{is_frontend_node}
 use Rattle.cluster_core.specs.World.{backends_of, first_name, master_among, or_backend, or_master}
 use Rattle.feed_links.proofs.Names.{same_name}
 use Rattle.mur_config.specs.declared.node.Kind.{Kind}
@@ -209,8 +208,7 @@ master_named [] pairs counted = absurd (omega (arith, counted, none_counted))
 master_named (node ∷ nodes) pairs counted =
     master_named_by node nodes node.kind (is_node_named (or_master node.kind node.name (master_among nodes)) node) refl refl pairs counted (master_named nodes)
 
--- no frontend is a backend
-
+-- a name that is none of these
 none_named : (name : List ℕ) (names : List (List ℕ)) → All (λ n. name ≢ n) names → list_any (pointwise nat_eq name) names ≡ false
 none_named name [] all = refl
 none_named name (other ∷ names) all =
@@ -223,40 +221,6 @@ none_named name (other ∷ names) all =
 
     or_false : (a b : Bool) → a ≡ false → b ≡ false → (a || b) ≡ false
     or_false a b one two = rw (one, two) refl
-
-front_named : (node : Node) (kind : Kind) → node.kind ≡ kind → is_frontend_node (Some node) ≡ true → kind ≡ Frontend
-unfolding is_node_of_kind is_of_kind
-front_named node Frontend k is = refl
-front_named node Master k is = absurd (let no : false ≡ true = sym (rw k refl) ∙ is in cc)
-front_named node Backend k is = absurd (let no : false ≡ true = sym (rw k refl) ∙ is in cc)
-
--- the first node has this name, or another one
-no_backend_by : (name : List ℕ) (node : Node) (nodes : List Node) (kind : Kind) (same : Bool) → node.kind ≡ kind → is_node_named name node ≡ same
-    → is_frontend_node (cond same (Some node) (node_named name nodes)) ≡ true → AllPairs (λ (one other : Node). one.name ≢ other.name) (node ∷ nodes)
-    → (is_frontend_node (node_named name nodes) ≡ true → list_any (pointwise nat_eq name) (backends_of nodes) ≡ false)
-    → list_any (pointwise nat_eq name) (or_backend kind node.name (backends_of nodes)) ≡ false
-unfolding or_backend is_node_named
-no_backend_by name node nodes Master true k same is pairs later = absurd (let no : Master ≡ Frontend = sym k ∙ front_named node node.kind refl is in cc)
-no_backend_by name node nodes Master false k same is pairs later = later is
-no_backend_by name node nodes Frontend true k same is pairs later =
-    none_named name (backends_of nodes) (subst (λ n. All (λ m. n ≢ m) (backends_of nodes)) ((bytes_eq-Decides node.name name).0 same)
-    (all_named (λ n. node.name ≢ n) nodes (head_apart node nodes pairs)))
-no_backend_by name node nodes Frontend false k same is pairs later = later is
-no_backend_by name node nodes Backend true k same is pairs later = absurd (let no : Backend ≡ Frontend = sym k ∙ front_named node node.kind refl is in cc)
-no_backend_by name node nodes Backend false k same is pairs later =
-    other (pointwise nat_eq name node.name) refl
-  where
-    other : (equal : Bool) → pointwise nat_eq name node.name ≡ equal → list_any (pointwise nat_eq name) (node.name ∷ backends_of nodes) ≡ false
-    other true e =
-        absurd (let equal = (bytes_eq-Decides node.name name).1 (sym (same_text name node.name (sym e))) in let no : false ≡ true = sym same ∙ equal in cc)
-    other false e = rw (e, later is) refl
-
-pub no_backend : (name : List ℕ) (nodes : List Node) → AllPairs (λ (one other : Node). one.name ≢ other.name) nodes
-    → is_frontend_node (node_named name nodes) ≡ true → list_any (pointwise nat_eq name) (backends_of nodes) ≡ false
-unfolding node_named backends_of
-no_backend name [] pairs is = cc
-no_backend name (node ∷ nodes) pairs is =
-    no_backend_by name node nodes node.kind (is_node_named name node) refl refl is pairs (no_backend name nodes (tail_apart node nodes pairs))
 
 -- ---- a backend of the configuration
 

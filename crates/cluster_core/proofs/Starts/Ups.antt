@@ -124,11 +124,6 @@ still_whole world link (Some it) whole at =
 told_whole : (world : World) (link : Link) → world.broken ≡ [] → (told_up world link).broken ≡ []
 told_whole world link whole = still_whole world link (node_at world link.to) whole refl
 
-pub ups_whole : (world : World) (links : List Link) → world.broken ≡ [] → (with_ups world links).broken ≡ []
-unfolding with_ups
-ups_whole world [] whole = whole
-ups_whole world (link ∷ links) whole = ups_whole (told_up world link) links (told_whole world link whole)
-
 -- ---- several
 
 pub ups_leave : (world : World) (links : List Link) (name : List ℕ) (found : Option NodeState) → world.broken ≡ [] → node_at world name ≡ found

@@ -63,10 +63,6 @@ module _ (murder : Murder) (left : Links LinkMsg) (next : Stepped) (downs : Down
 pub downs_taken : (murder : Murder) (from : List ℕ) → DownsLeft murder (taken murder from murder.master.me)
 downs_taken murder from = λ q ne. taken_else murder.links from murder.master.me murder.master.me q (inr ne)
 
--- where it took none
-pub downs_same : (murder : Murder) → DownsLeft murder murder.links
-downs_same murder = λ q ne. refl
-
 pub up_first : (murder : Murder) (from : List ℕ) (message : LinkMsg) (first : IsFirstOn murder from murder.master.me message)
     → on_link (taken murder from murder.master.me) from murder.master.me ≡ first.rest
 up_first murder from message first = taken_first murder.links from murder.master.me message first.rest first.first

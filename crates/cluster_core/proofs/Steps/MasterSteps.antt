@@ -6,12 +6,11 @@ use Rattle.feed_links.specs.Lines.{HasStreams}
 use Rattle.feed_links.specs.OneFeed.{IsFed}
 use Rattle.front_core.proofs.OneConnection.Places.{about, of_connection}
 use Rattle.link_msg.specs.declared.message.LinkMsg.{LinkMsg}
-use Rattle.link_msg.specs.declared.message.LinkMsg.TheVariants.{Up}
 use Rattle.link_queue.specs.Links.{Links, on_link}
 use Rattle.many_links.specs.ManyHold.{ManyHold}
 use Rattle.many_links.specs.Murder.{Murder, put_all, taken}
 use Rattle.master_core.specs.Linked.{node_says}
-use Rattle.master_core.specs.Outside.{Stepped, bytes_in, connect}
+use Rattle.master_core.specs.Outside.{Stepped}
 use Rattle.master_core.specs.Whose.{TellNobody}
 use Rattle.mur_base.specs.declared.home.Location.{Location}
 use Rattle.mur_base.specs.declared.point.AskId.{AskId}
@@ -71,29 +70,6 @@ abbrev pub LinesLeaveNone : Type 0
 LinesLeaveNone = (murder : Murder) (given : Given) (store : Store) (from : List ℕ) (message : LinkMsg) (conn : ℕ)
     → MasterTakes murder given store from message → about message ≢ of_connection conn → IsNowhere murder conn
     → NoneBehind murder (taken murder from murder.master.me) (node_says murder.master from message) conn
-
--- ---- what takes no message
-
--- a client from outside connects, or sends bytes; where it closes its connection, nothing goes out
-pub record ClientsLeaveIt (murder : Murder) (front : List ℕ) (replica : Replica) (id : AskId) (here : Place) : Type 0 where
-  pub connects : (conn : ℕ) → StaysBehind murder murder.links (connect murder.master conn) front replica id here
-  pub says : (conn : ℕ) (bytes : List ℕ) → StaysBehind murder murder.links (bytes_in murder.master conn bytes) front replica id here
-
-abbrev pub ClientsLeaveEach : Type 0
-ClientsLeaveEach = (murder : Murder) (given : Given) (store : Store) (front : List ℕ) (replica : Replica) (id : AskId) (here : Place)
-    → ManyHold murder given store → IsFront murder front → IsIn murder front replica id here → ClientsLeaveIt murder front replica id here
-
-pub record ClientsLeaveNone (murder : Murder) (conn : ℕ) : Type 0 where
-  pub connects : (outside : ℕ) → NoneBehind murder murder.links (connect murder.master outside) conn
-  pub says : (outside : ℕ) (bytes : List ℕ) → NoneBehind murder murder.links (bytes_in murder.master outside bytes) conn
-
-abbrev pub ClientsLeaveNowhere : Type 0
-ClientsLeaveNowhere = (murder : Murder) (given : Given) (store : Store) (conn : ℕ) → ManyHold murder given store → IsNowhere murder conn
-    → ClientsLeaveNone murder conn
-
--- a link of the master comes up
-abbrev pub UpsLeave : Type 0
-UpsLeave = (murder : Murder) (other : List ℕ) → node_says murder.master other Up ≡ record { master = murder.master; outs = [] }
 
 -- ---- the NOOP of the command
 

@@ -105,9 +105,6 @@ module _ (id : AskId) where
       by false false e = refl
 
   module _ (flows : Flows) where
-    abbrev waiting_so : NamePlace → NamePlace → Type 0
-    waiting_so p q = filter (is_own_ask all) (waiting_in flows.resync) ≡ asks_at p → filter (is_own_ask one) (waiting_in flows.resync) ≡ asks_at q
-
     waits_by : (xs : List NameAsk) → filter (is_own_ask all) (waiting_in flows.resync) ≡ xs
         → filter (is_own_ask one) (waiting_in flows.resync) ≡ filter (is_own_ask one) xs
     waits_by xs e = sym (asks_in (waiting_in flows.resync)) ∙ ap (λ l. filter (is_own_ask one) l) e
@@ -117,10 +114,6 @@ module _ (id : AskId) where
 
     runs_by : (name : List ℕ) (found : Option Flow) → own_flow all (flow_at flows name) ≡ found → own_flow one (flow_at flows name) ≡ own_flow one found
     runs_by name found e = sym (flow_in (flow_at flows name)) ∙ ap (λ f. own_flow one f) e
-
-    numbered_if : (own : Bool) (place : NamePlace) → HasNumbers place → HasNumbers (if_own own place)
-    numbered_if true place fit = fit
-    numbered_if false place fit = tt
 
     flow_shows : (name : List ℕ) (flow : Flow) (place : NamePlace) (own : Bool) → one flow.ask ≡ own → asks_at place ≡ [] → lines_at place ≡ flow_line name flow ∷ []
         → ((other : List ℕ) → flows_at place other ≡ on_name name flow other) → HasNumbers place → IsNumbered flow.ask

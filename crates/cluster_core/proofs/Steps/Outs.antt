@@ -50,13 +50,6 @@ first_left p (x ∷ xs) y ys e = by (p x) refl e (first_left p xs y ys)
 
 -- ---- what is about a connection
 
--- a command is of the connection, or of another one
-pub conn_is : (conn : ℕ) (id : AskId) → is_of_connection conn id ≡ true → id.conn ≡ conn
-conn_is conn id e = by e
-  where
-    by : nat_eq id.conn conn ≡ true → id.conn ≡ conn
-    by k = grind (arith, nat_tests)
-
 pub conn_own : (conn : ℕ) (id : AskId) → id.conn ≡ conn → is_of_connection conn id ≡ true
 conn_own conn id e = by e
   where
@@ -100,13 +93,6 @@ pub own_it : (conn : ℕ) (message : LinkMsg) → about message ≡ of_connectio
 unfolding same_about
 own_it conn message e =
     sym (about_same conn message) ∙ ap (λ a. same_about a (of_connection conn)) e ∙ conn_own conn (record { conn = conn; command = 0 }) refl
-
-pub about_or_not : (conn : ℕ) (message : LinkMsg) → (about message ≡ of_connection conn) ⊎ (about message ≢ of_connection conn)
-about_or_not conn message = by (is_own_message (is_of_connection conn) message) refl
-  where
-    by : (own : Bool) → is_own_message (is_of_connection conn) message ≡ own → (about message ≡ of_connection conn) ⊎ (about message ≢ of_connection conn)
-    by true e = inl (about_it conn message e)
-    by false e = inr (λ same. let no : true ≡ false = sym (own_it conn message same) ∙ e in cc)
 
 -- ---- outputs
 

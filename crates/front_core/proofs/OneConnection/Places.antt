@@ -1,13 +1,8 @@
 -- Where a command of a connection is: nowhere, or in one message on one link.
-use Rattle.std.proofs.Common.{◌≡◌, ◌≢◌, ◌⊎◌, inl, inr, ℕ, Bool, true, false, nat_eq, List, [], ◌∷◌, Option, None, Some, refl, sym, ◌∙◌, ap, arith}
-use Rattle.std.specs.Prelude.{⊤}
+use Rattle.std.proofs.Common.{◌≡◌, ◌≢◌, ℕ, Bool, true, false, nat_eq, List, [], ◌∷◌, Option, None, Some, refl, ◌∙◌, ap, arith}
 use Rattle.std.proofs.lemmas.Bool.Decides.{nat_tests}
-use Rattle.link_msg.specs.declared.answer.BackAnswer.{BackAnswer}
-use Rattle.link_msg.specs.declared.ask.FrontAsk.{FrontAsk}
 use Rattle.link_msg.specs.declared.message.LinkMsg.{LinkMsg}
 use Rattle.link_msg.specs.declared.message.LinkMsg.TheVariants.{Up, End, Line, Ask, Answer}
-use Rattle.link_msg.specs.declared.out.Out.{Out}
-use Rattle.link_msg.specs.declared.out.Out.TheVariants.{Link}
 use Rattle.feed_core.specs.Stream.{update_line, update_tag}
 use Rattle.mupdate_codec.specs.declared.command.MCommand.TheVariants as command
 use Rattle.mupdate_codec.specs.Asks.{ask_id_of, first_word, line_ask, split_dash}
@@ -52,18 +47,6 @@ IsPlaced whom links found = IsFound (is_about whom) links found
 abbrev pub PlacesStay : About → Links LinkMsg → Links LinkMsg → Type 0
 PlacesStay whom links next = (found : Option (Carried LinkMsg)) → IsPlaced whom links found → IsPlaced whom next found
 
--- where a command is: in its frontend's ask to a home, or in the home's answer
-pub data Place : Type 0 where
-  nowhere : Place
-  is_asked : List ℕ → FrontAsk → Place
-  is_answered : List ℕ → BackAnswer → Place
-
--- the message that a command of this frontend is in, and between whom
-abbrev pub its_message : List ℕ → Place → Option (Carried LinkMsg)
-its_message front nowhere = None
-its_message front (is_asked home ask) = Some (record { from = front; to = home; message = Ask ask })
-its_message front (is_answered home answer) = Some (record { from = home; to = front; message = Answer answer })
-
 pub about_itself : (whom : About) → same_about whom whom ≡ true
 unfolding same_about
 about_itself (of_connection conn) = grind (arith, nat_tests)
@@ -102,17 +85,6 @@ pub of_no_command : (ask : Option AskId) → about_command ask ≡ of_nobody →
 of_no_command None e = refl
 of_no_command (Some ask) e = cc
 
--- a message that a node lets out is about them, or about nobody
-abbrev pub IsAboutThem : About → Out → Type 0
-IsAboutThem whom (Link node message) = (about message ≡ whom) ⊎ (about message ≡ of_nobody)
-IsAboutThem whom out = ⊤
-
--- so it is about no other connection
-pub not_about : (whom : About) (conn : ℕ) (message : LinkMsg) → (about message ≡ whom) ⊎ (about message ≡ of_nobody) → whom ≢ of_connection conn
-    → about message ≢ of_connection conn
-not_about whom conn message (inl same) ne = λ e. ne (sym same ∙ e)
-not_about whom conn message (inr none) ne = λ e. nobody_whom conn (sym none ∙ e)
-
 own_about : (whom : About) (message : LinkMsg) → about message ≡ whom → is_about whom message ≡ true
 own_about whom message e = ap (λ a. same_about a whom) e ∙ about_itself whom
 
@@ -142,38 +114,3 @@ sent_alone links f t message whom own none = own_sent (is_about whom) links f t 
 pub nowhere_on_empty : (links : Links LinkMsg) (whom : About) (here : Option (Carried LinkMsg)) → ((a b : List ℕ) → on_link links a b ≡ [])
     → IsPlaced whom links here → here ≡ None
 nowhere_on_empty links whom here empty placed = none_on_empty (is_about whom) links here empty placed
-
--- a command that is in an ask, or in an answer, by its message
-
-just : {one other : Carried LinkMsg} → Some one ≡ Some other → one ≡ other
-just e = cc
-
-pub in_an_ask : (front f t : List ℕ) (ask : FrontAsk) (place : Place) → its_message front place ≡ Some (record { from = f; to = t; message = Ask ask })
-    → (front ≡ f) × (place ≡ is_asked t ask)
-in_an_ask front f t ask nowhere e = cc
-in_an_ask front f t ask (is_asked home own) e =
-    let same : Ask own ≡ Ask ask = ap (λ (c : Carried LinkMsg). c.message) (just e) in
-    let own_is : own ≡ ask = cc in
-    (ap (λ (c : Carried LinkMsg). c.from) (just e), ap (λ h. is_asked h own) (ap (λ (c : Carried LinkMsg). c.to) (just e)) ∙ ap (is_asked t) own_is)
-in_an_ask front f t ask (is_answered home answer) e =
-    absurd (let no : Answer answer ≡ Ask ask = ap (λ (c : Carried LinkMsg). c.message) (just e) in cc)
-
-pub in_an_answer : (front f t : List ℕ) (answer : BackAnswer) (place : Place)
-    → its_message front place ≡ Some (record { from = f; to = t; message = Answer answer }) → (front ≡ t) × (place ≡ is_answered f answer)
-in_an_answer front f t answer nowhere e = cc
-in_an_answer front f t answer (is_asked home ask) e =
-    absurd (let no : Ask ask ≡ Answer answer = ap (λ (c : Carried LinkMsg). c.message) (just e) in cc)
-in_an_answer front f t answer (is_answered home own) e =
-    let same : Answer own ≡ Answer answer = ap (λ (c : Carried LinkMsg). c.message) (just e) in
-    let own_is : own ≡ answer = cc in
-    (ap (λ (c : Carried LinkMsg). c.to) (just e), ap (λ h. is_answered h own) (ap (λ (c : Carried LinkMsg). c.from) (just e)) ∙ ap (is_answered f) own_is)
-
--- no command is in a line
-pub in_a_line : (front f t bytes : List ℕ) (place : Place) → its_message front place ≡ Some (record { from = f; to = t; message = Line bytes }) → ⊥
-in_a_line front f t bytes nowhere e = cc
-in_a_line front f t bytes (is_asked home ask) e = (let no : Ask ask ≡ Line bytes = ap (λ (c : Carried LinkMsg). c.message) (just e) in cc)
-in_a_line front f t bytes (is_answered home answer) e = (let no : Answer answer ≡ Line bytes = ap (λ (c : Carried LinkMsg). c.message) (just e) in cc)
-
--- one that is in a message is not nowhere
-pub somewhere : (front : List ℕ) (place : Place) (it : Carried LinkMsg) → its_message front place ≡ Some it → place ≡ nowhere → ⊥
-somewhere front place it e none = (let no : None ≡ Some it = sym (ap (its_message front) none) ∙ e in cc)
