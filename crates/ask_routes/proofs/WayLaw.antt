@@ -35,7 +35,6 @@ first_by recs first name (Some found) is = ap server_by is
 pub each_first : EachFirst
 each_first recs first (about.Mailbox name) = first_by recs first name (rec_at recs name) refl
 each_first recs first (about.Create name) = refl
-each_first recs first about.List = refl
 
 -- behind an answer
 
@@ -47,9 +46,6 @@ each_answered (answer.Unreached node) = (λ e. cc, λ server e. cc)
 each_answered answer.Lost = (λ e. cc, λ server e. cc)
 
 -- behind the OK
-
-list_is_other : why.List ≢ why.NotNow
-list_is_other e = cc
 
 missing_is_other : why.Missing ≢ why.NotNow
 missing_is_other e = cc
@@ -68,18 +64,15 @@ module _ (recs : Recs) (first name : List ℕ) where
   mailbox_by : (it : Why) (found : Option Rec) → rec_at recs name ≡ found → IsBehind recs first (about.Mailbox name) it (mailbox_behind it found)
   mailbox_by it None is = (name, refl, is)
   mailbox_by it (Some (Active place acl)) is = mailbox_asks it (Some (Active place acl)) place.server is refl
-  mailbox_by why.List (Some (Reserved place acl)) is = mailbox_asks why.List (Some (Reserved place acl)) place.server is (refl, list_is_other)
   mailbox_by why.Missing (Some (Reserved place acl)) is = mailbox_asks why.Missing (Some (Reserved place acl)) place.server is (refl, missing_is_other)
-  mailbox_by why.NotNow (Some (Reserved place acl)) is = (name, refl, ap is_reserved_if is, refl)
+  mailbox_by why.NotNow (Some (Reserved place acl)) is = (ap is_reserved_if is, refl)
 
   create_by : (it : Why) (found : Option Rec) → rec_at recs name ≡ found → IsBehind recs first (about.Create name) it (create_behind recs first name it found)
   create_by it None is = create_asks it None (home_for recs first name) is refl
   create_by it (Some (Active place acl)) is = create_asks it (Some (Active place acl)) place.server is refl
-  create_by why.List (Some (Reserved place acl)) is = create_asks why.List (Some (Reserved place acl)) place.server is (refl, list_is_other)
   create_by why.Missing (Some (Reserved place acl)) is = create_asks why.Missing (Some (Reserved place acl)) place.server is (refl, missing_is_other)
-  create_by why.NotNow (Some (Reserved place acl)) is = (name, refl, ap is_reserved_if is, refl)
+  create_by why.NotNow (Some (Reserved place acl)) is = (ap is_reserved_if is, refl)
 
 pub each_behind : EachBehind
 each_behind recs first (about.Mailbox name) it = mailbox_by recs first name it (rec_at recs name) refl
 each_behind recs first (about.Create name) it = create_by recs first name it (rec_at recs name) refl
-each_behind recs first about.List it = refl

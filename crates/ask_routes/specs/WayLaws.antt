@@ -21,7 +21,6 @@ use Rattle.ask_routes.specs.Ways.{ask_for, behind_answer, behind_ok, first_step}
 abbrev pub IsAbout : List ℕ → Op → AskFor → Type 0
 IsAbout name it (about.Mailbox own) = (own ≡ name) × (it ≢ op.Create)
 IsAbout name it (about.Create own) = (own ≡ name) × (it ≡ op.Create)
-IsAbout name it about.List = ⊥
 
 abbrev pub EachAbout : Type 0
 EachAbout = (name : List ℕ) (it : Op) → IsAbout name it (ask_for name it)
@@ -32,20 +31,17 @@ EachAbout = (name : List ℕ) (it : Op) → IsAbout name it (ask_for name it)
 abbrev pub AsksFirst : Recs → List ℕ → AskFor → List ℕ → Type 0
 AsksFirst recs first (about.Mailbox name) server = server_at recs name ≡ Some server
 AsksFirst recs first (about.Create name) server = server ≡ home_for recs first name
-AsksFirst recs first about.List server = ⊥
 
--- the command lists, or is at a mailbox whose name has no record
+-- the command is at a mailbox whose name has no record
 abbrev pub WaitsFirst : Recs → AskFor → Why → Type 0
 WaitsFirst recs (about.Mailbox name) it = (it ≡ why.Missing) × (rec_at recs name ≡ None)
 WaitsFirst recs (about.Create name) it = ⊥
-WaitsFirst recs about.List it = it ≡ why.List
 
 abbrev pub IsFirst : Recs → List ℕ → AskFor → Next → Type 0
 IsFirst recs first what (next.Ask server) = AsksFirst recs first what server
 IsFirst recs first what (next.Barrier it) = WaitsFirst recs what it
 IsFirst recs first what next.Missing = ⊥
 IsFirst recs first what next.Refused = ⊥
-IsFirst recs first what next.List = ⊥
 
 abbrev pub EachFirst : Type 0
 EachFirst = (recs : Recs) (first : List ℕ) (what : AskFor) → IsFirst recs first what (first_step recs first what)
@@ -58,18 +54,15 @@ IsAnswered body (Some (next.Ask server)) = body ≡ answer.Moved server
 IsAnswered body (Some (next.Barrier it)) = (body ≡ answer.NotNow) × (it ≡ why.NotNow)
 IsAnswered body (Some next.Missing) = ⊥
 IsAnswered body (Some next.Refused) = ⊥
-IsAnswered body (Some next.List) = ⊥
 
 abbrev pub EachAnswered : Type 0
 EachAnswered = (body : AnswerBody) → IsAnswered body (behind_answer body)
 
 -- ---- behind the OK of the barrier: the command doesn't wait again
 
--- the name of a command that has one
-abbrev pub name_of : AskFor → Option (List ℕ)
-name_of (about.Mailbox name) = Some name
-name_of (about.Create name) = Some name
-name_of about.List = None
+abbrev pub name_of : AskFor → List ℕ
+name_of (about.Mailbox name) = name
+name_of (about.Create name) = name
 
 -- the record names this server; a reserved one isn't asked again for a home that couldn't serve it
 abbrev pub RecordAsks : Why → Option Rec → List ℕ → Type 0
@@ -85,7 +78,6 @@ CreateAsks home it (Some found) server = RecordAsks it (Some found) server
 abbrev pub AsksBehind : Recs → List ℕ → AskFor → Why → List ℕ → Type 0
 AsksBehind recs first (about.Mailbox name) it server = RecordAsks it (rec_at recs name) server
 AsksBehind recs first (about.Create name) it server = CreateAsks (home_for recs first name) it (rec_at recs name) server
-AsksBehind recs first about.List it server = ⊥
 
 abbrev pub is_reserved_if : Option Rec → Bool
 is_reserved_if None = false
@@ -96,8 +88,7 @@ abbrev pub IsBehind : Recs → List ℕ → AskFor → Why → Next → Type 0
 IsBehind recs first what it (next.Ask server) = AsksBehind recs first what it server
 IsBehind recs first what it (next.Barrier again) = ⊥
 IsBehind recs first what it next.Missing = (name : List ℕ) × (what ≡ about.Mailbox name) × (rec_at recs name ≡ None)
-IsBehind recs first what it next.Refused = (name : List ℕ) × (name_of what ≡ Some name) × (is_reserved_if (rec_at recs name) ≡ true) × (it ≡ why.NotNow)
-IsBehind recs first what it next.List = what ≡ about.List
+IsBehind recs first what it next.Refused = (is_reserved_if (rec_at recs (name_of what)) ≡ true) × (it ≡ why.NotNow)
 
 abbrev pub EachBehind : Type 0
 EachBehind = (recs : Recs) (first : List ℕ) (what : AskFor) (it : Why) → IsBehind recs first what it (behind_ok recs first what it)

@@ -35,7 +35,6 @@ create_first recs first name = next.Ask (home_for recs first name)
 abbrev pub first_step : Recs → List ℕ → AskFor → Next
 first_step recs first (about.Mailbox name) = mailbox_first (server_at recs name)
 first_step recs first (about.Create name) = create_first recs first name
-first_step recs first about.List = next.Barrier why.List
 
 -- ---- behind an answer of the home: it can't serve the mailbox at present, or knows that it has moved; any other answer ends the asking
 
@@ -67,4 +66,3 @@ create_behind recs first name it (Some found) = behind_record it found
 abbrev pub behind_ok : Recs → List ℕ → AskFor → Why → Next
 behind_ok recs first (about.Mailbox name) it = mailbox_behind it (rec_at recs name)
 behind_ok recs first (about.Create name) it = create_behind recs first name it (rec_at recs name)
-behind_ok recs first about.List it = next.List

@@ -12,8 +12,6 @@ pub enum AskFor {
     Mailbox(MailName),
     /// A new mailbox of this name (RFC 9051, 6.3.4).
     Create(MailName),
-    /// The names of the mailboxes (RFC 9051, 6.3.9).
-    List,
 }
 
 impl AskFor {

@@ -4,8 +4,6 @@ use mur_base::NodeName;
 /// Why the master is asked before a command is decided.
 #[derive(Clone, Copy, Debug, PartialEq, Eq)]
 pub enum Why {
-    /// The mailboxes are to be listed.
-    List,
     /// The replica has no record of the name.
     Missing,
     /// The home answered that the mailbox can't be served there at present.
@@ -23,6 +21,4 @@ pub enum Next {
     Missing,
     /// The command is refused, since the mailbox is being moved (RFC 9051, 7.1: UNAVAILABLE).
     Refused,
-    /// The names of the replica's mailboxes are listed.
-    List,
 }

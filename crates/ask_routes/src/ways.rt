@@ -50,7 +50,6 @@ pub fn first_step(
     match what {
         AskFor::Mailbox(name) => mailbox_first(alloc, replica, name),
         AskFor::Create(name) => create_first(alloc, replica, first, name),
-        AskFor::List => Ok(Next::Barrier(Why::List)),
     }
 }
 
@@ -117,6 +116,5 @@ pub fn behind_ok(
     match what {
         AskFor::Mailbox(name) => mailbox_behind(alloc, replica, name, why),
         AskFor::Create(name) => create_behind(alloc, replica, first, name, why),
-        AskFor::List => Ok(Next::List),
     }
 }

@@ -47,7 +47,6 @@ first_asks master id session it (next.Ask server) = server_asked master id sessi
 first_asks master id session it (next.Barrier cause) = master_asked master id session it cause
 first_asks master id session it next.Missing = master_asked master id session it why.Missing
 first_asks master id session it next.Refused = master_asked master id session it why.Missing
-first_asks master id session it next.List = master_asked master id session it why.Missing
 
 pub begins_to_ask : BeginsToAsk
 unfolding first_sent
@@ -96,7 +95,6 @@ next_held master id session it (next.Ask server) = (refl, server_asked master id
 next_held master id session it (next.Barrier cause) = (refl, master_asked master id session it cause)
 next_held master id session it next.Missing = told_held master id session it Missing
 next_held master id session it next.Refused = tt
-next_held master id session it next.List = refl
 
 pub asks_the_same : AsksTheSame
 unfolding answered
@@ -134,7 +132,6 @@ next_refuses master id session it (next.Ask server) cause need e = absurd (let n
 next_refuses master id session it (next.Barrier reason) cause need e = absurd (let no : ⊥ = cc in no)
 next_refuses master id session it next.Missing cause need e = absurd (need_never_refuses (finish session it.asking.awaited Missing).need cause need e)
 next_refuses master id session it next.Refused cause need e = (sym (same_cause e), refl)
-next_refuses master id session it next.List cause need e = absurd (let no : ⊥ = cc in no)
 
 pub refused_behind_ok : RefusedBehindOk
 unfolding cleared
@@ -154,7 +151,6 @@ next_bars master id session it (next.Ask server) again sent e at = absurd (let n
 next_bars master id session it (next.Barrier reason) again sent e at = let same : Barrier reason ≡ Barrier again = at in cc
 next_bars master id session it next.Missing again sent e at = absurd (need_never_sends (finish session it.asking.awaited Missing).need sent e)
 next_bars master id session it next.Refused again sent e at = absurd (let no : ⊥ = cc in no)
-next_bars master id session it next.List again sent e at = absurd (let no : ⊥ = cc in no)
 
 never_again : (recs : Recs) (first : List ℕ) (what : AskFor) (it again : Why) → behind_ok recs first what it ≡ next.Barrier again → ⊥
 never_again recs first what it again e = subst (λ (n : Next). IsBehind recs first what it n) e (each_behind recs first what it)

@@ -56,7 +56,6 @@ goes_on master id session it (next.Ask server) = sends session (asks_server id s
 goes_on master id session it (next.Barrier cause) = sends session (asks_master master id it cause)
 goes_on master id session it next.Missing = told session it Missing
 goes_on master id session it next.Refused = refused session it Reserved
-goes_on master id session it next.List = went session it then.Stays
 
 -- an answer after which no node is asked
 abbrev pub told_by : Sess → Waiting → AnswerBody → WentOn

@@ -50,7 +50,6 @@ impl Waiting {
             Next::Barrier(why) => Ok(Then::Sends(self.bars(routes, why)?)),
             Next::Missing => self.told(routes.alloc, session, OpResult::Missing),
             Next::Refused => self.refused(routes.alloc, session, What::Reserved),
-            Next::List => Ok(Then::Stays),
         }
     }
 

@@ -86,7 +86,7 @@ impl Waiting {
         match next {
             Next::Ask(server) => self.asks(routes, session, server),
             Next::Barrier(why) => self.bars(routes, why),
-            Next::Missing | Next::Refused | Next::List => self.bars(routes, Why::Missing),
+            Next::Missing | Next::Refused => self.bars(routes, Why::Missing),
         }
     }
 }

@@ -46,10 +46,6 @@ fn put_told(
             Ok(put_found(replica.nearest_above(alloc, &name)?, out)?)
         }
         "names" => Ok(put_names(replica.names(alloc)?.as_slice(), out)?),
-        "matching" => {
-            let names = replica.matching(alloc, rest.as_bytes())?;
-            Ok(put_names(names.as_slice(), out)?)
-        }
         "whole" => Ok(put_whole(replica.is_whole(), out)?),
         _ => Err(Fault::Unreadable("no such step")),
     }

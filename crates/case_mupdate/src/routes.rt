@@ -75,7 +75,6 @@ fn body_of(alloc: Global, text: &str) -> Result<AnswerBody, Fault> {
 fn put_behind_ok(alloc: Global, stage: &Stage, text: &str, out: &mut Bytes) -> Result<(), Fault> {
     let (why, rest) = text.split_once(' ').unwrap_or((text, ""));
     let why = match why {
-        "list" => Why::List,
         "missing" => Why::Missing,
         "notnow" => Why::NotNow,
         _ => return Err(Fault::Unreadable("no such reason")),
@@ -88,7 +87,7 @@ fn put_behind_ok(alloc: Global, stage: &Stage, text: &str, out: &mut Bytes) -> R
 /// What a command is about.
 fn about(alloc: Global, text: &str) -> Result<AskFor, Fault> {
     let Some((word, name)) = text.split_once(' ') else {
-        return Ok(AskFor::List);
+        return Err(Fault::Unreadable("no name"));
     };
     let name = mail_name(alloc, name.as_bytes())?;
     Ok(AskFor::at(name, &op_of(word)?))
@@ -109,12 +108,10 @@ fn put_next(next: &Next, out: &mut Bytes) -> Result<(), Memory> {
             out.extend_from_slice(b"ask ")?;
             out.extend_from_slice(server.as_bytes())
         }
-        Next::Barrier(Why::List) => out.extend_from_slice(b"wait to list"),
         Next::Barrier(Why::Missing) => out.extend_from_slice(b"wait, no record"),
         Next::Barrier(Why::NotNow) => out.extend_from_slice(b"wait, not now"),
         Next::Missing => out.extend_from_slice(b"missing"),
         Next::Refused => out.extend_from_slice(b"refused"),
-        Next::List => out.extend_from_slice(b"list"),
     }
 }
 

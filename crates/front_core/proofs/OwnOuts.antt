@@ -99,7 +99,6 @@ module _ (may : List ℕ → LinkMsg → Type 0) where
   asks_first_may ways ask (about.Mailbox name) server may_ask its is = may_ask.named ask server (ap (server_at ways.recs) (sym its.0) ∙ is)
   asks_first_may ways ask (about.Create name) server may_ask its is =
       subst (λ at. may at (Ask ask)) (sym (is ∙ ap (home_for ways.recs ways.first) its.0)) (may_ask.made ask its.1)
-  asks_first_may ways ask about.List server may_ask its is = absurd is
 
   abbrev MaySend : Sent → Type 0
   MaySend sent = may sent.to sent.message
@@ -110,7 +109,6 @@ module _ (may : List ℕ → LinkMsg → Type 0) where
   first_may ways id session it what (next.Barrier why) may_ask its is = may_ask.master (noop_line id)
   first_may ways id session it what next.Missing may_ask its is = may_ask.master (noop_line id)
   first_may ways id session it what next.Refused may_ask its is = may_ask.master (noop_line id)
-  first_may ways id session it what next.List may_ask its is = may_ask.master (noop_line id)
 
   begun_may : (ways : Ways) (id : AskId) (session : Sess) (it : Waiting) → MayAsk may ways
       → MaySend (first_sent ways.recs ways.master ways.first id session it).sent
@@ -138,7 +136,6 @@ module _ (may : List ℕ → LinkMsg → Type 0) where
   goes_on_there ways id session it (next.Barrier why) may_ask there = may_ask.master (noop_line id)
   goes_on_there ways id session it next.Missing may_ask there = needs_go _
   goes_on_there ways id session it next.Refused may_ask there = tt
-  goes_on_there ways id session it next.List may_ask there = tt
 
   told_there : (session : Sess) (it : Waiting) (body : AnswerBody) → GoesThere (told_by session it body).then
   told_there session it (answer_body.Done outcome seen) = needs_go _
@@ -163,7 +160,6 @@ module _ (may : List ℕ → LinkMsg → Type 0) where
   answered_there ways id session it body (Some (next.Barrier why)) may_ask moves is = may_ask.master (noop_line id)
   answered_there ways id session it body (Some next.Missing) may_ask moves is = absurd is
   answered_there ways id session it body (Some next.Refused) may_ask moves is = absurd is
-  answered_there ways id session it body (Some next.List) may_ask moves is = absurd is
 
   answer_there : (ways : Ways) (id : AskId) (session : Sess) (it : Waiting) (body : AnswerBody) → MayAsk may ways → MovesThere body
       → GoesThere (answered ways.master id session it body).then
@@ -189,7 +185,6 @@ module _ (may : List ℕ → LinkMsg → Type 0) where
   behind_there ways ask (about.Create name) why server may_ask its is =
       create_there ways ask why (rec_at ways.recs ask.name) server may_ask its.1 refl
       (subst (λ n. CreateAsks (home_for ways.recs ways.first n) why (rec_at ways.recs n) server) its.0 is)
-  behind_there ways ask about.List why server may_ask its is = absurd is
 
   ok_asks_there : (ways : Ways) (ask : FrontAsk) (what : AskFor) (why : Why) (is_next : Next) → MayAsk may ways → IsAbout ask.name ask.op what
       → IsBehind ways.recs ways.first what why is_next → IsAskedThere ask is_next
@@ -197,7 +192,6 @@ module _ (may : List ℕ → LinkMsg → Type 0) where
   ok_asks_there ways ask what why (next.Barrier again) may_ask its is = tt
   ok_asks_there ways ask what why next.Missing may_ask its is = tt
   ok_asks_there ways ask what why next.Refused may_ask its is = tt
-  ok_asks_there ways ask what why next.List may_ask its is = tt
 
   cleared_there : (ways : Ways) (id : AskId) (session : Sess) (it : Waiting) (why : Why) → MayAsk may ways
       → GoesThere (cleared ways.recs ways.master ways.first id session it why).then

@@ -65,7 +65,6 @@ next_fit master id session it (next.Ask server) = refl
 next_fit master id session it (next.Barrier cause) = refl
 next_fit master id session it next.Missing = turn_fit session it (turn_of session it.asking.awaited Missing)
 next_fit master id session it next.Refused = refused_fit session it _
-next_fit master id session it next.List = (refl, refl)
 
 pub answered_fit : (master : List ℕ) (id : AskId) (session : Sess) (it : Waiting) (body : AnswerBody) → IsFit session it (answered master id session it body)
 unfolding answered

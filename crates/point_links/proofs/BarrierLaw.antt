@@ -166,7 +166,6 @@ module _ (murder : Murder) (given : Given) (store : Store) (front master first :
       → BarrierIs murder given store front master first c cause
   by_reserved why.NotNow server is e = is_refused refl (reserved is)
   by_reserved why.Missing server is e = asked why.Missing server e
-  by_reserved why.List server is e = asked why.List server e
 
   by_the_state : (cause : Why) (server : List ℕ) (z : State) → not (is_active_state z) ≡ is_reserved found_at
       → decided table master first c cause ≡ goes_on master c.id c.was c.waiting (by_state cause server z)

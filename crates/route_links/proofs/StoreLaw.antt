@@ -1,13 +1,10 @@
 -- What the table of a step says is as the store of that step has it.
-use Rattle.std.proofs.Common.{◌≡◌, ℕ, true, false, List, filter, Option, None, Some, refl, sym, ap, ◌∙◌, subst}
-use Rattle.ask_routes.specs.declared.ask_for.AskFor.{AskFor}
+use Rattle.std.proofs.Common.{◌≡◌, ℕ, true, false, List, Option, None, Some, refl, sym, ap, ◌∙◌, subst}
 use Rattle.ask_routes.specs.declared.ask_for.AskFor.TheVariants as about
 use Rattle.ask_routes.specs.declared.next.Next.TheVariants as next
 use Rattle.ask_routes.specs.declared.next.Why.{Why}
 use Rattle.ask_routes.specs.declared.next.Why.TheVariants as why
-use Rattle.ask_routes.specs.WayLaws.{name_of}
 use Rattle.ask_routes.specs.Ways.{behind_reserved}
-use Rattle.feed_core.specs.Listing.{is_matching}
 use Rattle.feed_links.specs.Replicas.{replica_of}
 use Rattle.master_core.specs.Refusals.{is_reserved}
 use Rattle.mur_model.specs.declared.store.Store.{Store}
@@ -21,14 +18,13 @@ use Rattle.store_links.proofs.BoxesLaw.{same_names}
 use Rattle.store_links.proofs.OpenLaw.{none_is_missing}
 use Rattle.route_links.specs.AsTheStore.{MissingHasNoBox, NamesAreTheStores, RefusedIsReserved, HasTheBox, AskedHasTheBox, IsAsTheStore, DecidesAsTheStore}
 use Rattle.route_links.specs.Barriers.{Place, answered}
-use Rattle.route_links.specs.Decided.{by_state, mailbox_by, create_by, by_table}
+use Rattle.route_links.specs.Decided.{by_state, mailbox_by, create_by}
 use Rattle.route_links.proofs.BarrierLaw.{decides}
 use Rattle.route_links.proofs.DecidedLaw.{by_its_table, names_of_its_table}
 
 -- ---- missing
 
 reserved_is_there : (server : List ℕ) (it : Why) → behind_reserved server it ≡ next.Missing → ⊥
-reserved_is_there server why.List e = cc
 reserved_is_there server why.Missing e = cc
 reserved_is_there server why.NotNow e = cc
 
@@ -47,12 +43,11 @@ missing_has_no_box table homes store first name it shown e = none_is_missing tab
 -- ---- listed
 
 pub names_are_the_stores : NamesAreTheStores
-names_are_the_stores table homes store pattern shown = ap (λ names. filter (is_matching pattern) names) (same_names table homes store shown)
+names_are_the_stores table homes store shown = names_of_its_table table ∙ same_names table homes store shown
 
 -- ---- refused
 
 reserved_refused : (server : List ℕ) (it : Why) → behind_reserved server it ≡ next.Refused → it ≡ why.NotNow
-reserved_refused server why.List e = cc
 reserved_refused server why.Missing e = cc
 reserved_refused server why.NotNow e = refl
 
@@ -72,15 +67,12 @@ create_refused table first name it None e = absurd (let no : ⊥ = cc in no)
 create_refused table first name it (Some found) e = record_refused it found found.state refl e
 
 pub refused_is_reserved : RefusedIsReserved
-refused_is_reserved table first (about.Mailbox name) it e = (let is = mailbox_refused it (record_at table name) e in (name, refl, is.0, is.1))
-refused_is_reserved table first (about.Create name) it e =
-    (let is = create_refused table first name it (record_at table name) e in (name, refl, is.0, is.1))
-refused_is_reserved table first about.List it e = absurd (let no : ⊥ = cc in no)
+refused_is_reserved table first (about.Mailbox name) it e = mailbox_refused it (record_at table name) e
+refused_is_reserved table first (about.Create name) it e = create_refused table first name it (record_at table name) e
 
 -- ---- asked
 
 reserved_asks : (server asked : List ℕ) (it : Why) → behind_reserved server it ≡ next.Ask asked → server ≡ asked
-reserved_asks server asked why.List e = cc
 reserved_asks server asked why.Missing e = cc
 reserved_asks server asked why.NotNow e = cc
 
@@ -108,34 +100,20 @@ module _ (homes : Homes) (store : Store) (name server : List ℕ) where
   create_has table first it None shows box e = absurd (let no : ⊥ = cc in no)
   create_has table first it (Some found) shows box e = state_has it (found.place).server found.state shows box e
 
-some_name : (one other : List ℕ) → (let o : Option (List ℕ) = Some one in o ≡ Some other) → one ≡ other
-some_name one other e = cc
-
-asked_by : (table : MailboxTable) (homes : Homes) (store : Store) (first name server : List ℕ) (it : Why) (what : AskFor) → Shows table homes store
-    → name_of what ≡ Some name → is_mailbox_if (record_at table name) ≡ true → by_table table first what it ≡ next.Ask server
-    → HasTheBox homes store server name
-asked_by table homes store first name server it (about.Mailbox own) shown is box e =
-    let same : own ≡ name = some_name own name is in
-    mailbox_has homes store name server it (record_at table name) (shown.names name) box
-    (subst (λ n. mailbox_by it (record_at table n) ≡ next.Ask server) same e)
-asked_by table homes store first name server it (about.Create own) shown is box e =
-    let same : own ≡ name = some_name own name is in
-    create_has homes store name server table first it (record_at table name) (shown.names name) box
-    (subst (λ n. create_by table first n it (record_at table n) ≡ next.Ask server) same e)
-asked_by table homes store first name server it about.List shown is box e = absurd (let no : ⊥ = cc in no)
-
 pub asked_has_the_box : AskedHasTheBox
-asked_has_the_box table homes store first name server what it shown is box e = asked_by table homes store first name server it what shown is box e
+asked_has_the_box table homes store first server (about.Mailbox name) it shown box e =
+    mailbox_has homes store name server it (record_at table name) (shown.names name) box e
+asked_has_the_box table homes store first server (about.Create name) it shown box e =
+    create_has homes store name server table first it (record_at table name) (shown.names name) box e
 
 -- ---- all of it, where the frontend takes the OK
 
 as_the_store : (table : MailboxTable) (homes : Homes) (store : Store) → Shows table homes store → IsAsTheStore table homes store (replica_of table)
 as_the_store table homes store shown = record {
   missing = λ first name it e. missing_has_no_box table homes store first name it shown (sym (by_its_table table first (about.Mailbox name) it) ∙ e);
-  listed = λ pattern. names_of_its_table table pattern ∙ names_are_the_stores table homes store pattern shown;
-  refused = λ first what it e. (let is = refused_is_reserved table first what it (sym (by_its_table table first what it) ∙ e) in (is.0, is.1, is.2));
-  asked = λ first name server what it is box e.
-      asked_by table homes store first name server it what shown is box (sym (by_its_table table first what it) ∙ e);
+  listed = names_are_the_stores table homes store shown;
+  refused = λ first what it e. (refused_is_reserved table first what it (sym (by_its_table table first what it) ∙ e)).0;
+  asked = λ first server what it box e. asked_has_the_box table homes store first server what it shown box (sym (by_its_table table first what it) ∙ e);
 }
 
 same_table : (table other : MailboxTable) → (let p : Place = answered table in p ≡ answered other) → table ≡ other

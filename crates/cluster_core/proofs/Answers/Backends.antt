@@ -38,7 +38,6 @@ module _ (nodes : Nodes) (recs : Recs) (known : NamesBackends nodes recs) where
   by_reserved : (cause : Why) (place : Location) → IsSome (nodes place.server) → NextIsBackend nodes (behind_reserved place.server cause)
   by_reserved why.NotNow place there = tt
   by_reserved why.Missing place there = there
-  by_reserved why.List place there = there
 
   by_record : (name : List ℕ) (cause : Why) (it : Rec) → rec_at recs name ≡ Some it → NextIsBackend nodes (behind_record cause it)
   by_record name cause (Active place acl) e = known name place.server (ap server_by e)
@@ -57,7 +56,6 @@ module _ (nodes : Nodes) (recs : Recs) (known : NamesBackends nodes recs) where
     behind_backend : (what : AskFor) (cause : Why) → NextIsBackend nodes (behind_ok recs first what cause)
     behind_backend (about.Mailbox name) cause = by_mailbox name cause (rec_at recs name) refl
     behind_backend (about.Create name) cause = by_create name cause (rec_at recs name) refl
-    behind_backend about.List cause = tt
 
     goes_to_backend : (master : List ℕ) (id : AskId) (session : Sess) (it : Waiting) (cause : Why) (found : Next) → it.at ≡ at_master cause
         → NextIsBackend nodes found → AsksBackend nodes ((goes_on master id session it found).waiting).at
@@ -66,7 +64,6 @@ module _ (nodes : Nodes) (recs : Recs) (known : NamesBackends nodes recs) where
     goes_to_backend master id session it cause (next.Barrier reason) at is = λ other e. absurd (let no : at_master reason ≡ Home other = e in cc)
     goes_to_backend master id session it cause next.Missing at is = λ other e. absurd (no_server (sym at ∙ e))
     goes_to_backend master id session it cause next.Refused at is = λ other e. absurd (no_server (sym at ∙ e))
-    goes_to_backend master id session it cause next.List at is = λ other e. absurd (no_server (sym at ∙ e))
 
     pub cleared_backend : (master : List ℕ) (id : AskId) (session : Sess) (it : Waiting) (cause : Why) → it.at ≡ at_master cause
         → AsksBackend nodes ((cleared recs master first id session it cause).waiting).at

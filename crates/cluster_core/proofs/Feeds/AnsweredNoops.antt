@@ -59,7 +59,6 @@ next_well master id session it (next.Ask server) numbered well = inl well
 next_well master id session it (next.Barrier cause) numbered well = inr (is_noop id numbered)
 next_well master id session it next.Missing numbered well = needs_well master (finish session it.asking.awaited Missing).need
 next_well master id session it next.Refused numbered well = tt
-next_well master id session it next.List numbered well = tt
 
 told_well : (master : List ℕ) (session : Sess) (it : Waiting) (body : AnswerBody) → IsWellThen master (told_by session it body).then
 told_well master session it (answer.Done outcome seen) = needs_well master _
@@ -92,7 +91,6 @@ module _ (setting : Setting) (ways : Ways) (apart : AreApart ways) (conn : ℕ) 
   reserved_well : (server : List ℕ) (cause : Why) → server ≢ ways.master → IsWellNext ways.master (behind_reserved server cause)
   reserved_well server why.NotNow ne = tt
   reserved_well server why.Missing ne = ne
-  reserved_well server why.List ne = ne
 
   record_well : (name : List ℕ) (cause : Why) (found : Rec) → rec_at ways.recs name ≡ Some found → IsWellNext ways.master (behind_record cause found)
   record_well name cause (Active place acl) at = apart.named name place.server (ap server_by at)
@@ -110,7 +108,6 @@ module _ (setting : Setting) (ways : Ways) (apart : AreApart ways) (conn : ℕ) 
   ok_next_well : (asks_for : AskFor) (cause : Why) → IsWellNext ways.master (behind_ok ways.recs ways.first asks_for cause)
   ok_next_well (about.Mailbox name) cause = mailbox_well name cause (rec_at ways.recs name) refl
   ok_next_well (about.Create name) cause = create_well name cause (rec_at ways.recs name) refl
-  ok_next_well about.List cause = tt
 
   cleared_well : (id : AskId) (session : Sess) (it : Waiting) (cause : Why) → IsNumbered id
       → IsWellThen ways.master (cleared ways.recs ways.master ways.first id session it cause).then

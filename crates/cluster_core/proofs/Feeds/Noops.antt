@@ -73,7 +73,6 @@ module _ (setting : Setting) (ways : Ways) (apart : AreApart ways) (conn : ℕ) 
       → (let begun : Begun = first_by ways.master id session it (first_step ways.recs ways.first asks_for) in IsWellSent ways.master (to_node begun.sent.to begun.sent.message))
   by_about id session it (about.Mailbox name) numbered = by_server id session it name (server_at ways.recs name) numbered refl
   by_about id session it (about.Create name) numbered = inl (apart.made name)
-  by_about id session it about.List numbered = inr (is_noop id numbered)
 
   -- the first message of a command
   pub first_well : (id : AskId) (session : Sess) (it : Waiting) → IsNumbered id
