@@ -110,7 +110,8 @@ module _ (nodes : List Node) where
       ∙ ap as_front (value_at-with_value (slice_cmp nat_cmp) names_apart world.nodes node now was there)
 
   comes_rightly : (world : World) (node server : List ℕ) (input : NodeInput) (found : Option NodeState) → node_at world node ≡ found
-      → KnowFirst nodes world → MovesNobody input → SendsRightly (taken_in input) node server (on_link world.links node server) (comes_to world node input found)
+      → KnowFirst nodes world → MovesNobody input
+      → SendsRightly (taken_in input) node server (on_link world.links node server) (comes_to world node input found)
   unfolding comes_to
   comes_rightly world node server input None there know none = sends_none _ _ _ refl
   comes_rightly world node server input (Some it) there know none =
@@ -155,7 +156,8 @@ module _ (nodes : List Node) where
       sends_none _ _ _ (nothing_first world.links from to to server (same_link to server from to) refl e)
   deliver_rightly world from to server (message ∷ rest) e know quiet =
       let taken = taken_from_link world from to in
-      subst (λ q. SendsRightly (Some message) to server q (comes_to taken to (From from message) (node_at taken to))) (on_link-taken world.links from to to server)
+      subst (λ q. SendsRightly (Some message) to server q (comes_to taken to (From from message) (node_at taken to)))
+      (on_link-taken world.links from to to server)
       (comes_rightly taken to server (From from message) (node_at taken to) refl know (moved_to_none world from to message rest e quiet))
 
   takes_rightly : (world : World) (event : Event) (node server : List ℕ) → worker world event ≡ Some node → KnowFirst nodes world → WorldIsQuiet world
@@ -169,7 +171,8 @@ module _ (nodes : List Node) where
   takes_rightly world (Hang conn) node server is know quiet = client_rightly world node server (Hung conn) (client_at world conn) is know tt
   takes_rightly world (Deliver from to) node server is know quiet =
       let same : to ≡ node = cc in
-      subst (λ n. SendsRightly (taken_by (Deliver from to) world) n server (leaves_on (Deliver from to) n server (on_link world.links n server)) (takes world (Deliver from to))) same
+      subst (λ n. SendsRightly (taken_by (Deliver from to) world) n server
+      (leaves_on (Deliver from to) n server (on_link world.links n server)) (takes world (Deliver from to))) same
       (deliver_rightly world from to server (on_link world.links from to) refl know quiet)
   takes_rightly world event node server is know quiet = cc
 
