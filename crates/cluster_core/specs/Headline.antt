@@ -36,9 +36,9 @@ use Rattle.cluster_core.specs.World.{layout_of, start}
 -- What the mail clients were given is what one mailbox store replies to the printed history, one command at a time, in each session's order; in each single
 -- step one node works, for its own clients alone, and sends only over the links that it has; a client that has closed its connection is given nothing
 -- more; a client at the master is given the replies to its lines of MUPDATE and, once it asked for that, each change of the table; the replicas of the
--- frontends follow the master's table, and by its own each asks the server of a mailbox, or for a new one that of the nearest name above; each record of
--- the master's table is at a backend, in its partition; a mailbox has at most one writable home; a command is refused for a move only where its name is
--- reserved.
+-- frontends follow the master's table, and by its own each asks the server of a mailbox, or for a new one that of the nearest name above, and the master
+-- before that only where there is no record, the server can't serve the mailbox at present, or a LIST needs all names; each record of the master's table
+-- is at a backend, in its partition; a mailbox has at most one writable home; a command is refused for a move only where its name is reserved.
 pub record IsOneServer (config : Config) (events : List Event) : Type 0 where
   -- the run is that of its single steps, and those are its events, but of a flow as many deliveries as it may make, or until none is left
   pub by_steps : run_of config events ≡ run_steps (start config) (steps_of_run config events)

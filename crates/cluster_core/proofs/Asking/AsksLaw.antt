@@ -1,5 +1,6 @@
--- In each step of a run an ask is one of a frontend, to the server to which its records send it.
+-- In each step of a run an ask is one of a frontend, to the server to which its records send it, and a line of a frontend goes to the master, rightly.
 use Rattle.std.proofs.Common.{◌≡◌, ◌≢◌, ℕ, Bool, true, false, cond, List, [], ◌∷◌, ◌++◌, Option, None, Some, refl, sym, ◌∙◌, ap, subst, All, append_assoc}
+use Rattle.std.specs.Prelude.{slice_get}
 use Rattle.std.specs.Ordering.{nat_cmp}
 use Rattle.std.specs.Cmp.Lexicographic.{slice_cmp}
 use Rattle.std.proofs.lemmas.List.{append-nil, append_cancel_left}
@@ -31,10 +32,10 @@ use Rattle.schedule_text.specs.declared.event.Event.TheVariants.{Open, Data, Han
 use Rattle.cluster_core.specs.declared.world.Client.{Client}
 use Rattle.cluster_core.specs.declared.world.World.{World}
 use Rattle.cluster_core.specs.Flow.{run_steps, steps_of_run}
-use Rattle.cluster_core.specs.Headline.Asks.{AsksByRecords, AsksRightly, IsFirstBackend, IsRightlySent}
+use Rattle.cluster_core.specs.Headline.Asks.{AsksByRecords, AsksRightly, IsFirstBackend, IsRightlySent, taken_by}
 use Rattle.cluster_core.specs.Headline.OneNode.{leaves_on, node_of, worker}
 use Rattle.cluster_core.specs.World.{backends_of, carry, carry_all, client_at, client_does, comes_to, deliver_first, front_at, home_of, node_at, not_lost, opens, or_backend, start, stepped, steps_by, taken_from_link, takes, with_client, with_state}
-use Rattle.cluster_core.proofs.Asking.NodeAsks.{KnowsFirst, MovesNobody, node_asks}
+use Rattle.cluster_core.proofs.Asking.NodeAsks.{KnowsFirst, MovesNobody, node_asks, taken_in}
 use Rattle.cluster_core.proofs.Runs.NeverMoved.{WorldIsQuiet, given_links, never_moved, quiet_moves_none}
 use Rattle.cluster_core.proofs.Runs.NotLost.{let_left}
 use Rattle.cluster_core.proofs.Runs.OneNodeLaw.{carry_all_sends, nothing_first, one_more_step, same_worker}
@@ -95,9 +96,9 @@ abbrev KnowFirst : List Node → World → Type 0
 KnowFirst nodes world = (node : List ℕ) (it : NodeState) → node_at world node ≡ Some it → KnowsFirst nodes it
 
 module _ (nodes : List Node) where
-  -- what the node sent to the server, by the frontend that it is then
-  abbrev SendsRightly : List ℕ → List ℕ → List LinkMsg → World → Type 0
-  SendsRightly node server before after = HasSent (IsRightlySent nodes (front_at after node) server) before (on_link after.links node server)
+  -- what the node sent to the server, by the message that it took and the frontend that it is then
+  abbrev SendsRightly : Option LinkMsg → List ℕ → List ℕ → List LinkMsg → World → Type 0
+  SendsRightly taken node server before after = HasSent (IsRightlySent nodes taken (front_at after node) server) before (on_link after.links node server)
 
   acted_at : (world : World) (node : List ℕ) (was : NodeState) (input : NodeInput) → node_at world node ≡ Some was
       → front_at (comes_to world node input (Some was)) node ≡ as_front (Some (node_takes was input).state)
@@ -109,12 +110,13 @@ module _ (nodes : List Node) where
       ∙ ap as_front (value_at-with_value (slice_cmp nat_cmp) names_apart world.nodes node now was there)
 
   comes_rightly : (world : World) (node server : List ℕ) (input : NodeInput) (found : Option NodeState) → node_at world node ≡ found
-      → KnowFirst nodes world → MovesNobody input → SendsRightly node server (on_link world.links node server) (comes_to world node input found)
+      → KnowFirst nodes world → MovesNobody input
+      → SendsRightly (taken_in input) node server (on_link world.links node server) (comes_to world node input found)
   unfolding comes_to
   comes_rightly world node server input None there know none = sends_none _ _ _ refl
   comes_rightly world node server input (Some it) there know none =
-      let may = IsRightlySent nodes (as_front (Some (node_takes it input).state)) in
-      subst (λ f. HasSent (IsRightlySent nodes f server) (on_link world.links node server)
+      let may = IsRightlySent nodes (taken_in input) (as_front (Some (node_takes it input).state)) in
+      subst (λ f. HasSent (IsRightlySent nodes (taken_in input) f server) (on_link world.links node server)
       (on_link (comes_to world node input (Some it)).links node server)) (sym (acted_at world node it input there))
       (carry_all_goes may (MayMark it) node server (with_state world node (node_takes it input).state)
       (not_lost world.broken node (node_takes it input).outs)
@@ -123,19 +125,19 @@ module _ (nodes : List Node) where
   -- ---- an event
 
   opens_rightly : (world : World) (node server : List ℕ) (conn : ℕ) (found : Option Client) → KnowFirst nodes world
-      → SendsRightly node server (on_link world.links node server) (opens world node conn found)
+      → SendsRightly None node server (on_link world.links node server) (opens world node conn found)
   unfolding opens
   opens_rightly world node server conn (Some there) know = sends_none _ _ _ refl
   opens_rightly world node server conn None know =
       comes_rightly (with_client world node conn) node server (Opened conn) (node_at world node) refl know tt
 
   client_rightly : (world : World) (node server : List ℕ) (input : NodeInput) (found : Option Client) → node_of found ≡ Some node
-      → KnowFirst nodes world → MovesNobody input → SendsRightly node server (on_link world.links node server) (client_does world input found)
+      → KnowFirst nodes world → MovesNobody input → SendsRightly (taken_in input) node server (on_link world.links node server) (client_does world input found)
   unfolding client_does
   client_rightly world node server input None is know none = cc
   client_rightly world node server input (Some client) is know none =
       let same : client.at ≡ node = cc in
-      subst (λ n. SendsRightly n server (on_link world.links n server) (client_does world input (Some client))) same
+      subst (λ n. SendsRightly (taken_in input) n server (on_link world.links n server) (client_does world input (Some client))) same
       (comes_rightly world client.at server input (node_at world client.at) refl know none)
 
   moved_to_none : (world : World) (from to : List ℕ) (message : LinkMsg) (rest : List LinkMsg) → on_link world.links from to ≡ message ∷ rest
@@ -148,35 +150,42 @@ module _ (nodes : List Node) where
 
   deliver_rightly : (world : World) (from to server : List ℕ) (queue : List LinkMsg) → on_link world.links from to ≡ queue
       → KnowFirst nodes world → WorldIsQuiet world
-      → SendsRightly to server (leaves_on (Deliver from to) to server (on_link world.links to server)) (deliver_first world from to queue)
+      → SendsRightly (slice_get queue 0) to server (leaves_on (Deliver from to) to server (on_link world.links to server)) (deliver_first world from to queue)
   unfolding deliver_first
   deliver_rightly world from to server [] e know quiet =
       sends_none _ _ _ (nothing_first world.links from to to server (same_link to server from to) refl e)
   deliver_rightly world from to server (message ∷ rest) e know quiet =
       let taken = taken_from_link world from to in
-      subst (λ q. SendsRightly to server q (comes_to taken to (From from message) (node_at taken to))) (on_link-taken world.links from to to server)
+      subst (λ q. SendsRightly (Some message) to server q (comes_to taken to (From from message) (node_at taken to)))
+      (on_link-taken world.links from to to server)
       (comes_rightly taken to server (From from message) (node_at taken to) refl know (moved_to_none world from to message rest e quiet))
 
   takes_rightly : (world : World) (event : Event) (node server : List ℕ) → worker world event ≡ Some node → KnowFirst nodes world → WorldIsQuiet world
-      → SendsRightly node server (leaves_on event node server (on_link world.links node server)) (takes world event)
+      → SendsRightly (taken_by event world) node server (leaves_on event node server (on_link world.links node server)) (takes world event)
   unfolding takes
   takes_rightly world (Open at conn) node server is know quiet =
       let same : at ≡ node = cc in
-      subst (λ n. SendsRightly n server (on_link world.links n server) (opens world at conn (client_at world conn))) same
+      subst (λ n. SendsRightly None n server (on_link world.links n server) (opens world at conn (client_at world conn))) same
       (opens_rightly world at server conn (client_at world conn) know)
   takes_rightly world (Data conn bytes) node server is know quiet = client_rightly world node server (Piece conn bytes) (client_at world conn) is know tt
   takes_rightly world (Hang conn) node server is know quiet = client_rightly world node server (Hung conn) (client_at world conn) is know tt
   takes_rightly world (Deliver from to) node server is know quiet =
       let same : to ≡ node = cc in
-      subst (λ n. SendsRightly n server (leaves_on (Deliver from to) n server (on_link world.links n server)) (takes world (Deliver from to))) same
+      subst (λ n. SendsRightly (taken_by (Deliver from to) world) n server
+      (leaves_on (Deliver from to) n server (on_link world.links n server)) (takes world (Deliver from to))) same
       (deliver_rightly world from to server (on_link world.links from to) refl know quiet)
   takes_rightly world event node server is know quiet = cc
+
+  same_taken : (world : World) (event : Event) → taken_by event (stepped world) ≡ taken_by event world
+  same_taken world (Deliver from to) = refl
+  same_taken world event = refl
 
   pub step_rightly : (world : World) (event : Event) → KnowFirst nodes world → WorldIsQuiet world → AsksRightly nodes event world (steps_by world event)
   step_rightly world event know quiet node server sent is behind =
       let its = takes_rightly (stepped world) event node server (same_worker world event ∙ is) know (record { nodes = quiet.nodes; links = quiet.links }) in
-      subst (All (IsRightlySent nodes (front_at (steps_by world event) node) server))
-      (append_cancel_left (leaves_on event node server (on_link world.links node server)) its.more sent (sym its.behind ∙ behind)) its.all
+      subst (λ taken. All (IsRightlySent nodes taken (front_at (steps_by world event) node) server) sent) (same_taken world event)
+      (subst (All (IsRightlySent nodes (taken_by event (stepped world)) (front_at (steps_by world event) node) server))
+      (append_cancel_left (leaves_on event node server (on_link world.links node server)) its.more sent (sym its.behind ∙ behind)) its.all)
 
 -- ---- the first backend of a configuration
 
