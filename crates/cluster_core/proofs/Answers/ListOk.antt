@@ -1,5 +1,5 @@
 -- The master's OK comes for a LIST that waits for it: its client is told the store's reply, and the inputs that waited come.
-use Rattle.std.proofs.Common.{◌≡◌, ◌≢◌, ℕ, ◌+◌, true, nat_eq, List, [], ◌∷◌, ◌++◌, length, Option, refl, sym, ◌∙◌, ap, subst, arith}
+use Rattle.std.proofs.Common.{◌≡◌, ◌≢◌, ℕ, ◌+◌, true, nat_eq, List, [], ◌∷◌, ◌++◌, Option, sym, ◌∙◌, ap, subst, arith}
 use Rattle.std.proofs.lemmas.Bool.Decides.{nat_tests}
 use Rattle.feed_core.specs.Listing.{mailbox_names}
 use Rattle.feed_core.specs.declared.replica.Replica.{Replica}
@@ -21,7 +21,7 @@ use Rattle.mur_model.specs.declared.commands.list.Listing.{Listing}
 use Rattle.mur_model.specs.declared.session.Sess.{Sess}
 use Rattle.mur_model.specs.declared.setting.Setting.{Setting}
 use Rattle.node_record.specs.Table.{MailboxTable}
-use Rattle.route_links.specs.Barriers.{Place as Barrier, Place as barrier}
+use Rattle.route_links.specs.Barriers.{Place as barrier}
 use Rattle.cluster_core.specs.declared.world.World.{World}
 use Rattle.cluster_core.proofs.Commands.Knows.{KnowsNames, listed_by}
 use Rattle.cluster_core.proofs.Commands.Knows.KnowsNames.{is_listed, not_yet}

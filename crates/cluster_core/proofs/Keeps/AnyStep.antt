@@ -1,7 +1,6 @@
 -- EVERY EVENT OF A RUN KEEPS THE LAW.
 use Rattle.std.proofs.Common.{◌≡◌, ◌≢◌, inl, inr, ℕ, List, [], ◌∷◌, Option, None, Some, refl, sym, ◌∙◌, ap}
 use Rattle.cluster_core.specs.World.{master_of, home_at, node_at, start}
-use Rattle.front_core.specs.declared.front.Front.{Front}
 use Rattle.imap_talk.specs.Heard.{Heard}
 use Rattle.link_msg.specs.declared.answer.AnswerBody.{AnswerBody}
 use Rattle.link_msg.specs.declared.answer.AnswerBody.TheVariants.{Moved}
@@ -9,7 +8,6 @@ use Rattle.link_msg.specs.declared.message.LinkMsg.{LinkMsg}
 use Rattle.link_msg.specs.declared.message.LinkMsg.TheVariants.{Answer, Ask, End, Line, Up}
 use Rattle.many_links.specs.Murder.{Nodes}
 use Rattle.link_queue.specs.Links.{on_link}
-use Rattle.master_core.specs.declared.master.Master.{Master}
 use Rattle.mur_config.specs.declared.config.Config.{Config}
 use Rattle.mur_config.specs.Nodes.{AreNodes}
 use Rattle.schedule_text.specs.declared.event.Event.{Event}

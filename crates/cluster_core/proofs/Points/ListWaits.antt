@@ -6,7 +6,7 @@ use Rattle.front_core.specs.declared.connection.Connection.{Connection}
 use Rattle.front_core.specs.declared.front.Front.{Front}
 use Rattle.imap_talk.proofs.RequestsOf.{requests_of}
 use Rattle.imap_talk.proofs.TranscriptGrows.{AreAnswered}
-use Rattle.imap_talk.specs.Heard.{Heard, client, frames_heard}
+use Rattle.imap_talk.specs.Heard.{Heard, frames_heard}
 use Rattle.imap_talk.specs.Inputs.{requests_in}
 use Rattle.imap_types.specs.declared.command.Command.{Command}
 use Rattle.imap_types.specs.declared.command.Tag.{Tag}

@@ -1,6 +1,6 @@
 -- The numbers of a run fit behind each of its steps, where those of its events do: a flow's deliveries bring nothing, so clients send what the events bring.
-use Rattle.std.proofs.Common.{◌≡◌, ℕ, zero, suc, ◌+◌, ◌≤◌, ◌<◌, ◌^◌, ◌==◌, nat_eq, Bool, true, false, if◌then◌else◌, List, [], ◌∷◌, ◌++◌, length, refl, sym, ap, subst}
-use Rattle.std.proofs.Common.{arith, length-append, append_assoc}
+use Rattle.std.proofs.Common.{◌≡◌, ℕ, zero, suc, ◌+◌, ◌≤◌, ◌<◌, ◌^◌, ◌==◌, nat_eq, Bool, true, false, if◌then◌else◌, List, [], ◌∷◌, ◌++◌, length, refl, ap, subst}
+use Rattle.std.proofs.Common.{arith, length-append}
 use Rattle.std.specs.List.{AllByRecursion}
 use Rattle.std.proofs.lemmas.Bool.Decides.{nat_tests}
 use Rattle.imap_talk.specs.Heard.{Heard, nobody, elsewhere, client}
@@ -11,10 +11,10 @@ use Rattle.mur_config.specs.declared.node.Link.{Link}
 use Rattle.schedule_text.specs.Brings.{bytes_brought, bytes_of_all}
 use Rattle.schedule_text.specs.ScheduleFits.{HasConnNumber}
 use Rattle.schedule_text.specs.declared.event.Event.{Event}
-use Rattle.schedule_text.specs.declared.event.Event.TheVariants.{Open, Data, Hang, Deliver, Cut, Join, Crash, Arm, Start, Flow, Heal}
+use Rattle.schedule_text.specs.declared.event.Event.TheVariants.{Open, Data, Hang, Deliver, Flow}
 use Rattle.cluster_core.specs.declared.layout.Layout.{Layout}
 use Rattle.cluster_core.specs.declared.world.World.{World}
-use Rattle.cluster_core.specs.Flow.{Flowing, flow, happens, round, rounds, rounds_by, steps_of_event, steps_of_run, turn_by, turn_of_link, unrolled}
+use Rattle.cluster_core.specs.Flow.{Flowing, flow, happens, round, rounds, rounds_by, steps_of_event, turn_by, turn_of_link, unrolled}
 use Rattle.cluster_core.specs.Heard.{heard, heard_first, heard_from, hears, is_frontend, of_client, opened_at}
 use Rattle.cluster_core.specs.Numbers.{HeardFits, NumbersFitAll}
 

@@ -46,7 +46,6 @@ use Rattle.node_record.specs.declared.table.Record.{Record}
 use Rattle.node_record.specs.Table.{empty_table}
 use Rattle.text_parts.proofs.PlaceLaw.{node_is_short}
 use Rattle.node_step.specs.declared.node.NodeState.{NodeState}
-use Rattle.node_step.specs.declared.node.NodeState.TheVariants as state
 use Rattle.node_step.specs.NodeStep.{as_back, as_front, as_master}
 use Rattle.node_step.proofs.NodeKinds.{back_is, back_no_front, front_is, front_no_back}
 use Rattle.cluster_core.specs.declared.world.World.{World}
