@@ -15,6 +15,7 @@ mod BeginsLaw
 pub mod EachNeed
 pub mod OwnView
 mod ShownFit
+pub mod GatheredLaw
 pub mod MadeNames
 mod ActedLaw
 mod FetchedAlike

@@ -12,7 +12,7 @@ ghost use Rattle.mur_model.specs.Store.{box_at};
 use crate::beginning::begin;
 use crate::commands::append::append_at;
 use crate::commands::create::make;
-use crate::commands::list::{Listing, names_in};
+use crate::commands::list::{Listing, gathered_in};
 use crate::commands::select::select_at;
 use crate::commands::status::status_at;
 use crate::need::{Asking, Awaited, Begun, Need};
@@ -67,8 +67,8 @@ fn act_by(
 fn list_by(alloc: Global, store: &Store, it: &Listing) -> Result<Reply, Memory>
     ensures { IfOk result (λ reply. reply ≡ list_reply it.now (names_in store.now)) }
 {
-    let names = names_in(alloc, store)?;
-    it.reply(alloc, names.as_slice())
+    let gathered = gathered_in(alloc, it, store)?;
+    it.reply(alloc, &gathered)
 }
 
 /// Does at a mailbox what its home would be asked.
