@@ -7,8 +7,8 @@ use case_base::{Fault, Steps, put_steps};
 use imap_types::Command;
 use link_msg::{AnswerBody, FrontAsk, LinkMsg, Op, Out, Outcome};
 use mail_message::{OrderedRows, Snapshot};
-use mur_base::{Bytes, Copied, Items, MailName, What, node_name};
-use mur_model::{Listing, Setting};
+use mur_base::{Bytes, MailName, What, node_name};
+use mur_model::{Gathered, Listing, Setting};
 use session_core::{Asking, Awaited, Need, OpResult, Session};
 use std::alloc::Global;
 
@@ -118,11 +118,11 @@ impl Stage {
 
     /// What a LIST is told of the mailboxes of the home.
     fn listed(&self, alloc: Global, it: &Listing) -> Result<Need, Fault> {
-        let mut names = Items::new(alloc);
+        let mut gathered = Gathered::new(alloc);
         for (name, _) in self.home.held.iter() {
-            names.push(name.copy(alloc)?)?;
+            gathered.put(alloc, it, name)?;
         }
-        Ok(Need::Reply(it.reply(alloc, names.as_slice())?))
+        Ok(Need::Reply(it.reply(alloc, &gathered)?))
     }
 
     fn answered(&mut self, alloc: Global, name: MailName, asking: Asking) -> Result<Need, Fault> {
