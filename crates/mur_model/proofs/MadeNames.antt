@@ -27,6 +27,7 @@ begun_named setting = record {
   names = λ user pattern. tt;
   unselected = λ user was_selected why. tt;
   make = λ name named. named;
+  delete = λ name. tt;
   append = λ name text flags date body asked. tt;
   status = λ user name items named. tt;
   select = λ user name text is_writable was_selected asked named. tt;

@@ -31,6 +31,7 @@ begun_own setting session = record {
   names = λ user pattern. tt;
   unselected = λ user was_selected why. tt;
   make = λ name named. tt;
+  delete = λ name. tt;
   append = λ name text flags date body asked. tt;
   status = λ user name items named. tt;
   select = λ user name text is_writable was_selected asked named. tt;

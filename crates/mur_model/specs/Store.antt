@@ -4,7 +4,7 @@ use Rattle.std.specs.Ordering.{nat_cmp}
 use Rattle.std.specs.Cmp.Lexicographic.{slice_cmp}
 use Rattle.mail_message.specs.Boxes.{Content}
 use Rattle.mur_base.specs.declared.limits.TheConstants.{MAILBOX_LIMIT}
-use Rattle.mur_base.specs.Map.{value_at, with_entry, with_value}
+use Rattle.mur_base.specs.Map.{value_at, with_entry, with_value, without_key}
 use Rattle.mur_model.specs.declared.store.Pair.{Pair}
 use Rattle.mur_model.specs.declared.store.Store.{Store}
 
@@ -26,6 +26,10 @@ with_new_box store name box = record {
 -- the store with another content of a mailbox
 abbrev pub with_box : Store → List ℕ → Content → Store
 with_box store name box = record store { boxes = with_value (slice_cmp nat_cmp) store.boxes name box }
+
+-- the store without a mailbox; its UIDVALIDITY stays given
+abbrev pub without_box : Store → List ℕ → Store
+without_box store name = record store { boxes = without_key (slice_cmp nat_cmp) store.boxes name }
 
 -- as many mailboxes as there may be: this server's limit, each name counted once
 unfoldable pub is_full : Store → Bool

@@ -5,13 +5,14 @@ ghost use Rattle.mur_model.specs.Asking.{HasWork, appended_for, viewed_for, work
 ghost use Rattle.mur_model.specs.Acting.{IsActed, IsWorked};
 ghost use Rattle.mur_model.specs.Left.{replied};
 ghost use Rattle.mur_model.specs.Listing.{list_reply, names_in};
-ghost use Rattle.mur_model.specs.Needed.{Mailbox, Make};
+ghost use Rattle.mur_model.specs.Needed.{Delete, Mailbox, Make};
 ghost use Rattle.mur_model.specs.Status.{status_on};
 ghost use Rattle.mur_model.specs.Store.{box_at};
 
 use crate::beginning::begin;
 use crate::commands::append::append_at;
 use crate::commands::create::make;
+use crate::commands::delete::delete_at;
 use crate::commands::list::{Listing, gathered_in};
 use crate::commands::select::select_at;
 use crate::commands::status::status_at;
@@ -133,6 +134,7 @@ fn work_at(
     match awaited {
         Awaited::Append => unreachable!(),
         Awaited::Create => create_by(alloc, store, name, serial),
+        Awaited::Delete => delete_by(alloc, store, name),
         Awaited::Status(shown, items) => status_by(alloc, store, name, shown, &items),
         Awaited::Select(_, it) => select_at(alloc, store, name, &it),
         Awaited::Viewed(work) => viewed_by(alloc, store, sess, name, work),
@@ -144,6 +146,13 @@ fn create_by(alloc: Global, store: &mut Store, name: &MailName, serial: u32) -> 
     ensures { IfOk result (λ turn. IsWorked store.old name.now (worked_at store.old name.now Make serial) store.new turn) }
 {
     Ok(replied(make(alloc, store, name, serial)?))
+}
+
+#[tactic(auto, unfolding(crate::specs::Act::work_on))]
+fn delete_by(alloc: Global, store: &mut Store, name: &MailName) -> Result<Turn, Memory>
+    ensures { IfOk result (λ turn. (serial : ℕ) → IsWorked store.old name.now (worked_at store.old name.now Delete serial) store.new turn) }
+{
+    Ok(replied(delete_at(alloc, store, name)?))
 }
 
 fn status_by(

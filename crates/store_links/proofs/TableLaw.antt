@@ -9,7 +9,7 @@ use Rattle.mur_base.specs.declared.home.Location.{Location}
 use Rattle.mur_base.proofs.MapLaws.{names_apart, same_or_other}
 use Rattle.mur_base.proofs.MapOrder.{with_entry-in_order, with_value-in_order}
 use Rattle.mur_model.specs.declared.store.Store.{Store}
-use Rattle.mur_model.specs.Store.{box_at}
+use Rattle.mur_model.specs.Store.{box_at, without_box}
 use Rattle.node_record.specs.declared.held.Held.{Held}
 use Rattle.node_record.specs.declared.master.MasterRecord.{MasterRecord}
 use Rattle.node_record.specs.declared.master.MasterRecord.TheVariants as entry
@@ -25,7 +25,7 @@ use Rattle.name_links.specs.Contents.{acl_in, HasAcl, content_in}
 use Rattle.name_links.proofs.LinesByName.{order_kept}
 use Rattle.name_links.proofs.StateTurn.{own_reserved, own_active, own_kept, own_deleted, record_other}
 use Rattle.store_links.specs.Shown.{Homes, content_at, IsMailboxOf, StateShows, RecordShows, NameShows, Shows}
-use Rattle.store_links.specs.TableEntries.{OthersStay, MakesNone, OthersMakeNone, without_box, IsRemoved, DeleteIsOne}
+use Rattle.store_links.specs.TableEntries.{OthersStay, MakesNone, OthersMakeNone, IsRemoved, DeleteIsOne}
 use Rattle.store_links.proofs.ShownLaw.{none_by, shows_as, record_of, mailbox_by, name_stays}
 
 -- ---- the table stays in order

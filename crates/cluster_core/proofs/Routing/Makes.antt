@@ -40,7 +40,7 @@ use Rattle.mupdate_codec.proofs.WholeLaw.{is_line}
 use Rattle.mur_base.specs.declared.point.AskId.{AskId}
 use Rattle.mur_config.specs.declared.config.Config.{Config}
 use Rattle.mur_model.specs.declared.store.Store.{Store}
-use Rattle.mur_model.specs.Store.{box_at}
+use Rattle.mur_model.specs.Store.{box_at, without_box}
 use Rattle.node_step.specs.declared.input.NodeInput.TheVariants.{From}
 use Rattle.node_step.specs.declared.node.NodeState.TheVariants as state
 use Rattle.name_links.specs.Serials.{Given}
@@ -48,7 +48,7 @@ use Rattle.node_record.specs.Table.{MailboxTable, is_mailbox_if, record_at}
 use Rattle.schedule_text.specs.declared.event.Event.TheVariants.{Deliver}
 use Rattle.mur_base.proofs.MapLaws.{names_apart, value_at-with_entry}
 use Rattle.name_flows.proofs.NameMaps.{value_at-without_key-same}
-use Rattle.store_links.specs.TableEntries.{store_with, without_box}
+use Rattle.store_links.specs.TableEntries.{store_with}
 use Rattle.store_links.proofs.BoxesLaw.{each_is_a_box}
 use Rattle.cluster_core.specs.declared.world.World.{World}
 use Rattle.cluster_core.proofs.Connections.KeepsLaw.{KeepsLaw, murder_of}
