@@ -22,7 +22,7 @@ pub data Work : Type 0 where
   Select : Opening → Work
   Viewed : View → ViewWork → Work
 
--- a mailbox is made and deleted with the name master; its home does other work by itself, in one step
+-- A home does work by itself, in one step; but a mailbox is made and deleted with the master.
 unfoldable pub IsOfHome : Work → Type 0
 IsOfHome Make = ⊥
 IsOfHome Delete = ⊥

@@ -99,9 +99,9 @@ misses name (select_work it) serial full ne = record { stays = refl; shown = λ 
 misses name (viewed_work view it) serial full ne = record { stays = refl; shown = λ session own. ap (λ s. viewed_in s it Missing) own }
 
 -- a home makes no mailbox by itself
-pub makes_none : (work : Work) → IsOfHome work → work ≢ Make
+pub no_make : (work : Work) → IsOfHome work → work ≢ Make
 unfolding IsOfHome
-makes_none work of same = subst IsOfHome same of
+no_make work of same = subst IsOfHome same of
 
 pub misses_alike : (store : Store) (home : Backend) (ask : FrontAsk) (work : Work) (serial : ℕ) (full : Bool) → IsOfHome work
     → ask.op ≡ (asked_for ask.name work).op → box_at store ask.name ≡ None → held_at home ask.name ≡ None
@@ -109,7 +109,7 @@ pub misses_alike : (store : Store) (home : Backend) (ask : FrontAsk) (work : Wor
 unfolding home_step store_after turn_by result_of
 misses_alike store home ask work serial full of op box none =
     let name : List ℕ = ask.name in
-    let is = misses name work serial full (makes_none work of) in
+    let is = misses name work serial full (no_make work of) in
     subst (λ s. ServesAlike store home name work (work_on name work serial full None) s)
     (sym (ap (op_step home ask) op ∙ work_lacks home ask name work of none))
     (record {
