@@ -12,8 +12,8 @@ use Rattle.mur_model.specs.declared.session.Turn.{Turn}
 use Rattle.mur_model.specs.declared.view.View.{View}
 use Rattle.mur_model.specs.declared.work.ViewWork.{ViewWork}
 
--- What is to be done at one mailbox: it is made; it is deleted; it gets a message, whose UID isn't told yet; it is told of under a name; it is selected; or what a
--- command of a session that has this view of it does.
+-- What is to be done at one mailbox: it is made; it is deleted; it gets a message, whose UID isn't told yet; it is told of under a name; it is selected; or
+-- what a command of a session that has this view of it does.
 pub data Work : Type 0 where
   Make : Work
   Delete : Work
