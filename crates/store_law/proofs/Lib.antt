@@ -21,6 +21,7 @@ mod MessagesDone
 mod BodiesAsked
 mod DoneAtBox
 mod DoneCreate
+mod DoneDelete
 mod DoneExpunge
 mod DoneFetch
 mod DoneStore
