@@ -42,8 +42,8 @@ module _ (name : List ℕ) where
   keys_by : (e : List ℕ × Content) (es : List (List ℕ × Content)) (same : Bool) → is_eq (slice_cmp nat_cmp name e.0) ≡ same
       → keys_of (others es) ≡ filter (λ k. not (is_eq (slice_cmp nat_cmp name k))) (keys_of es)
       → keys_of (others (e ∷ es)) ≡ filter (λ k. not (is_eq (slice_cmp nat_cmp name k))) (keys_of (e ∷ es))
-  keys_by e es true h more = rw (h, h) more
-  keys_by e es false h more = rw (h, h) (ap (λ keys. e.0 ∷ keys) more)
+  keys_by e es true h more = rw h more
+  keys_by e es false h more = rw h (ap (λ keys. e.0 ∷ keys) more)
 
   keys_left : (es : List (List ℕ × Content)) → keys_of (others es) ≡ filter (λ k. not (is_eq (slice_cmp nat_cmp name k))) (keys_of es)
   keys_left [] = refl

@@ -31,7 +31,7 @@ module _ (store : Store) (session : Sess) (serial : ℕ) (code : Code) (command_
       → IsRemoved name store (store_after store name (delete_on found).left)
   unfolding delete_on store_after
   on_done name None at is = cc
-  on_done name (Some box) at is = record { was = rw at tt; gone = box_gone store name }
+  on_done name (Some box) at is = record { was = rw at refl; gone = box_gone store name }
 
   by_does : (name : List ℕ) (may : Bool) → Does store session serial code command_name (IsRemoved name store) (delete_by name may)
   unfolding delete_by act_by work_on

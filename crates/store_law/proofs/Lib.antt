@@ -41,7 +41,7 @@ pub mod CommandsSpeak
 pub mod LinesLaw
 mod NewsWhole
 mod BoxesGrow
-mod ViewsCover
+pub mod ViewsCover
 pub mod NewsTold
 pub mod LetsIn
 pub mod LoginLaw
