@@ -1,6 +1,5 @@
 -- A DELETE that was answered OK took away the mailbox that its text means.
 use Rattle.std.proofs.Common.{◌≡◌, ℕ, Bool, true, false, List, Option, None, Some, refl}
-use Rattle.std.specs.Prelude.{IsSome}
 use Rattle.mail_message.specs.Boxes.{Content}
 use Rattle.mur_base.specs.Inbox.{taken_name}
 use Rattle.mur_base.specs.Names.{mail_name_fault}
