@@ -10,7 +10,8 @@ use Rattle.std.specs.declared.cmp.Ordering.{Ordering}
 use Rattle.std.specs.declared.cmp.Ordering.TheVariants.{Less, Equal, Greater}
 use Rattle.std.proofs.lemmas.List.Elements.{All-nil, All-cons, All-head, All-tail, All-append, All-map, All-weaker, All-filter}
 use Rattle.std.proofs.lemmas.Map.{keys-set_value}
-use Rattle.std.proofs.lemmas.Map.Views.{All-insert_key, All-keys-insert_entry, All-values-insert_entry, All-values-set_value, IfSome-lookup_from_All}
+use Rattle.std.proofs.lemmas.Map.Views.{All-insert_key, All-keys-insert_entry, All-map-remove_entry, All-values-insert_entry, All-values-set_value}
+use Rattle.std.proofs.lemmas.Map.Views.{IfSome-lookup_from_All}
 use Rattle.mur_base.specs.Names.{mail_name_fault}
 use Rattle.mail_message.specs.Boxes.{Content, content_after, content_after_all, has_uid, message_at, messages_after, messages_at, relabelled, row_of}
 use Rattle.mail_message.specs.Boxes.{with_flags, with_message}
@@ -27,7 +28,7 @@ use Rattle.mail_store.specs.Expunge.{expunged, expunged_uids}
 use Rattle.mail_store.specs.Named.{set_of}
 use Rattle.mail_store.specs.Store.{stored, stored_row, stored_rows, rows_stored}
 use Rattle.mur_model.specs.declared.store.Store.{Store}
-use Rattle.mur_model.specs.Left.{Left, kept, made, changed, store_after}
+use Rattle.mur_model.specs.Left.{Left, kept, made, changed, removed, store_after}
 use Rattle.mur_model.specs.Select.{keywords_in}
 use Rattle.mur_model.specs.Selected.{rows_of}
 use Rattle.mur_model.specs.Store.{box_at, empty_store}
@@ -177,6 +178,7 @@ abbrev pub IsSoundLeft : List ℕ → Left → Type 0
 IsSoundLeft name kept = ⊤
 IsSoundLeft name (made box) = HasRuledName name × IsSoundBox box
 IsSoundLeft name (changed box) = IsSoundBox box
+IsSoundLeft name removed = ⊤
 
 pub empty_is : IsSoundStore empty_store
 empty_is = record { boxes = All-nil IsSoundBox; names = All-nil HasRuledName }
@@ -194,4 +196,8 @@ store_is store name (made box) is all = record {
 store_is store name (changed box) is all = record {
   boxes = All-values-set_value (is_at (slice_cmp nat_cmp name)) IsSoundBox store.boxes box all.boxes is;
   names = subst (All HasRuledName) (sym (keys-set_value (is_at (slice_cmp nat_cmp name)) store.boxes box)) all.names;
+}
+store_is store name removed is all = record {
+  boxes = All-map-remove_entry (is_at (slice_cmp nat_cmp name)) (λ (e : List ℕ × Content). e.1) IsSoundBox store.boxes all.boxes;
+  names = All-map-remove_entry (is_at (slice_cmp nat_cmp name)) (λ (e : List ℕ × Content). e.0) HasRuledName store.boxes all.names;
 }

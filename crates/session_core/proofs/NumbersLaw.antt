@@ -52,6 +52,7 @@ use Rattle.mur_model.specs.declared.need.Awaited.TheVariants as awaits
 use Rattle.session_core.proofs.AtOnceLaw.{AreStill, IsQuiet, LeavesQuietly, need_quiet}
 use Rattle.session_core.specs.Append as append
 use Rattle.session_core.specs.Create as create
+use Rattle.session_core.specs.Delete as delete
 use Rattle.session_core.specs.Finish.{Finished, finished_by, turn_of}
 use Rattle.mur_model.specs.declared.need.Need.{Need}
 use Rattle.mur_model.specs.declared.need.Begun.{Begun}
@@ -230,6 +231,15 @@ created_still (Done outcome seen) = by outcome
     by outcome = tt
 created_still Missing = tt
 
+deleted_still : (result : OpResult) → IfSome (delete.reply_to_delete result) HasStill
+unfolding delete.reply_to_delete delete.reply_to_deleted
+deleted_still (Done outcome seen) = by outcome
+  where
+    by : (outcome : Outcome) → IfSome (delete.reply_to_deleted outcome) HasStill
+    by nothing = none_still
+    by outcome = tt
+deleted_still Missing = none_still
+
 appended_still : (result : OpResult) → IfSome (append.reply_to_append result) HasStill
 unfolding append.reply_to_append append.reply_to_appended append.reply_to_uids reply_with_uid
 appended_still (Done outcome seen) = by outcome
@@ -269,6 +279,7 @@ turn_leaves : (known : Known) (session : Sess) (awaited : Awaited) (result : OpR
     → IfSome (turn_of session awaited result) (TurnLeaves (known_before awaited known) session)
 unfolding turn_of known_before
 turn_leaves known session awaits.Create result knows = replied_leave known session (create.reply_to_create result) (created_still result) knows
+turn_leaves known session awaits.Delete result knows = replied_leave known session (delete.reply_to_delete result) (deleted_still result) knows
 turn_leaves known session awaits.Append result knows = replied_leave known session (append.reply_to_append result) (appended_still result) knows
 turn_leaves known session (awaits.Status shown items) result knows =
     replied_leave known session (status.reply_to_status shown items result) (counted_still shown items result) knows
