@@ -1,10 +1,12 @@
 -- What a store has once a mailbox is deleted.
 use Rattle.std.proofs.Common.{◌≡◌, ◌≢◌, ℕ, Bool, true, false, not, cond, List, [], ◌∷◌, None, Some, refl, sym, ◌∙◌, ap, subst}
+use Rattle.std.specs.Prelude.{All, map}
 use Rattle.std.specs.List.{filter}
 use Rattle.std.specs.List.Sorted.{IsStrictlySortedBy}
 use Rattle.std.specs.Map.{keys_of}
 use Rattle.std.specs.Ordering.{is_eq, nat_cmp}
 use Rattle.std.specs.Cmp.Lexicographic.{slice_cmp}
+use Rattle.std.proofs.lemmas.List.Elements.{All-cons, All-head, All-tail}
 use Rattle.std.proofs.lemmas.List.Kept.{IsStrictlySortedBy-filter}
 use Rattle.mail_message.specs.Boxes.{Content}
 use Rattle.mur_base.specs.Map.{value_at, IsInOrder}
@@ -49,6 +51,15 @@ module _ (name : List ℕ) where
   keys_left [] = refl
   keys_left (e ∷ es) = keys_by e es (is_eq (slice_cmp nat_cmp name e.0)) refl (keys_left es)
 
+  module _ {Y : Type 0} (f : List ℕ × Content → Y) (P : Y → Type 0) where
+    each_in : (es : List (List ℕ × Content)) → All P (map f es) → All P (map f (others es))
+    each_in [] all = all
+    each_in (e ∷ es) all = by (is_eq (slice_cmp nat_cmp name e.0)) (each_in es (All-tail P (f e) (map f es) all))
+      where
+        by : (same : Bool) → All P (map f (others es)) → All P (map f (cond (not same) (e ∷ others es) (others es)))
+        by true more = more
+        by false more = All-cons P (f e) (map f (others es)) (All-head P (f e) (map f es) all) more
+
 pub box_gone : (store : Store) (name : List ℕ) → box_at (without_box store name) name ≡ None
 box_gone store name = gone_from name store.boxes
 
@@ -60,3 +71,8 @@ pub without_box-in_order : (store : Store) (name : List ℕ) → IsInOrder (slic
 without_box-in_order store name order =
     subst (IsStrictlySortedBy (slice_cmp nat_cmp)) (sym (keys_left name store.boxes))
     (IsStrictlySortedBy-filter (slice_cmp nat_cmp) (λ k. not (is_eq (slice_cmp nat_cmp name k))) (keys_of store.boxes) order)
+
+-- what is so of all mailboxes is so of those that stay
+pub each_left : {Y : Type 0} (f : List ℕ × Content → Y) (P : Y → Type 0) (store : Store) (name : List ℕ) → All P (map f store.boxes)
+    → All P (map f (without_box store name).boxes)
+each_left f P store name all = each_in name f P store.boxes all

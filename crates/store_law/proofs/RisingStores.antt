@@ -5,12 +5,12 @@ use Rattle.std.specs.Prelude.{All, IfSome, ⊤}
 use Rattle.std.specs.BTreeMap.{is_at}
 use Rattle.std.specs.Cmp.{nat_cmp_is}
 use Rattle.std.specs.Cmp.Lexicographic.{slice_cmp}
-use Rattle.std.specs.List.{AllByRecursion, filter}
+use Rattle.std.specs.List.{AllByRecursion}
 use Rattle.std.specs.List.Sorted.{IsStrictlySortedBy}
 use Rattle.std.specs.Map.{values_of}
-use Rattle.std.specs.Ordering.{is_eq, nat_cmp, match_ordering}
+use Rattle.std.specs.Ordering.{nat_cmp, match_ordering}
 use Rattle.std.specs.declared.cmp.Ordering.TheVariants.{Less, Greater}
-use Rattle.std.proofs.lemmas.List.Elements.{All-nil, All-cons, All-head, All-tail}
+use Rattle.std.proofs.lemmas.List.Elements.{All-nil}
 use Rattle.std.proofs.lemmas.Map.Views.{All-values-insert_entry, All-values-set_value, IfSome-lookup_from_All}
 use Rattle.mail_message.specs.Boxes.{Content, IsRising, content_after, content_after_all, has_uid, relabelled, uids_of, with_flags}
 use Rattle.mail_message.specs.Boxes.{with_message, without_uid}
@@ -50,6 +50,7 @@ use Rattle.mur_model.specs.Status.{status_on}
 use Rattle.mur_model.specs.Store.{box_at, empty_store, is_full}
 use Rattle.mur_model.specs.StoreFlags.{stored_at}
 use Rattle.mur_model.specs.Viewing.{found_gone, viewed_on, work_there}
+use Rattle.mur_model.proofs.BoxGone.{each_left}
 
 -- UIDs rise strictly from one on, and below another
 abbrev pub RisesTo : ℕ → List Message → ℕ → Type 0
@@ -206,20 +207,12 @@ AllRise store = All Rises (values_of store.boxes)
 pub box_rises : (store : Store) (name : List ℕ) → AllRise store → IfSome (box_at store name) Rises
 box_rises store name all = IfSome-lookup_from_All Rises (is_at (slice_cmp nat_cmp name)) store.boxes all
 
-others_rise : (stays : List ℕ × Content → Bool) (boxes : List (List ℕ × Content)) → All Rises (values_of boxes) → All Rises (values_of (filter stays boxes))
-others_rise stays [] all = all
-others_rise stays (e ∷ boxes) all = by (stays e) (others_rise stays boxes (All-tail Rises e.1 (values_of boxes) all))
-  where
-    by : (test : Bool) → All Rises (values_of (filter stays boxes)) → All Rises (values_of (cond test (e ∷ filter stays boxes) (filter stays boxes)))
-    by true more = All-cons Rises e.1 (values_of (filter stays boxes)) (All-head Rises e.1 (values_of boxes) all) more
-    by false more = more
-
 left_rises : (store : Store) (name : List ℕ) (left : Left) → LeftRises left → AllRise store → AllRise (store_after store name left)
 unfolding store_after
 left_rises store name kept is all = all
 left_rises store name (made box) is all = All-values-insert_entry (slice_cmp nat_cmp) name box Rises store.boxes all is
 left_rises store name (changed box) is all = All-values-set_value (is_at (slice_cmp nat_cmp name)) Rises store.boxes box all is
-left_rises store name removed is all = others_rise (λ entry. not (is_eq (slice_cmp nat_cmp name entry.0))) store.boxes all
+left_rises store name removed is all = each_left (λ (e : List ℕ × Content). e.1) Rises store name all
 
 act_rises : (store : Store) (session : Sess) (serial : ℕ) (need : Needed) → AllRise store → AllRise (act_by store session serial need).store
 unfolding act_by
