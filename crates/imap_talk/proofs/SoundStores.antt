@@ -10,8 +10,7 @@ use Rattle.std.specs.declared.cmp.Ordering.{Ordering}
 use Rattle.std.specs.declared.cmp.Ordering.TheVariants.{Less, Equal, Greater}
 use Rattle.std.proofs.lemmas.List.Elements.{All-nil, All-cons, All-head, All-tail, All-append, All-map, All-weaker, All-filter}
 use Rattle.std.proofs.lemmas.Map.{keys-set_value}
-use Rattle.std.proofs.lemmas.Map.Views.{All-insert_key, All-keys-insert_entry, All-map-remove_entry, All-values-insert_entry, All-values-set_value}
-use Rattle.std.proofs.lemmas.Map.Views.{IfSome-lookup_from_All}
+use Rattle.std.proofs.lemmas.Map.Views.{All-insert_key, All-keys-insert_entry, All-values-insert_entry, All-values-set_value, IfSome-lookup_from_All}
 use Rattle.mur_base.specs.Names.{mail_name_fault}
 use Rattle.mail_message.specs.Boxes.{Content, content_after, content_after_all, has_uid, message_at, messages_after, messages_at, relabelled, row_of}
 use Rattle.mail_message.specs.Boxes.{with_flags, with_message}
@@ -32,6 +31,7 @@ use Rattle.mur_model.specs.Left.{Left, kept, made, changed, removed, store_after
 use Rattle.mur_model.specs.Select.{keywords_in}
 use Rattle.mur_model.specs.Selected.{rows_of}
 use Rattle.mur_model.specs.Store.{box_at, empty_store}
+use Rattle.mur_model.proofs.BoxGone.{each_left}
 use Rattle.imap_talk.specs.SoundRequests.{IsSoundMessage, IsSoundBox, IsSoundStore}
 use Rattle.imap_talk.proofs.TurnLines.{found}
 
@@ -198,6 +198,6 @@ store_is store name (changed box) is all = record {
   names = subst (All HasRuledName) (sym (keys-set_value (is_at (slice_cmp nat_cmp name)) store.boxes box)) all.names;
 }
 store_is store name removed is all = record {
-  boxes = All-map-remove_entry (is_at (slice_cmp nat_cmp name)) (λ (e : List ℕ × Content). e.1) IsSoundBox store.boxes all.boxes;
-  names = All-map-remove_entry (is_at (slice_cmp nat_cmp name)) (λ (e : List ℕ × Content). e.0) HasRuledName store.boxes all.names;
+  boxes = each_left (λ (e : List ℕ × Content). e.1) IsSoundBox store name all.boxes;
+  names = each_left (λ (e : List ℕ × Content). e.0) HasRuledName store name all.names;
 }

@@ -7,7 +7,7 @@ use Rattle.std.specs.Cmp.Lexicographic.{slice_cmp}
 use Rattle.std.specs.BTreeMap.{insert_entry}
 use Rattle.std.proofs.lemmas.Cmp.{tied_itself, nat_cmp_total, nat_list_cmp_total}
 use Rattle.std.proofs.lemmas.Map.Lookups.{exact_unsigned, exact_bytes}
-use Rattle.mur_base.specs.Map.{value_at, with_entry, with_value, without_key}
+use Rattle.mur_base.specs.Map.{value_at, with_entry, with_value}
 
 -- an order in which only a key itself is equal to it
 pub record TellsApart {K : Type 0} (cmp : K → K → Ordering) : Type 0 where
@@ -92,19 +92,6 @@ module _ {K X : Type 0} (cmp : K → K → Ordering) (apart : TellsApart cmp) wh
   value_at-with_value-other [] k q v ne = refl
   value_at-with_value-other (e ∷ es) k q v ne =
       other_value_by e es k q v (not_equal cmp apart q k ne) (value_at-with_value-other es k q v ne) (is_eq (cmp k e.0)) refl
-
-  other_gone_by : (e : K × X) (es : List (K × X)) (k q : K) → is_eq (cmp q k) ≡ false → value_at cmp (without_key cmp es k) q ≡ value_at cmp es q
-      → (b : Bool) → is_eq (cmp k e.0) ≡ b → value_at cmp (without_key cmp (e ∷ es) k) q ≡ value_at cmp (e ∷ es) q
-  other_gone_by e es k q ne ih true h =
-      let same : k ≡ e.0 = apart.exact k e.0 h in
-      let other : is_eq (cmp q e.0) ≡ false = subst (λ x. is_eq (cmp q x) ≡ false) same ne in rw (h, other) refl
-  other_gone_by e es k q ne ih false h = rw h (ap (λ found. cond (is_eq (cmp q e.0)) (Some e.1) found) ih)
-
-  -- another key finds what it found once a key is gone
-  pub value_at-without_key-other : (es : List (K × X)) (k q : K) → q ≢ k → value_at cmp (without_key cmp es k) q ≡ value_at cmp es q
-  value_at-without_key-other [] k q ne = refl
-  value_at-without_key-other (e ∷ es) k q ne =
-      other_gone_by e es k q (not_equal cmp apart q k ne) (value_at-without_key-other es k q ne) (is_eq (cmp k e.0)) refl
 
 module _ {K : Type 0} (cmp : K → K → Ordering) (apart : TellsApart cmp) where
   key_by : (q k : K) (b : Bool) → is_eq (cmp q k) ≡ b → (q ≡ k) ⊎ (q ≢ k)

@@ -7,6 +7,7 @@ mod ViewLaw
 mod InPlaceLaw
 mod BesideLaw
 mod StoreLaw
+pub mod BoxGone
 mod PartLaw
 mod StoredLaw
 mod ViewedLaw

@@ -7,11 +7,12 @@ use Rattle.mur_base.specs.declared.home.Phase.TheVariants.{Open as open_here}
 use Rattle.mur_model.specs.declared.store.Store.{Store}
 use Rattle.mur_model.specs.Left.{Left, kept, made, changed, removed, store_after}
 use Rattle.mur_model.specs.Store.{box_at, with_box}
+use Rattle.mur_model.proofs.BoxGone.{others_there}
 use Rattle.backend_core.specs.OpenBox.{open_content, open_box}
 use Rattle.std.specs.Ordering.{nat_cmp}
 use Rattle.std.specs.Cmp.Lexicographic.{slice_cmp}
 use Rattle.mail_message.specs.Boxes.{Content}
-use Rattle.mur_base.proofs.MapLaws.{names_apart, value_at-with_value, value_at-with_value-other, value_at-with_entry-other, value_at-without_key-other}
+use Rattle.mur_base.proofs.MapLaws.{names_apart, value_at-with_value, value_at-with_value-other, value_at-with_entry-other}
 
 -- a mailbox at its home: it is open there, with the content that it has in the store
 pub record IsAtHome (store : Store) (home : Backend) (name : List ℕ) (held : Held) : Type 0 where
@@ -57,4 +58,4 @@ unfolding store_after
 other_boxes store name kept other ne = refl
 other_boxes store name (made box) other ne = value_at-with_entry-other (slice_cmp nat_cmp) names_apart store.boxes name other box ne
 other_boxes store name (changed box) other ne = value_at-with_value-other (slice_cmp nat_cmp) names_apart store.boxes name other box ne
-other_boxes store name removed other ne = value_at-without_key-other (slice_cmp nat_cmp) names_apart store.boxes name other ne
+other_boxes store name removed other ne = others_there store name other ne
