@@ -32,6 +32,7 @@ use Rattle.session_core.specs.Begin.{user_of}
 use Rattle.session_core.specs.Results.{result_of, turn_behind, turn_by}
 use Rattle.serve_law.specs.AsTheStore.{HaveAlike}
 use Rattle.serve_law.specs.AsTheStore.HaveAlike.{neither, both}
+use Rattle.serve_law.proofs.MissingAlike.{no_make}
 use Rattle.serve_law.proofs.HomeStore.{IsStoreOf, other_boxes}
 use Rattle.serve_law.proofs.HomeStore.IsStoreOf.{is_missing, is_there}
 use Rattle.serve_law.proofs.ServedAlike.{ServesAlike}
@@ -44,7 +45,7 @@ use Rattle.point_links.specs.AtHome.{AskComes, ClosedSendsOn, IsElsewhere, IsSen
 use Rattle.point_links.specs.Carried.{turn_at}
 use Rattle.point_links.specs.Commands.{ClientCommand, WaitsOn, told_turn}
 use Rattle.point_links.proofs.Told.{done_so, moved_waits, not_now_waits}
-use Rattle.point_links.proofs.Works.{StaysThere, given_stays, may_work, no_make, of_messages, order_stays, same_work, work_makes_none}
+use Rattle.point_links.proofs.Works.{StaysThere, given_stays, may_work, of_messages, order_stays, same_work, work_makes_none}
 
 -- ---- what the store has
 

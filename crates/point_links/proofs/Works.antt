@@ -120,16 +120,6 @@ same_work name (status_work shown items) one other full left box ne = refl
 same_work name (select_work it) one other full left box ne = refl
 same_work name (viewed_work view it) one other full left box ne = refl
 
--- what a home does by itself makes none
-pub no_make : (work : Work) → IsOfHome work → work ≢ Make
-unfolding IsOfHome
-no_make Make of = absurd of
-no_make Delete of = absurd of
-no_make (append_work message) of = λ e. cc
-no_make (status_work shown items) of = λ e. cc
-no_make (select_work it) of = λ e. cc
-no_make (viewed_work view it) of = λ e. cc
-
 -- ---- no mailbox is made or deleted
 
 unfoldable pub StaysThere : Left → Type 0
