@@ -1,8 +1,6 @@
 -- What the entries of the master's disk are to the one store. A CREATE is done where the master takes ACTIVATE of a name that never was active, a DELETE
 -- where it takes DELETE of a mailbox (RFC 3656, 4.1 and 4.4); no other entry makes or removes one.
 use Rattle.std.specs.Prelude.{◌≡◌, ◌≢◌, ℕ, false, List, ◌++◌, Option, None, Some}
-use Rattle.std.specs.Ordering.{nat_cmp}
-use Rattle.std.specs.Cmp.Lexicographic.{slice_cmp}
 use Rattle.mail_message.specs.Boxes.{Content, empty_box}
 use Rattle.mail_message.specs.FirstAcl.{first_acl}
 use Rattle.mur_base.specs.declared.home.Location.{Location}
