@@ -47,7 +47,7 @@ use Rattle.mur_model.specs.Left.{Worked, kept, store_after}
 use Rattle.mur_model.specs.Needed.{Work, Make}
 use Rattle.mur_base.specs.declared.limits.TheConstants.{MAILBOX_LIMIT}
 use Rattle.mur_model.specs.Store.{box_at, is_full as store_is_full, IsFree}
-use Rattle.name_commands.specs.Moves.{ends, heard_move}
+use Rattle.name_commands.specs.Moves.{Move, ends, heard_move}
 use Rattle.name_commands.specs.MasterSteps.{IsTaken, flow_reply}
 use Rattle.name_commands.specs.Places.{answer_message, flow_line, flow_message, stage_command}
 use Rattle.name_commands.specs.Replied.{IsReplied, name_reserved, was_active, was_reserved, serials_spent, name_activated, table_full, name_closed}
