@@ -133,6 +133,7 @@ impl Stage {
         } = asking;
         let answer = match op {
             Op::Create => self.made(alloc, &name),
+            Op::Delete => Ok(self.deleted(alloc, &name)),
             op => {
                 let ask = home::ask_of(alloc, name, selected, op)?;
                 answer_to(alloc, &mut self.home, ask)
@@ -149,13 +150,15 @@ impl Stage {
             home::make(alloc, &mut self.home, name, 1)?;
             Outcome::None
         };
-        let seen = Snapshot {
-            serial: 0,
-            next: 0,
-            size: 0,
-            rows: OrderedRows::new(alloc),
-        };
-        Ok(OpResult::Done(outcome, seen))
+        Ok(OpResult::Done(outcome, nothing_seen(alloc)))
+    }
+
+    /// Deletes a mailbox, if there is one.
+    fn deleted(&mut self, alloc: Global, name: &MailName) -> OpResult {
+        match self.home.held.remove(name) {
+            Some(_) => OpResult::Done(Outcome::None, nothing_seen(alloc)),
+            None => OpResult::Missing,
+        }
     }
 
     fn finished(
@@ -179,6 +182,16 @@ impl Stage {
             }
             _ => Ok(self.session.relocated(alloc, awaited, &What::Reserved)?),
         }
+    }
+}
+
+/// What an answer shows that is to no ask for messages.
+fn nothing_seen(alloc: Global) -> Snapshot {
+    Snapshot {
+        serial: 0,
+        next: 0,
+        size: 0,
+        rows: OrderedRows::new(alloc),
     }
 }
 
