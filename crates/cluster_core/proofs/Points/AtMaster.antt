@@ -249,6 +249,9 @@ module _ (fixed : Fixed) (front : List ℕ) (conn now : ℕ) (marks : List Mark)
     seen = seen_so fixed front conn now marks story tag c is_open here (of, goes);
   })
 
+  its_work : (stage : Stage) → flow.stage ≡ stage → c.work ≡ work_at stage
+  its_work stage e = work_of of.kind stage c.work (subst (is_of_kind of.kind) e of.stage) of.does
+
   full_so : (heard : heard_move c.name flow it_is ≡ Some (ends flow (done Limit))) → reply.counts ≡ Some IfAnswered → flow.stage ≡ Making
       → is_full murder.master.table (record_at murder.master.table c.name) ≡ true
       → LineGoes fixed front conn now marks story tag c murder given name node message flow
@@ -257,9 +260,6 @@ module _ (fixed : Fixed) (front : List ℕ) (conn now : ℕ) (marks : List Mark)
       let it = activate_of_full murder given store c name node message rest flow comes makes stage over 0 in
       point_so store IfAnswered (done Limit) 0 are heard it.then_holds it.carries
       (λ at. (0, (activate_of_full murder given store (waiting_at c at) name node message rest flow (comes_at at) makes stage over 0).told fixed.master))
-
-  its_work : (stage : Stage) → flow.stage ≡ stage → c.work ≡ work_at stage
-  its_work stage e = work_of of.kind stage c.work (subst (is_of_kind of.kind) e of.stage) of.does
 
   goes_by : IsReplied murder.master.table node.flows.me c.name flow it_is reply
       → LineGoes fixed front conn now marks story tag c murder given name node message flow

@@ -111,7 +111,7 @@ module _ (master first front : List ℕ) (c : ClientCommand) (tag : Tag) (told s
 
   tested_so : (ask : NameAsk) (move : Move) → IsAskOf ask → IsTested ask move → UndecidedAt move
   tested_so ask move of (is_put_off body elsewhere e) =
-      subst (λ (m : Move). UndecidedAt m) (sym e) ((ap (λ (a : NameAsk). a.id) (of.1).1, elsewhere), ap (λ (a : NameAsk). a.front) (of.1).1)
+      subst (λ (m : Move). UndecidedAt m) (sym e) ((ap (λ (a : NameAsk). a.id) of.2, elsewhere), ap (λ (a : NameAsk). a.front) of.2)
   tested_so ask move of (is_begun e) =
       subst (λ (m : Move). UndecidedAt m) (sym e) (begun_of ask of, tt)
 
@@ -150,7 +150,7 @@ module _ (master first front : List ℕ) (c : ClientCommand) (tag : Tag) (told s
   -- ---- the response to the line of its flow
 
   -- a flow goes on only behind the OK to RESERVE or DEACTIVATE
-  GoesOn : List ℕ → Flow → AskKind → Flow → Type 0
+  abbrev GoesOn : List ℕ → Flow → AskKind → Flow → Type 0
   GoesOn name flow kind later = (stage : Stage) × is_of_kind kind stage × (later ≡ record flow { stage = stage })
 
   goes_on_by : (name : List ℕ) (flow later : Flow) (kind : AskKind) (stage : Stage) (it : MResponse) → is_of_kind kind stage
