@@ -1,7 +1,8 @@
 -- What a store has once a mailbox is deleted.
-use Rattle.std.proofs.Common.{◌≡◌, ◌≢◌, ℕ, Bool, true, false, not, cond, List, [], ◌∷◌, None, Some, refl, sym, ap, subst}
+use Rattle.std.proofs.Common.{◌≡◌, ◌≢◌, ℕ, Bool, true, false, not, cond, List, [], ◌∷◌, None, Some, refl, sym, ◌∙◌, ap, subst}
 use Rattle.std.specs.Prelude.{All, map}
-use Rattle.std.specs.List.{filter}
+use Rattle.std.specs.declared.cmp.Ordering.TheVariants.{Less}
+use Rattle.std.specs.List.{AllByRecursion, filter}
 use Rattle.std.specs.List.Sorted.{IsStrictlySortedBy}
 use Rattle.std.specs.Map.{keys_of}
 use Rattle.std.specs.Ordering.{is_eq, nat_cmp}
@@ -9,7 +10,7 @@ use Rattle.std.specs.Cmp.Lexicographic.{slice_cmp}
 use Rattle.std.proofs.lemmas.List.Elements.{All-cons, All-head, All-tail}
 use Rattle.std.proofs.lemmas.List.Kept.{IsStrictlySortedBy-filter}
 use Rattle.mail_message.specs.Boxes.{Content}
-use Rattle.mur_base.specs.Map.{value_at, IsInOrder}
+use Rattle.mur_base.specs.Map.{value_at, without_key, IsInOrder}
 use Rattle.mur_base.proofs.MapLaws.{names_apart, not_equal}
 use Rattle.mur_model.specs.declared.store.Store.{Store}
 use Rattle.mur_model.specs.Store.{box_at, without_box}
@@ -51,6 +52,25 @@ module _ (name : List ℕ) where
   keys_left [] = refl
   keys_left (e ∷ es) = keys_by e es (is_eq (slice_cmp nat_cmp name e.0)) refl (keys_left es)
 
+  -- where another name is below all, it is none of them
+  none_goes : (other : List ℕ) → is_eq (slice_cmp nat_cmp name other) ≡ true → (es : List (List ℕ × Content))
+      → AllByRecursion (λ k. slice_cmp nat_cmp other k ≡ Less) (keys_of es) → others es ≡ es
+  none_goes other same [] above = refl
+  none_goes other same (e ∷ es) above =
+      let less : slice_cmp nat_cmp name e.0 ≡ Less = subst (λ n. slice_cmp nat_cmp n e.0 ≡ Less) (sym (names_apart.exact name other same)) above.0 in
+      rw less (ap (λ more. e ∷ more) (none_goes other same es above.1))
+
+  removed_by : (e : List ℕ × Content) (es : List (List ℕ × Content)) (same : Bool) → is_eq (slice_cmp nat_cmp name e.0) ≡ same
+      → AllByRecursion (λ k. slice_cmp nat_cmp e.0 k ≡ Less) (keys_of es) → without_key (slice_cmp nat_cmp) es name ≡ others es
+      → without_key (slice_cmp nat_cmp) (e ∷ es) name ≡ others (e ∷ es)
+  removed_by e es true h above more = rw h (sym (none_goes e.0 h es above))
+  removed_by e es false h above more = rw h (ap (λ left. e ∷ left) more)
+
+  removed_from : (es : List (List ℕ × Content)) → IsInOrder (slice_cmp nat_cmp) es → without_key (slice_cmp nat_cmp) es name ≡ others es
+  unfolding IsStrictlySortedBy
+  removed_from [] order = refl
+  removed_from (e ∷ es) order = removed_by e es (is_eq (slice_cmp nat_cmp name e.0)) refl order.0 (removed_from es order.1)
+
   module _ {Y : Type 0} (f : List ℕ × Content → Y) (P : Y → Type 0) where
     each_in : (es : List (List ℕ × Content)) → All P (map f es) → All P (map f (others es))
     each_in [] all = all
@@ -71,6 +91,11 @@ pub without_box-in_order : (store : Store) (name : List ℕ) → IsInOrder (slic
 without_box-in_order store name order =
     subst (IsStrictlySortedBy (slice_cmp nat_cmp)) (sym (keys_left name store.boxes))
     (IsStrictlySortedBy-filter (slice_cmp nat_cmp) (λ k. not (is_eq (slice_cmp nat_cmp name k))) (keys_of store.boxes) order)
+
+-- names stand in order, so that one is taken out at most
+pub one_goes : (store later : Store) (name : List ℕ) → IsInOrder (slice_cmp nat_cmp) store.boxes
+    → later ≡ record store { boxes = without_key (slice_cmp nat_cmp) store.boxes name } → later ≡ without_box store name
+one_goes store later name order is = is ∙ ap (λ boxes. record store { boxes = boxes }) (removed_from name store.boxes order)
 
 -- what is so of all mailboxes is so of those that stay
 pub each_left : {Y : Type 0} (f : List ℕ × Content → Y) (P : Y → Type 0) (store : Store) (name : List ℕ) → All P (map f store.boxes)

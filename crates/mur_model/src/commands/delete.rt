@@ -51,11 +51,13 @@ fn delete_asks(name: MailName) -> Begun
 }
 
 /// Takes a mailbox out of the store, if it is there.
-#[tactic(auto, unfolding(crate::specs::Delete::delete_on, crate::specs::Left::store_after))]
+#[tactic(auto, using(crate::proofs::BoxGone::one_goes), unfolding(crate::specs::Delete::delete_on, crate::specs::Left::store_after))]
 pub fn delete_at(alloc: Global, store: &mut Store, name: &MailName) -> Result<Reply, Memory>
     ensures { IfOk result (λ reply. let worked = delete_on (box_at store.old name.now) in
         (store.new ≡ store_after store.old name.now worked.left) × (replied reply ≡ worked.turn)) }
 {
+    // The entries stand in order, so that one at most has the name.
+    let _ordered = store.boxes.iter();
     match store.boxes.remove(name) {
         Some(_) => completed(alloc, b"DELETE"),
         None => Ok(refused(alloc, NoText::NonExistent)),
