@@ -1,6 +1,5 @@
 -- What is carried out for a command, by what its session asks of a home, is what the command means.
 use Rattle.std.proofs.Common.{◌≡◌, ℕ, List, Option, None, Some, Result, refl, sym, ap, subst}
-use Rattle.std.specs.Prelude.{⊤, IsSome}
 use Rattle.std.specs.Option.{IfSome}
 use Rattle.std.specs.Result.{IfOk}
 use Rattle.std.proofs.lemmas.Result.{IfOk-weaker}

@@ -1,5 +1,5 @@
 -- A mailbox that a command makes or deletes has a name by the rules of names (RFC 9051, 5.1).
-use Rattle.std.proofs.Common.{◌≡◌, ℕ, List, None, refl, subst}
+use Rattle.std.proofs.Common.{◌≡◌, ℕ, List, None, subst}
 use Rattle.std.specs.Prelude.{⊤}
 use Rattle.imap_types.specs.declared.command.Command.{Command}
 use Rattle.mur_base.specs.Names.{mail_name_fault}
@@ -7,7 +7,7 @@ use Rattle.mur_model.specs.declared.session.Sess.{Sess}
 use Rattle.mur_model.specs.declared.setting.Setting.{Setting}
 use Rattle.mur_model.specs.declared.view.View.{View}
 use Rattle.mur_model.specs.Act.{need_of}
-use Rattle.mur_model.specs.Needed.{Needed, Refusal, Turned, Mailbox, Work, Make, Delete, Append, Status, Select, Viewed}
+use Rattle.mur_model.specs.Needed.{Needed, Mailbox, Work, Make, Delete}
 use Rattle.mur_model.proofs.EachNeed.{AnyCommand, OfBegun, OfViewed, each_need, of_refusals}
 
 unfoldable MadeHasName : List ℕ → Work → Type 0

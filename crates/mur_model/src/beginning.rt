@@ -127,9 +127,10 @@ fn begin_begun(
             list(alloc, with, user, reference.as_slice(), mailbox.as_slice())
         }
         Command::Delete(text) => delete(alloc, with, user, text.as_slice()),
-        Command::Copy(..) | Command::Xfer(..) | Command::LeftOut(_) => Ok(
-            Begun::refused(alloc, Verdict::No(NoText::Cannot)),
-        ),
+        Command::Copy(..) | Command::Xfer(..) | Command::LeftOut(_) => Ok(Begun::refused(
+            alloc,
+            Verdict::No(NoText::Cannot),
+        )),
         _ => Ok(not_yet(alloc)),
     }
 }
