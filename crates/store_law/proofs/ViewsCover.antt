@@ -253,7 +253,7 @@ module _ (store : Store) (rise : AllRise store) (given : AllGiven store) (sessio
   act_covered (Refusal verdict) may still own here = is
   act_covered (Turned turn) may still own here = still_covered store session turn.session turn.reply still is
   act_covered (Mailbox name work) may still own here =
-      work_covered name work (is_full store) (box_at store name) refl (box_rises store name rise) 
+      work_covered name work (is_full store) (box_at store name) refl (box_rises store name rise)
       (act_grows store session serial (Mailbox name work) may) own here
   act_covered (Names it) may still own here = is
 
