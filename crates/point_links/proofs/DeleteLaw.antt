@@ -1,87 +1,48 @@
 -- The master takes the line of a DELETE.
-use Rattle.std.proofs.Common.{◌≡◌, ℕ, ◌&&◌, nat_le, Bool, true, false, cond, is_some, List, [], ◌∷◌, ◌++◌, filter, Option, None, Some, refl}
+use Rattle.std.proofs.Common.{◌≡◌, ℕ, List, ◌++◌, Option, None, Some, refl}
 use Rattle.std.proofs.Common.{sym, ◌∙◌, ap, subst}
-use Rattle.std.specs.Prelude.{not}
-use Rattle.std.specs.List.{AllByRecursion}
-use Rattle.std.proofs.lemmas.List.Concat.{flat_map-cons}
-use Rattle.asking_core.specs.Answered.{answered}
 use Rattle.back_links.specs.MasterEvents.{given_in}
-use Rattle.back_links.specs.OneTalk.{HasTalk}
-use Rattle.back_links.specs.Spelled.{HasCommandTexts, HasLineTexts}
-use Rattle.back_links.proofs.StepsSaid.{sends_spelled}
-use Rattle.back_links.proofs.Texts.{command_read}
 use Rattle.back_node.specs.declared.node.BackNode.{BackNode}
-use Rattle.link_msg.specs.declared.answer.AnswerBody.{AnswerBody}
-use Rattle.link_msg.specs.declared.answer.AnswerBody.TheVariants.{NotNow}
 use Rattle.link_msg.specs.declared.counts.Counts.{Counts}
-use Rattle.link_msg.specs.declared.counts.Counts.TheVariants.{Always, IfAnswered}
+use Rattle.link_msg.specs.declared.counts.Counts.TheVariants.{Always}
 use Rattle.link_msg.specs.declared.message.LinkMsg.{LinkMsg}
-use Rattle.link_msg.specs.declared.message.LinkMsg.TheVariants.{Line}
 use Rattle.link_msg.specs.declared.out.Out.{Out}
-use Rattle.link_msg.specs.declared.out.Out.TheVariants.{Client, Close, Link, Mark, Told as tell}
-use Rattle.link_msg.specs.declared.outcome.Outcome.{Outcome}
-use Rattle.link_msg.specs.declared.outcome.Outcome.TheVariants.{None as nothing_told, Exists, Limit}
-use Rattle.link_queue.specs.Links.{on_link}
+use Rattle.link_msg.specs.declared.outcome.Outcome.TheVariants.{None as nothing_told}
 use Rattle.mail_message.specs.Boxes.{Content}
-use Rattle.mail_message.specs.declared.message.Snapshot.{Snapshot}
-use Rattle.mail_message.specs.FirstAcl.{first_acl}
 use Rattle.master_core.specs.declared.reply.Reply.{Reply}
 use Rattle.master_core.specs.Linked.{node_says}
-use Rattle.master_core.specs.Refusals.{is_active, is_active_state, is_full, is_reserved}
-use Rattle.master_core.specs.Step.{mark_of}
-use Rattle.mupdate_codec.specs.declared.command.MCommand.{MCommand}
 use Rattle.mupdate_codec.specs.declared.command.MCommand.TheVariants as command
-use Rattle.mupdate_codec.specs.declared.tag.Tag.{Tag}
-use Rattle.mupdate_codec.specs.Arguments.{exact}
-use Rattle.mupdate_codec.specs.Asks.{tag_of}
-use Rattle.mupdate_codec.specs.Commands.{command_line}
-use Rattle.mupdate_codec.specs.Whole.{command_in}
 use Rattle.mur_base.specs.declared.home.Location.{Location}
-use Rattle.mur_base.specs.declared.point.AskId.{AskId}
 use Rattle.mur_model.specs.declared.session.Sess.{Sess}
 use Rattle.mur_model.specs.declared.store.Store.{Store}
 use Rattle.mur_model.specs.Act.{MayWork, work_on, worked_at}
 use Rattle.mur_model.specs.Asking.{asked_for}
-use Rattle.mur_model.specs.Create.{create_on, make}
-use Rattle.mur_model.specs.Left.{Worked, kept, store_after}
-use Rattle.mur_model.specs.Needed.{Work, Make}
-use Rattle.mur_base.specs.declared.limits.TheConstants.{MAILBOX_LIMIT}
-use Rattle.mur_model.specs.Store.{box_at, is_full as store_is_full, IsFree}
+use Rattle.mur_model.specs.Left.{Worked, store_after}
+use Rattle.mur_model.specs.Needed.{Work}
+use Rattle.mur_model.specs.Store.{box_at}
 use Rattle.name_commands.specs.Moves.{Move, ends, heard_move}
-use Rattle.name_commands.specs.MasterSteps.{IsTaken, flow_reply}
-use Rattle.name_commands.specs.Places.{answer_message, flow_line, flow_message, stage_command}
+use Rattle.name_commands.specs.MasterSteps.{flow_reply}
+use Rattle.name_commands.specs.Places.{stage_command}
 use Rattle.name_commands.specs.Replied.{IsReplied, name_reserved, was_active, was_reserved, serials_spent, name_activated, table_full, name_closed}
 use Rattle.name_commands.specs.Replied.{name_deleted}
-use Rattle.name_commands.specs.Whose.{Whose, is_command, is_own_line, is_own_message, is_own_out}
-use Rattle.name_commands.proofs.MasterLaw.{line_taken}
-use Rattle.name_commands.proofs.Own.{is_only, kept as kept_first, of_one, on_itself, own_is}
-use Rattle.name_commands.proofs.Sends.{stage_same}
+use Rattle.name_commands.specs.Whose.{is_command, is_own_out}
 use Rattle.name_flows.specs.declared.flow.Flow.{Flow}
 use Rattle.name_flows.specs.declared.flow.Stage.{Stage}
 use Rattle.name_flows.specs.declared.flow.Stage.TheVariants.{Reserving, Making, Deactivating, Deleting}
-use Rattle.name_flows.specs.Running.{done, flow_at}
+use Rattle.name_flows.specs.Running.{done}
 use Rattle.name_links.specs.Serials.{Given}
-use Rattle.node_record.specs.declared.table.Record.{Record}
-use Rattle.node_record.specs.declared.table.State.{State}
-use Rattle.node_record.specs.declared.table.State.TheVariants.{Bare, Kept, Active}
-use Rattle.node_record.specs.Table.{MailboxTable, has_acl, is_mailbox_if, record_at}
-use Rattle.session_core.specs.Create.{reply_to_create, reply_to_created}
+use Rattle.node_record.specs.Table.{MailboxTable}
 use Rattle.session_core.specs.Finish.{turn_of}
 use Rattle.session_core.specs.declared.result.OpResult.TheVariants.{Done}
 use Rattle.serve_law.proofs.ServedAlike.{apart}
-use Rattle.store_links.specs.TableEntries.{store_with}
-use Rattle.store_links.proofs.BoxesLaw.{each_is_a_box}
-use Rattle.many_links.specs.Murder.{Murder, homes_of, master_takes}
+use Rattle.many_links.specs.Murder.{Murder, master_takes}
 use Rattle.many_links.specs.ManyHold.{ManyHold}
-use Rattle.many_links.specs.Marks.{CarryNoneOut, IsOnlyTold, mark_in, marks_in}
-use Rattle.many_links.specs.MasterEvents.{IsOneCommand, StoreTakes, nothing, created, removed}
-use Rattle.many_links.proofs.BoxesLaw.{mailboxes_are_boxes}
-use Rattle.many_links.proofs.TakesLaw.{takes_keeps_many}
+use Rattle.many_links.specs.MasterEvents.{StoreTakes, nothing, created, removed}
 use Rattle.point_links.specs.Carried.{CarriesOut, turn_at}
-use Rattle.point_links.specs.Commands.{ClientCommand, told_turn}
-use Rattle.point_links.specs.FlowLines.{LineComes, LineIsPoint}
-use Rattle.point_links.proofs.Told.{done_so, not_now_waits}
-use Rattle.point_links.proofs.LineLaw.{LineIs, has_box, line_is, none_always, none_if_answered, nothing_seen}
+use Rattle.point_links.specs.Commands.{ClientCommand}
+use Rattle.point_links.specs.FlowLines.{LineComes}
+use Rattle.point_links.proofs.Told.{done_so}
+use Rattle.point_links.proofs.LineLaw.{LineIs, line_is, none_always, nothing_seen}
 use Rattle.mur_model.specs.Delete.{delete_on}
 use Rattle.mur_model.specs.Needed.{Delete}
 use Rattle.mur_model.specs.Store.{without_box}

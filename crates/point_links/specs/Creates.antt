@@ -4,25 +4,21 @@ use Rattle.std.specs.Prelude.{◌≡◌, ℕ, true, false, List, [], ◌∷◌, 
 use Rattle.asking_core.specs.Answered.{answered}
 use Rattle.back_links.specs.MasterEvents.{given_in}
 use Rattle.back_node.specs.declared.node.BackNode.{BackNode}
-use Rattle.link_msg.specs.declared.answer.AnswerBody.{AnswerBody}
 use Rattle.link_msg.specs.declared.answer.AnswerBody.TheVariants.{NotNow}
-use Rattle.link_msg.specs.declared.counts.Counts.{Counts}
 use Rattle.link_msg.specs.declared.counts.Counts.TheVariants.{Always, IfAnswered}
 use Rattle.link_msg.specs.declared.message.LinkMsg.{LinkMsg}
-use Rattle.link_msg.specs.declared.out.Out.TheVariants.{Link, Mark}
+use Rattle.link_msg.specs.declared.out.Out.TheVariants.{Link}
 use Rattle.link_msg.specs.declared.outcome.Outcome.TheVariants.{None as nothing, Exists, Limit}
-use Rattle.link_queue.specs.Links.{on_link}
 use Rattle.mail_message.specs.Boxes.{Content}
 use Rattle.master_core.specs.Linked.{node_says}
 use Rattle.master_core.specs.Refusals.{is_active, is_full, is_reserved}
-use Rattle.master_core.specs.Whose.{TellNobody}
 use Rattle.mupdate_codec.specs.declared.command.MResponse.{MResponse}
 use Rattle.mur_model.specs.declared.store.Store.{Store}
 use Rattle.mur_model.specs.Needed.{Make}
 use Rattle.mur_model.specs.Store.{box_at}
 use Rattle.name_commands.specs.Moves.{ends, heard_move}
-use Rattle.name_commands.specs.Places.{TalkShows, sends, answer_message}
-use Rattle.name_commands.specs.Whose.{is_command, is_own_message, is_own_out}
+use Rattle.name_commands.specs.Places.{answer_message}
+use Rattle.name_commands.specs.Whose.{is_command, is_own_out}
 use Rattle.name_flows.specs.declared.flow.Flow.{Flow}
 use Rattle.name_flows.specs.declared.flow.Stage.TheVariants.{Reserving, Making}
 use Rattle.name_flows.specs.Running.{done}
@@ -31,8 +27,7 @@ use Rattle.node_record.specs.Table.{record_at}
 use Rattle.store_links.specs.TableEntries.{store_with}
 use Rattle.many_links.specs.Murder.{Murder, master_takes}
 use Rattle.many_links.specs.ManyHold.{ManyHold}
-use Rattle.point_links.specs.Carried.{CarriesOut, turn_at}
-use Rattle.point_links.specs.Commands.{ClientCommand, WaitsOn, told_turn}
+use Rattle.point_links.specs.Commands.{ClientCommand, WaitsOn}
 use Rattle.point_links.specs.FlowLines.{LineComes, LineIsPoint}
 
 -- ---- it is carried out

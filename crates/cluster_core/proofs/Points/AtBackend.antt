@@ -30,7 +30,6 @@ use Rattle.mur_model.proofs.MadeNames.{deleted_is_named, made_is_named}
 use Rattle.name_commands.specs.Moves.{Move, asked_move, heard_move, tested_move}
 use Rattle.name_commands.specs.Places.{IsNumbered, NamePlace as name_at}
 use Rattle.name_flows.specs.declared.ask.AskKind.{AskKind}
-use Rattle.name_flows.specs.declared.ask.AskKind.TheVariants.{Create, Delete}
 use Rattle.name_flows.specs.declared.ask.NameAsk.{NameAsk}
 use Rattle.name_flows.specs.declared.flow.Flow.{Flow}
 use Rattle.name_flows.specs.declared.flows.Flows.{Flows}

@@ -16,7 +16,6 @@ use Rattle.link_msg.specs.declared.outcome.Outcome.TheVariants.{None as nothing,
 use Rattle.mail_message.specs.Boxes.{Content}
 use Rattle.many_links.specs.Murder.{Murder, master_takes}
 use Rattle.many_links.specs.ManyHold.{ManyHold}
-use Rattle.many_links.specs.MasterEvents.{IsOneCommand}
 use Rattle.mark_history.specs.Marked.{Tale}
 use Rattle.mark_history.specs.declared.mark.Mark.{Mark}
 use Rattle.master_core.specs.declared.reply.Reply.{Reply}
@@ -46,7 +45,7 @@ use Rattle.node_record.specs.Table.{record_at}
 use Rattle.point_links.specs.Carried.{CarriesOut, turn_at}
 use Rattle.point_links.specs.Commands.{ClientCommand, told_turn}
 use Rattle.point_links.specs.FlowLines.{LineComes}
-use Rattle.point_links.proofs.CreateLaw.{activate_creates, activate_of_full, reserve_of_one_reserved, reserve_of_one_there}
+use Rattle.point_links.proofs.CreateLaw.{activate_creates, activate_of_full, reserve_of_one_there}
 use Rattle.point_links.proofs.DeleteLaw.{delete_deletes}
 use Rattle.point_links.proofs.LineLaw.{IsNoEnd, LineIs, line_is}
 use Rattle.point_links.proofs.Works.{is_make, same_work}

@@ -15,7 +15,6 @@ use Rattle.backend_core.specs.Step.{home_step}
 use Rattle.cluster_core.specs.Headline.Backends.{IsBackend}
 use Rattle.cluster_core.specs.Headline.Outside.{table_by, table_at}
 use Rattle.imap_talk.specs.Heard.{Heard}
-use Rattle.imap_types.specs.declared.op.Op.TheVariants.{Create}
 use Rattle.link_msg.specs.declared.answer.AnswerBody.{AnswerBody}
 use Rattle.link_msg.specs.declared.answer.AnswerBody.TheVariants as answer
 use Rattle.link_msg.specs.declared.ask.FrontAsk.{FrontAsk}
