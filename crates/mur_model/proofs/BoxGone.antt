@@ -93,9 +93,9 @@ without_box-in_order store name order =
     (IsStrictlySortedBy-filter (slice_cmp nat_cmp) (λ k. not (is_eq (slice_cmp nat_cmp name k))) (keys_of store.boxes) order)
 
 -- names stand in order, so that one is taken out at most
-pub one_goes : (store later : Store) (name : List ℕ) → IsInOrder (slice_cmp nat_cmp) store.boxes
-    → later ≡ record store { boxes = without_key (slice_cmp nat_cmp) store.boxes name } → later ≡ without_box store name
-one_goes store later name order is = is ∙ ap (λ boxes. record store { boxes = boxes }) (removed_from name store.boxes order)
+pub one_goes : (store : Store) (boxes : List (List ℕ × Content)) (name : List ℕ) → IsInOrder (slice_cmp nat_cmp) store.boxes
+    → boxes ≡ without_key (slice_cmp nat_cmp) store.boxes name → record store { boxes = boxes } ≡ without_box store name
+one_goes store boxes name order is = ap (λ left. record store { boxes = left }) (is ∙ removed_from name store.boxes order)
 
 -- what is so of all mailboxes is so of those that stay
 pub each_left : {Y : Type 0} (f : List ℕ × Content → Y) (P : Y → Type 0) (store : Store) (name : List ℕ) → All P (map f store.boxes)

@@ -5,7 +5,7 @@ ghost use Rattle.mur_model.specs.Left.{replied, store_after};
 ghost use Rattle.mur_model.specs.Need.{begun_of};
 ghost use Rattle.mur_model.specs.Needed.{Mailbox, Delete};
 ghost use Rattle.mur_model.specs.Rights.{has_rights};
-ghost use Rattle.mur_model.specs.Store.{box_at};
+ghost use Rattle.mur_model.specs.Store.{box_at, without_box};
 
 use crate::commands::create::is_inbox;
 use crate::need::{Awaited, Begun};
@@ -51,15 +51,22 @@ fn delete_asks(name: MailName) -> Begun
 }
 
 /// Takes a mailbox out of the store, if it is there.
-#[tactic(auto, using(crate::proofs::BoxGone::one_goes), unfolding(crate::specs::Delete::delete_on, crate::specs::Left::store_after))]
+#[tactic(auto, unfolding(crate::specs::Delete::delete_on, crate::specs::Left::store_after))]
 pub fn delete_at(alloc: Global, store: &mut Store, name: &MailName) -> Result<Reply, Memory>
     ensures { IfOk result (λ reply. let worked = delete_on (box_at store.old name.now) in
         (store.new ≡ store_after store.old name.now worked.left) × (replied reply ≡ worked.turn)) }
 {
+    if !store.boxes.contains_key(name) {
+        return Ok(refused(alloc, NoText::NonExistent));
+    }
+    take_out(store, name);
+    completed(alloc, b"DELETE")
+}
+
+fn take_out(store: &mut Store, name: &MailName)
+    ensures { store.new ≡ without_box store.old name.now }
+{
     // The entries stand in order, so that one at most has the name.
     let _ordered = store.boxes.iter();
-    match store.boxes.remove(name) {
-        Some(_) => completed(alloc, b"DELETE"),
-        None => Ok(refused(alloc, NoText::NonExistent)),
-    }
+    store.boxes.remove(name);
 }
