@@ -7,7 +7,6 @@ mod ViewLaw
 mod InPlaceLaw
 mod BesideLaw
 mod StoreLaw
-pub mod BoxGone
 mod PartLaw
 mod StoredLaw
 mod ViewedLaw
@@ -16,7 +15,6 @@ mod BeginsLaw
 pub mod EachNeed
 pub mod OwnView
 mod ShownFit
-pub mod GatheredLaw
 pub mod MadeNames
 mod ActedLaw
 mod FetchedAlike

@@ -5,15 +5,14 @@ ghost use Rattle.mur_model.specs.Asking.{HasWork, appended_for, viewed_for, work
 ghost use Rattle.mur_model.specs.Acting.{IsActed, IsWorked};
 ghost use Rattle.mur_model.specs.Left.{replied};
 ghost use Rattle.mur_model.specs.Listing.{list_reply, names_in};
-ghost use Rattle.mur_model.specs.Needed.{Delete, Mailbox, Make};
+ghost use Rattle.mur_model.specs.Needed.{Mailbox, Make};
 ghost use Rattle.mur_model.specs.Status.{status_on};
 ghost use Rattle.mur_model.specs.Store.{box_at};
 
 use crate::beginning::begin;
 use crate::commands::append::append_at;
 use crate::commands::create::make;
-use crate::commands::delete::delete_at;
-use crate::commands::list::{Listing, gathered_in};
+use crate::commands::list::{Listing, names_in};
 use crate::commands::select::select_at;
 use crate::commands::status::status_at;
 use crate::need::{Asking, Awaited, Begun, Need};
@@ -68,8 +67,8 @@ fn act_by(
 fn list_by(alloc: Global, store: &Store, it: &Listing) -> Result<Reply, Memory>
     ensures { IfOk result (λ reply. reply ≡ list_reply it.now (names_in store.now)) }
 {
-    let gathered = gathered_in(alloc, it, store)?;
-    it.reply(alloc, &gathered)
+    let names = names_in(alloc, store)?;
+    it.reply(alloc, names.as_slice())
 }
 
 /// Does at a mailbox what its home would be asked.
@@ -134,7 +133,6 @@ fn work_at(
     match awaited {
         Awaited::Append => unreachable!(),
         Awaited::Create => create_by(alloc, store, name, serial),
-        Awaited::Delete => delete_by(alloc, store, name),
         Awaited::Status(shown, items) => status_by(alloc, store, name, shown, &items),
         Awaited::Select(_, it) => select_at(alloc, store, name, &it),
         Awaited::Viewed(work) => viewed_by(alloc, store, sess, name, work),
@@ -146,13 +144,6 @@ fn create_by(alloc: Global, store: &mut Store, name: &MailName, serial: u32) -> 
     ensures { IfOk result (λ turn. IsWorked store.old name.now (worked_at store.old name.now Make serial) store.new turn) }
 {
     Ok(replied(make(alloc, store, name, serial)?))
-}
-
-#[tactic(auto, unfolding(crate::specs::Act::work_on))]
-fn delete_by(alloc: Global, store: &mut Store, name: &MailName) -> Result<Turn, Memory>
-    ensures { IfOk result (λ turn. (serial : ℕ) → IsWorked store.old name.now (worked_at store.old name.now Delete serial) store.new turn) }
-{
-    Ok(replied(delete_at(alloc, store, name)?))
 }
 
 fn status_by(

@@ -18,7 +18,6 @@ use std::alloc::Global;
 #[derive(Drop)]
 pub enum Awaited {
     Create,
-    Delete,
     Append,
     /// Under this name, of these items.
     Status(Bytes, StatusItems),

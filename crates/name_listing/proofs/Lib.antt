@@ -7,4 +7,3 @@ pub mod OneListing
 pub mod ShownFits
 pub mod ToldLaw
 pub mod Wildcards
-mod PlainFront

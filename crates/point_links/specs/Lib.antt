@@ -1,8 +1,6 @@
 pub mod Commands
 pub mod Carried
 pub mod Barriers
-pub mod FlowLines
 pub mod Creates
-pub mod Deletes
 pub mod AtHome
 pub mod Lists

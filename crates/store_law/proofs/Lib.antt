@@ -21,7 +21,6 @@ mod MessagesDone
 mod BodiesAsked
 mod DoneAtBox
 mod DoneCreate
-mod DoneDelete
 mod DoneExpunge
 mod DoneFetch
 mod DoneStore
@@ -41,7 +40,7 @@ pub mod CommandsSpeak
 pub mod LinesLaw
 mod NewsWhole
 mod BoxesGrow
-pub mod ViewsCover
+mod ViewsCover
 pub mod NewsTold
 pub mod LetsIn
 pub mod LoginLaw
