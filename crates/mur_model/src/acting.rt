@@ -3,9 +3,10 @@ ghost use Rattle.std.specs.Prelude.{◌≡◌, ℕ, IfOk, IfSome, IsSome};
 ghost use Rattle.mur_model.specs.Act.{worked_at, act_by, act_of, session_after};
 ghost use Rattle.mur_model.specs.Asking.{HasWork, appended_for, viewed_for, work_for};
 ghost use Rattle.mur_model.specs.Acting.{IsActed, IsWorked};
+ghost use Rattle.mur_model.specs.Delete.{delete_on};
 ghost use Rattle.mur_model.specs.Left.{replied};
 ghost use Rattle.mur_model.specs.Listing.{list_reply, names_in};
-ghost use Rattle.mur_model.specs.Needed.{Delete, Mailbox, Make};
+ghost use Rattle.mur_model.specs.Needed.{Mailbox, Make};
 ghost use Rattle.mur_model.specs.Status.{status_on};
 ghost use Rattle.mur_model.specs.Store.{box_at};
 
@@ -148,9 +149,8 @@ fn create_by(alloc: Global, store: &mut Store, name: &MailName, serial: u32) -> 
     Ok(replied(make(alloc, store, name, serial)?))
 }
 
-#[tactic(auto, unfolding(crate::specs::Act::work_on))]
 fn delete_by(alloc: Global, store: &mut Store, name: &MailName) -> Result<Turn, Memory>
-    ensures { IfOk result (λ turn. (serial : ℕ) → IsWorked store.old name.now (worked_at store.old name.now Delete serial) store.new turn) }
+    ensures { IfOk result (λ turn. IsWorked store.old name.now (delete_on (box_at store.old name.now)) store.new turn) }
 {
     Ok(replied(delete_at(alloc, store, name)?))
 }
