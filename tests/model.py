@@ -8,7 +8,7 @@ Without arguments it compares each stored output of examples/ and tests/replays/
 RFC 3656 alone, and knows no proof and no code of the program. It keeps every byte of a connection and cuts it anew, so it is slow and plain. What a frame
 spells is in commands.py, what a client is replied in sessions.py, what mailboxes hold in mailboxes.py, the nodes in frontend.py, backend.py and
 mupdate.py, the rules of schedules in rules.py. `.ci/large` and `tests/random_schedules` compare the program with it, and the outputs of tests/replays were
-worked out by it and read. The program refuses the commands of NOT_YET; with another `refused` the model doesn't.
+worked out by it and read.
 """
 import glob, json, os, re, sys
 from collections import deque, namedtuple
@@ -18,7 +18,7 @@ from backend import Backend
 from frontend import Frontend
 from mupdate import Master
 from rules import Rules, is_event, lines_of
-from sessions import NOT_YET, Setting
+from sessions import Setting
 
 
 def spelled(data):
@@ -60,12 +60,12 @@ def history(marks):
 class Cluster:
     """The nodes, and the messages on the links between them. Steps are counted, what they say of commands is noted, and where each line of a schedule ends."""
 
-    def __init__(self, config, refused=NOT_YET):
+    def __init__(self, config):
         self.kinds = {n['name']: n['kind'] for n in config['nodes']}
         names = list(self.kinds)
         self.pairs = [(a, b) for a in names for b in names if a != b and self.linked(a, b)]
         self.links, self.conns, self.marks, self.steps, self.line_ends = {}, {}, [], 0, []
-        self.setting = Setting(config, refused)
+        self.setting = Setting(config)
         backends = [name for name in names if self.kinds[name] == 'backend']
         make = {'frontend': lambda n: Frontend(self, n['name'], self.setting), 'master': lambda n: Master(self, n['name'], backends),
                 'backend': lambda n: Backend(self, n['name'], n['partition'], self.setting.date)}
@@ -171,24 +171,24 @@ def refusal(config, schedule):
             return number, rule
 
 
-def cluster_after(config, schedule, refused=NOT_YET):
-    cluster = Cluster(json.loads(config), refused)
+def cluster_after(config, schedule):
+    cluster = Cluster(json.loads(config))
     for _, line in lines_of(schedule):
         if is_event(line):
             cluster.take(line)
     return cluster
 
 
-def run(config, schedule, refused=NOT_YET):
-    return cluster_after(config, schedule, refused).output()
+def run(config, schedule):
+    return cluster_after(config, schedule).output()
 
 
-def printed_by(config, schedule, refused=NOT_YET):
+def printed_by(config, schedule):
     """The output, the line on the error output and the status."""
     broken = refusal(config, schedule)
     if broken:
         return '', 'murder: schedule refused: line %d rule %d\n' % broken, 3
-    return run(config, schedule, refused), '', 0
+    return run(config, schedule), '', 0
 
 
 def stored(name, otherwise=''):

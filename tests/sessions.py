@@ -11,7 +11,6 @@ SYNTAX, STATE, MESSAGE = b'BAD syntax error', b'BAD not in this state', b'BAD no
 CANNOT, NO_RIGHT = b'NO [CANNOT] cannot be done', b'NO [NOPERM] not permitted'
 MOVED = b'NO [UNAVAILABLE] mailbox is being moved'
 CLOSED = b'* OK [CLOSED] closed\r\n'
-NOT_YET = (b'DELETE',)  # what nodes carry out, and the program's sessions refuse yet
 NOT_DONE = LEFT_OUT + (b'COPY', b'UID COPY', b'XFER')
 NAMED_MAILBOX = (b'CREATE', b'DELETE', b'APPEND', b'STATUS', b'SELECT', b'EXAMINE')
 ANY_STATE, LOGGED_OUT = (b'CAPABILITY', b'NOOP', b'LOGOUT'), (b'LOGIN', b'AUTHENTICATE')
@@ -24,12 +23,11 @@ GONE_REPLY = Reply(None, b'* BYE mailbox is gone\r\n', True)
 
 
 class Setting:
-    """The users, the date of messages without one, and what isn't done: some of these commands too."""
+    """The users, and the date of messages without one."""
 
-    def __init__(self, config, refused):
+    def __init__(self, config):
         self.users = {u['name'].encode(): (u['password'].encode(), u.get('admin', False)) for u in config['users']}
         self.date = config['date'].encode()
-        self.not_done = NOT_DONE + refused
 
     def is_admin(self, user):
         return self.users[user][1]
@@ -299,7 +297,7 @@ class Session:
         """The reply to a command, or what it asks for."""
         if word is None or not self.is_in_state(word):
             return Reply(STATE if word else SYNTAX)
-        if word in self.setting.not_done:
+        if word in NOT_DONE:
             return Reply(CANNOT)
         if word in (b'CAPABILITY', b'ENABLE', b'LOGOUT'):
             return self.alone(word)

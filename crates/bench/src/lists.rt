@@ -5,7 +5,7 @@ use crate::task::Task;
 use crate::times::{Cost, Which, Work, print_times};
 use imap_reply::write;
 use mur_base::{Bytes, Items, MailName, mail_name, put_number, user_name};
-use mur_model::{Listing, Reply, ReplyLines, Tag, Verdict};
+use mur_model::{Gathered, Listing, Reply, ReplyLines, Tag, Verdict};
 use name_listing::Pattern;
 use std::alloc::Global;
 
@@ -100,7 +100,7 @@ impl Work for Answering {
 
     /// Answers, and gives how many lines the reply has.
     fn done(&mut self) -> Result<u64, Fault> {
-        self.reply = self.listing.reply(self.alloc, self.names.as_slice())?;
+        self.reply = answered(self.alloc, &self.listing, self.names.as_slice())?;
         Ok(self.reply.lines.len() as u64)
     }
 
@@ -110,6 +110,15 @@ impl Work for Answering {
         write(&self.tag, &self.reply, &mut out)?;
         Ok(out.len() as u64)
     }
+}
+
+/// What a LIST is answered, where there are these mailboxes.
+fn answered(alloc: Global, listing: &Listing, names: &[MailName]) -> Result<Reply, Fault> {
+    let mut gathered = Gathered::new(alloc);
+    for name in names {
+        gathered.put(alloc, listing, name)?;
+    }
+    Ok(listing.reply(alloc, &gathered)?)
 }
 
 fn cost_of(rt: &HostRuntime, load: Load, rounds: u32) -> Result<Cost, Fault> {

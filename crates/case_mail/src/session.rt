@@ -7,8 +7,8 @@ use case_base::{Fault, Steps, put_steps};
 use imap_types::Command;
 use link_msg::{AnswerBody, FrontAsk, LinkMsg, Op, Out, Outcome};
 use mail_message::{OrderedRows, Snapshot};
-use mur_base::{Bytes, Copied, Items, MailName, What, node_name};
-use mur_model::{Listing, Setting};
+use mur_base::{Bytes, MailName, What, node_name};
+use mur_model::{Gathered, Listing, Setting};
 use session_core::{Asking, Awaited, Need, OpResult, Session};
 use std::alloc::Global;
 
@@ -118,11 +118,11 @@ impl Stage {
 
     /// What a LIST is told of the mailboxes of the home.
     fn listed(&self, alloc: Global, it: &Listing) -> Result<Need, Fault> {
-        let mut names = Items::new(alloc);
+        let mut gathered = Gathered::new(alloc);
         for (name, _) in self.home.held.iter() {
-            names.push(name.copy(alloc)?)?;
+            gathered.put(alloc, it, name)?;
         }
-        Ok(Need::Reply(it.reply(alloc, names.as_slice())?))
+        Ok(Need::Reply(it.reply(alloc, &gathered)?))
     }
 
     fn answered(&mut self, alloc: Global, name: MailName, asking: Asking) -> Result<Need, Fault> {
@@ -133,6 +133,7 @@ impl Stage {
         } = asking;
         let answer = match op {
             Op::Create => self.made(alloc, &name),
+            Op::Delete => Ok(self.deleted(alloc, &name)),
             op => {
                 let ask = home::ask_of(alloc, name, selected, op)?;
                 answer_to(alloc, &mut self.home, ask)
@@ -149,13 +150,15 @@ impl Stage {
             home::make(alloc, &mut self.home, name, 1)?;
             Outcome::None
         };
-        let seen = Snapshot {
-            serial: 0,
-            next: 0,
-            size: 0,
-            rows: OrderedRows::new(alloc),
-        };
-        Ok(OpResult::Done(outcome, seen))
+        Ok(OpResult::Done(outcome, nothing_seen(alloc)))
+    }
+
+    /// Deletes a mailbox, if there is one.
+    fn deleted(&mut self, alloc: Global, name: &MailName) -> OpResult {
+        match self.home.held.remove(name) {
+            Some(_) => OpResult::Done(Outcome::None, nothing_seen(alloc)),
+            None => OpResult::Missing,
+        }
     }
 
     fn finished(
@@ -179,6 +182,16 @@ impl Stage {
             }
             _ => Ok(self.session.relocated(alloc, awaited, &What::Reserved)?),
         }
+    }
+}
+
+/// What an answer shows that is to no ask for messages.
+fn nothing_seen(alloc: Global) -> Snapshot {
+    Snapshot {
+        serial: 0,
+        next: 0,
+        size: 0,
+        rows: OrderedRows::new(alloc),
     }
 }
 

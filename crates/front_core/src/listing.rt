@@ -1,5 +1,7 @@
 // A LIST waits for the master's OK, and is answered from the replica (RFC 9051, 6.3.9).
 ghost use Rattle.std.specs.Prelude.{◌≡◌, ◌+◌, ◌<◌, ◌^◌, IfOk, OnOk};
+ghost use Rattle.feed_core.specs.Listing.{mailbox_names};
+ghost use Rattle.mur_model.specs.Listing.{gathered_of};
 ghost use Rattle.front_core.specs.Answered.{listed_by};
 ghost use Rattle.front_core.specs.Room.{commands_of};
 ghost use Rattle.front_core.specs.Taken.{behind_outs, lists, ways_by};
@@ -8,9 +10,11 @@ use crate::connection::{Connection, Stage};
 use crate::desk::Desk;
 use crate::replies::reply_bytes;
 use ask_routes::noop_line;
+use feed_core::Replica;
 use link_msg::{How, LinkMsg, Out, Outs};
 use mur_base::{AskId, Copied, Memory};
-use mur_model::{Listing, Tag};
+use mur_model::{Gathered, Listing, Tag};
+use std::alloc::Global;
 
 impl Connection {
     /// Sends the master a NOOP, under the number that the command will have. For want of memory the connection is spent.
@@ -46,9 +50,27 @@ impl Connection {
         let Stage::Lists(tag, it) = &self.stage else {
             return Ok(Outs::new(desk.alloc));
         };
-        let names = desk.replica.names(desk.alloc)?;
-        let reply = it.reply(desk.alloc, names.as_slice())?;
+        let gathered = gathered_in(desk.alloc, it, desk.replica)?;
+        let reply = it.reply(desk.alloc, &gathered)?;
         let text = reply_bytes(desk.alloc, tag, reply)?;
         self.reads_on(desk, How::Behind, text)
     }
+}
+
+/// What a LIST tells of the mailboxes of a replica.
+#[tactic(auto, unfolding(mur_model::specs::Listing::gathered_of))]
+pub(crate) fn gathered_in<'a>(
+    alloc: Global,
+    it: &Listing,
+    replica: &'a Replica,
+) -> Result<Gathered<'a>, Memory>
+    ensures { IfOk result (λ gathered. gathered ≡ gathered_of it.now (mailbox_names replica.now.records)) }
+{
+    let mut gathered = Gathered::new(alloc);
+    for (name, rec) in replica.records.iter() {
+        if rec.is_mailbox() {
+            gathered.put(alloc, it, name)?;
+        }
+    }
+    Ok(gathered)
 }

@@ -23,7 +23,7 @@ use Rattle.name_listing.specs.Listing.{Lines}
 use Rattle.name_listing.specs.Told.{line_of}
 use Rattle.mur_model.specs.declared.commands.list.Listing.{Listing}
 use Rattle.mur_model.specs.Listing.{list_reply, shown_to}
-use Rattle.mur_model.specs.Needed.{Needed, Turned, Work, Make, Append as append_work, Status as status_work, Select as select_work, Viewed as viewed_work}
+use Rattle.mur_model.specs.Needed.{Needed, Turned, Work, Make, Delete, Append as append_work, Status as status_work, Select as select_work, Viewed as viewed_work}
 use Rattle.mur_model.specs.declared.work.NewsFor.{NewsFor}
 use Rattle.mur_model.specs.declared.work.ViewWork.{ViewWork}
 use Rattle.mur_model.specs.declared.work.ViewWork.TheVariants as view_work
@@ -48,6 +48,7 @@ use Rattle.mur_model.specs.Append.{append_on, append_to, append_reply}
 use Rattle.mur_model.specs.ClientView.{uids}
 use Rattle.mur_model.specs.Close.{left_by}
 use Rattle.mur_model.specs.Create.{create_on, make}
+use Rattle.mur_model.specs.Delete.{delete_on}
 use Rattle.mur_model.specs.Expunge.{expunge_told}
 use Rattle.mur_model.specs.Fetch.{fetch_at, fetch_told, fetch_lines, sees, seen_flags}
 use Rattle.mur_model.specs.Left.{Worked, replied, kept, changed}
@@ -155,6 +156,11 @@ unfolding create_on ends
 created_ends name serial full (Some there) = refl
 created_ends name serial full None = made_ends name serial full
 
+deleted_ends : (box : Option Content) → TurnEnds (delete_on box).turn
+unfolding delete_on ends
+deleted_ends None = refl
+deleted_ends (Some there) = refl
+
 appended_by : (message : Message) (box : Content) (fault : Option StoreFault) → TurnEnds (append_to message box fault).turn
 unfolding append_to append_reply ends
 appended_by message box (Some fault) = refl
@@ -214,6 +220,7 @@ view_ends view work (Some box) =
 pub work_ends : (name : List ℕ) (work : Work) (serial : ℕ) (full : Bool) (box : Option Content) → TurnEnds (work_on name work serial full box).turn
 unfolding work_on
 work_ends name Make serial full box = created_ends name serial full box
+work_ends name Delete serial full box = deleted_ends box
 work_ends name (append_work message) serial full box = appended_ends message box
 work_ends name (status_work shown items) serial full box = counted_ends shown items box
 work_ends name (select_work it) serial full box = selected_ends it name box

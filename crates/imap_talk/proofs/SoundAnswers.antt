@@ -81,6 +81,7 @@ begun_sound setting date_is = record {
   enable = at_once_sound Enabled (codes "ENABLE") tt refl;
   unselected = unselected_sound;
   make = λ name named. named;
+  delete = λ name named. tt;
   append = λ name text flags date body sound.
       record { ruled = sound.0; dated = new_dated date setting.date date_is sound.1.0; counted = sound.1.1 };
   status = λ user name items named. shown_plain user name named;

@@ -27,10 +27,11 @@ use Rattle.mail_store.specs.Expunge.{expunged, expunged_uids}
 use Rattle.mail_store.specs.Named.{set_of}
 use Rattle.mail_store.specs.Store.{stored, stored_row, stored_rows, rows_stored}
 use Rattle.mur_model.specs.declared.store.Store.{Store}
-use Rattle.mur_model.specs.Left.{Left, kept, made, changed, store_after}
+use Rattle.mur_model.specs.Left.{Left, kept, made, changed, removed, store_after}
 use Rattle.mur_model.specs.Select.{keywords_in}
 use Rattle.mur_model.specs.Selected.{rows_of}
 use Rattle.mur_model.specs.Store.{box_at, empty_store}
+use Rattle.mur_model.proofs.BoxGone.{each_left}
 use Rattle.imap_talk.specs.SoundRequests.{IsSoundMessage, IsSoundBox, IsSoundStore}
 use Rattle.imap_talk.proofs.TurnLines.{found}
 
@@ -177,6 +178,7 @@ abbrev pub IsSoundLeft : List ℕ → Left → Type 0
 IsSoundLeft name kept = ⊤
 IsSoundLeft name (made box) = HasRuledName name × IsSoundBox box
 IsSoundLeft name (changed box) = IsSoundBox box
+IsSoundLeft name removed = ⊤
 
 pub empty_is : IsSoundStore empty_store
 empty_is = record { boxes = All-nil IsSoundBox; names = All-nil HasRuledName }
@@ -194,4 +196,8 @@ store_is store name (made box) is all = record {
 store_is store name (changed box) is all = record {
   boxes = All-values-set_value (is_at (slice_cmp nat_cmp name)) IsSoundBox store.boxes box all.boxes is;
   names = subst (All HasRuledName) (sym (keys-set_value (is_at (slice_cmp nat_cmp name)) store.boxes box)) all.names;
+}
+store_is store name removed is all = record {
+  boxes = each_left (λ (e : List ℕ × Content). e.1) IsSoundBox store name all.boxes;
+  names = each_left (λ (e : List ℕ × Content). e.0) HasRuledName store name all.names;
 }

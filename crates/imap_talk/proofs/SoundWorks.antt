@@ -24,7 +24,7 @@ use Rattle.mur_model.specs.declared.work.NewsFor.{NewsFor}
 use Rattle.mur_model.specs.declared.work.NewsFor.TheVariants as news_for
 use Rattle.mur_model.specs.declared.work.ViewWork.{ViewWork}
 use Rattle.mur_model.specs.declared.work.ViewWork.TheVariants as view_work
-use Rattle.mur_model.specs.Needed.{Work, Make, Append as append_work, Status as status_work, Select as select_work, Viewed as viewed_work}
+use Rattle.mur_model.specs.Needed.{Work, Make, Delete, Append as append_work, Status as status_work, Select as select_work, Viewed as viewed_work}
 use Rattle.imap_types.specs.declared.reply.Attribute.TheVariants.{None as no_attribute}
 use Rattle.imap_types.specs.declared.reply.NoText.{NoText}
 use Rattle.imap_types.specs.declared.reply.NoText.TheVariants.{NonExistent}
@@ -41,6 +41,7 @@ use Rattle.mur_model.specs.Act.{work_on}
 use Rattle.mur_model.specs.Append.{append_on, append_to, append_reply}
 use Rattle.mur_model.specs.ClientView.{uids}
 use Rattle.mur_model.specs.Create.{create_on, make}
+use Rattle.mur_model.specs.Delete.{delete_on}
 use Rattle.mur_model.specs.Expunge.{expunge_at, expunge_name}
 use Rattle.mur_model.specs.Fetch.{fetch_at, fetch_told, fetch_name, fetch_lines, items_told, sees, seen_flags}
 use Rattle.mur_model.specs.Left.{Worked, kept, changed}
@@ -166,6 +167,7 @@ SoundViewWork (view_work.Search it) = ⊤
 -- a mailbox that is made has a name by the rules
 abbrev pub SoundWork : List ℕ → Work → Type 0
 SoundWork name Make = HasRuledName name
+SoundWork name Delete = ⊤
 SoundWork name (append_work message) = IsSoundMessage message
 SoundWork name (status_work shown items) = IsPlain shown
 SoundWork name (select_work it) = IsPlain it.shown
@@ -180,6 +182,11 @@ created_sound : (name : List ℕ) (serial : ℕ) (full : Bool) (box : Option Con
 unfolding create_on IsSoundVerdict
 created_sound name serial full (Some there) named = record { left = tt; reply = record { lines = All-nil IsSoundLine; verdict = tt } }
 created_sound name serial full None named = made_sound name serial full named
+
+deleted_sound : {name : List ℕ} (box : Option Content) → SoundWorked name (delete_on box)
+unfolding delete_on IsSoundVerdict
+deleted_sound None = record { left = tt; reply = record { lines = All-nil IsSoundLine; verdict = tt } }
+deleted_sound (Some there) = record { left = tt; reply = record { lines = All-nil IsSoundLine; verdict = refl } }
 
 appended_by : {name : List ℕ} (message : Message) (box : Content) (fault : Option StoreFault) → IsSoundMessage message → IsSoundBox box
     → SoundWorked name (append_to message box fault)
@@ -310,6 +317,7 @@ pub work_sound : (name : List ℕ) (work : Work) (serial : ℕ) (full : Bool) (b
     → SoundWorked name (work_on name work serial full box)
 unfolding work_on
 work_sound name Make serial full box sound all = created_sound name serial full box sound
+work_sound name Delete serial full box sound all = deleted_sound box
 work_sound name (append_work message) serial full box sound all = appended_sound message box sound all
 work_sound name (status_work shown items) serial full box sound all = counted_sound shown items box sound
 work_sound name (select_work it) serial full box sound all = selected_sound it name box sound all

@@ -13,7 +13,8 @@ use Rattle.mupdate_codec.specs.declared.tag.Tag.{Tag}
 use Rattle.mupdate_codec.specs.Whole.{command_in}
 use Rattle.home_law.specs.ManyNames.{Mailbox}
 use Rattle.name_links.specs.Serials.{Given}
-use Rattle.store_links.specs.TableEntries.{store_with, without_box}
+use Rattle.mur_model.specs.Store.{without_box}
+use Rattle.store_links.specs.TableEntries.{store_with}
 use Rattle.many_links.specs.Marks.{IsOnlyTold, CarryNoneOut}
 use Rattle.many_links.specs.MasterEvents.{IsDoneFor, nothing, created, removed, ExactlyOne}
 

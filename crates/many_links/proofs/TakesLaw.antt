@@ -45,7 +45,8 @@ use Rattle.back_links.proofs.Texts.{command_read}
 use Rattle.store_links.specs.Given.{HasGiven, given_pair}
 use Rattle.store_links.specs.Lines.{IsTaken, nothing as is_nothing, created as is_created, removed as is_removed}
 use Rattle.store_links.specs.Shown.{Homes, Shows}
-use Rattle.store_links.specs.TableEntries.{store_with, without_box}
+use Rattle.mur_model.specs.Store.{without_box}
+use Rattle.store_links.specs.TableEntries.{store_with}
 use Rattle.store_links.proofs.BoxesLaw.{box_is_there, each_is_a_box}
 use Rattle.store_links.proofs.LineLaw.{each_is_one}
 use Rattle.store_links.proofs.TableLaw.{delete_is_one}

@@ -15,7 +15,7 @@ use Rattle.master_core.specs.Streams.{without}
 use Rattle.mur_base.specs.declared.home.Location.{Location}
 use Rattle.mur_base.specs.declared.point.AskId.{AskId}
 use Rattle.mur_model.specs.declared.store.Store.{Store}
-use Rattle.mur_model.specs.Store.{box_at, IsFree}
+use Rattle.mur_model.specs.Store.{box_at, IsFree, without_box}
 use Rattle.mupdate_codec.specs.declared.command.MCommand.{MCommand}
 use Rattle.mupdate_codec.specs.declared.command.MCommand.TheVariants as command
 use Rattle.mupdate_codec.specs.declared.tag.Tag.{Tag}
@@ -25,7 +25,7 @@ use Rattle.back_node.specs.declared.node.BackNode.{BackNode}
 use Rattle.home_law.specs.ManyNames.{Mailbox}
 use Rattle.name_links.specs.Serials.{Given}
 use Rattle.back_links.specs.MasterEvents.{given_in}
-use Rattle.store_links.specs.TableEntries.{store_with, without_box}
+use Rattle.store_links.specs.TableEntries.{store_with}
 use Rattle.many_links.specs.Murder.{Murder, master_takes, master_does}
 use Rattle.many_links.specs.ManyHold.{ManyHold}
 use Rattle.many_links.specs.Marks.{marks_in, CarryNoneOut}

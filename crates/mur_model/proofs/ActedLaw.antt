@@ -1,6 +1,5 @@
 -- What is carried out for a command, by what its session asks of a home, is what the command means.
 use Rattle.std.proofs.Common.{◌≡◌, ℕ, List, Option, None, Some, Result, refl, sym, ap, subst}
-use Rattle.std.specs.Prelude.{⊤, IsSome}
 use Rattle.std.specs.Option.{IfSome}
 use Rattle.std.specs.Result.{IfOk}
 use Rattle.std.proofs.lemmas.Result.{IfOk-weaker}
@@ -17,13 +16,14 @@ use Rattle.mur_model.specs.Act.{Acted, act_by, act_of, need_of, session_after, w
 use Rattle.mur_model.specs.Acting.{IsActed, IsWorked}
 use Rattle.mur_model.specs.Asking.{HasWork, appended_for, asked_for, viewed_for, work_for}
 use Rattle.mur_model.specs.Need.{begun_of, told_with}
-use Rattle.mur_model.specs.Needed.{Needed, Refusal, Turned, Mailbox, Names, Work, Make, Append, Status, Select, Viewed}
+use Rattle.mur_model.specs.Needed.{Needed, Refusal, Turned, Mailbox, Names, Work, Make, Delete, Append, Status, Select, Viewed}
 use Rattle.mur_model.proofs.OwnView.{IsOfNeeded, IsOfWork, need_own}
 
 asked_back : (session : Sess) (name : List ℕ) (work : Work) → IsOfWork session work
     → work_for session (asked_for name work).op (asked_for name work).awaited ≡ Some work
 unfolding work_for asked_for appended_for viewed_for IsOfWork
 asked_back session name Make own = refl
+asked_back session name Delete own = refl
 asked_back session name (Append message) own = refl
 asked_back session name (Status shown items) own = refl
 asked_back session name (Select it) own = refl

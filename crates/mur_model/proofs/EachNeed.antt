@@ -16,7 +16,7 @@ use Rattle.imap_types.specs.declared.command.Command.TheVariants as command
 use Rattle.imap_types.specs.declared.command.StatusItem.{StatusItem}
 use Rattle.mur_model.specs.declared.commands.fetch.Fetching.{Fetching}
 use Rattle.mur_model.specs.declared.commands.list.Listing.{Listing}
-use Rattle.mur_model.specs.Needed.{Needed, Refusal, Turned, Mailbox, Names, Work, Make, Append as append_work, Status as status_work, Select as select_work, at_mailbox, no_such_number, read_only}
+use Rattle.mur_model.specs.Needed.{Needed, Refusal, Turned, Mailbox, Names, Work, Make, Delete, Append as append_work, Status as status_work, Select as select_work, at_mailbox, no_such_number, read_only}
 use Rattle.mur_model.specs.declared.work.NewsFor.{NewsFor}
 use Rattle.mur_model.specs.declared.work.NewsFor.TheVariants as news_for
 use Rattle.mur_model.specs.declared.work.ViewWork.TheVariants as view_work
@@ -37,6 +37,7 @@ use Rattle.mur_model.specs.Append.{append, append_as, append_by, new_message}
 use Rattle.mur_model.specs.AtOnce.{capability, enable, is_done, logout}
 use Rattle.mur_model.specs.Close.{left_by}
 use Rattle.mur_model.specs.Create.{create, create_as, create_by, create_meant, is_inbox, without_separator}
+use Rattle.mur_model.specs.Delete.{delete, delete_as, delete_by}
 use Rattle.mur_model.specs.Expunge.{expunge, expunge_named}
 use Rattle.mur_model.specs.Fetch.{fetch_named}
 use Rattle.mur_model.specs.Keys.{have_all_numbers, keys_at}
@@ -75,6 +76,7 @@ pub record OfBegun (setting : Setting) (Asked : Command → Type 0) (Of : Needed
   pub names : (user pattern : List ℕ) → Of (Names (listing_by setting user pattern))
   pub unselected : (user : List ℕ) (was_selected : Bool) (why : NoText) → Of (Turned (unselected user was_selected why))
   pub make : (name : List ℕ) → mail_name_fault name ≡ None → Of (Mailbox name Make)
+  pub delete : (name : List ℕ) → mail_name_fault name ≡ None → Of (Mailbox name Delete)
   pub append : (name text : List ℕ) (flags : Flags) (date : Option (List ℕ)) (body : List ℕ) → Asked (command.Append text flags date body)
       → Of (Mailbox name (append_work (new_message setting flags date body)))
   pub status : (user name : List ℕ) (items : List StatusItem) → mail_name_fault name ≡ None → Of (Mailbox name (status_work (shown_name user name) items))
@@ -187,6 +189,19 @@ each_create of user name true fault named = of.answers.refused Cannot
 each_create of user name false (Some fault) named = of.answers.refused NonExistent
 each_create {setting} of user name false None named = each_create_by of name (may_create setting.users user name) named
 
+each_delete_by : {setting : Setting} {Asked : Command → Type 0} {Of : Needed → Type 0} (of : OfBegun setting Asked Of) (name : List ℕ) (may : Bool)
+    → mail_name_fault name ≡ None → Of (delete_by name may)
+unfolding delete_by
+each_delete_by of name true named = of.delete name named
+each_delete_by of name false named = of.answers.refused NoPerm
+
+each_delete : {setting : Setting} {Asked : Command → Type 0} {Of : Needed → Type 0} (of : OfBegun setting Asked Of) (user name : List ℕ) (inbox : Bool)
+    (fault : Option NameFault) → mail_name_fault name ≡ fault → Of (delete_as setting user name inbox fault)
+unfolding delete_as
+each_delete of user name true fault named = of.answers.refused Cannot
+each_delete of user name false (Some fault) named = of.answers.refused NonExistent
+each_delete {setting} of user name false None named = each_delete_by of name (has_rights setting.users user name) named
+
 each_append_by : {setting : Setting} {Asked : Command → Type 0} {Of : Needed → Type 0} (of : OfBegun setting Asked Of) (name : List ℕ) (message : Message)
     (may : Bool) → Of (Mailbox name (append_work message)) → Of (append_by name message may)
 unfolding append_by
@@ -235,7 +250,7 @@ each_list {setting} {Asked} {Of} of user reference mailbox =
 
 each_begun : {setting : Setting} {Asked : Command → Type 0} {Of : Needed → Type 0} (of : OfBegun setting Asked Of) (user : List ℕ) (is_selected : Bool)
     (it : Command) → Asked it → Of (need_begun setting user is_selected it)
-unfolding need_begun create create_meant append status select
+unfolding need_begun create create_meant delete append status select
 each_begun of user is_selected command.Capability asked = of.answers.capability
 each_begun of user is_selected command.Logout asked = of.answers.logout
 each_begun of user is_selected (command.Enable names) asked = of.enable
@@ -251,7 +266,8 @@ each_begun of user is_selected (command.Select text) asked =
     each_select of user (taken_name user text) text true is_selected (mail_name_fault (taken_name user text)) asked refl
 each_begun of user is_selected (command.Examine text) asked =
     each_select of user (taken_name user text) text false is_selected (mail_name_fault (taken_name user text)) asked refl
-each_begun of user is_selected (command.Delete text) asked = of.answers.refused Cannot
+each_begun of user is_selected (command.Delete text) asked =
+    each_delete of user (taken_name user text) (is_inbox text) (mail_name_fault (taken_name user text)) refl
 each_begun of user is_selected (command.List reference mailbox) asked = each_list of user reference mailbox
 each_begun of user is_selected (command.Copy by_uid set text) asked = of.answers.refused Cannot
 each_begun of user is_selected (command.Xfer text server partition) asked = of.answers.refused Cannot
@@ -342,6 +358,7 @@ begun_by_works setting of = record {
   names = λ user pattern. of.names _;
   unselected = of.unselected;
   make = λ name named. of.work name _;
+  delete = λ name named. of.work name _;
   append = λ name text flags date body asked. of.work name _;
   status = λ user name items named. of.work name _;
   select = λ user name text is_writable was_selected asked named. of.work name _;

@@ -7,6 +7,7 @@ mod ViewLaw
 mod InPlaceLaw
 mod BesideLaw
 mod StoreLaw
+pub mod BoxGone
 mod PartLaw
 mod StoredLaw
 mod ViewedLaw
@@ -15,6 +16,7 @@ mod BeginsLaw
 pub mod EachNeed
 pub mod OwnView
 mod ShownFit
+pub mod GatheredLaw
 pub mod MadeNames
 mod ActedLaw
 mod FetchedAlike

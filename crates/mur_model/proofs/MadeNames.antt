@@ -1,5 +1,5 @@
--- A mailbox that a command makes has a name by the rules of names (RFC 9051, 5.1).
-use Rattle.std.proofs.Common.{◌≡◌, ℕ, List, None, refl, subst}
+-- A mailbox that a command makes or deletes has a name by the rules of names (RFC 9051, 5.1).
+use Rattle.std.proofs.Common.{◌≡◌, ℕ, List, None, subst}
 use Rattle.std.specs.Prelude.{⊤}
 use Rattle.imap_types.specs.declared.command.Command.{Command}
 use Rattle.mur_base.specs.Names.{mail_name_fault}
@@ -7,11 +7,12 @@ use Rattle.mur_model.specs.declared.session.Sess.{Sess}
 use Rattle.mur_model.specs.declared.setting.Setting.{Setting}
 use Rattle.mur_model.specs.declared.view.View.{View}
 use Rattle.mur_model.specs.Act.{need_of}
-use Rattle.mur_model.specs.Needed.{Needed, Refusal, Turned, Mailbox, Work, Make, Append, Status, Select, Viewed}
+use Rattle.mur_model.specs.Needed.{Needed, Mailbox, Work, Make, Delete}
 use Rattle.mur_model.proofs.EachNeed.{AnyCommand, OfBegun, OfViewed, each_need, of_refusals}
 
 unfoldable MadeHasName : List ℕ → Work → Type 0
 MadeHasName name Make = mail_name_fault name ≡ None
+MadeHasName name Delete = mail_name_fault name ≡ None
 MadeHasName name work = ⊤
 
 unfoldable MakesNamed : Needed → Type 0
@@ -27,6 +28,7 @@ begun_named setting = record {
   names = λ user pattern. tt;
   unselected = λ user was_selected why. tt;
   make = λ name named. named;
+  delete = λ name named. named;
   append = λ name text flags date body asked. tt;
   status = λ user name items named. tt;
   select = λ user name text is_writable was_selected asked named. tt;
@@ -48,3 +50,8 @@ pub made_is_named : (setting : Setting) (session : Sess) (it : Command) (name : 
     → mail_name_fault name ≡ None
 unfolding MakesNamed MadeHasName
 made_is_named setting session it name e = subst MakesNamed e (each_need (begun_named setting) session (λ view is. viewed_named view) it tt)
+
+pub deleted_is_named : (setting : Setting) (session : Sess) (it : Command) (name : List ℕ) → need_of setting session it ≡ Mailbox name Delete
+    → mail_name_fault name ≡ None
+unfolding MakesNamed MadeHasName
+deleted_is_named setting session it name e = subst MakesNamed e (each_need (begun_named setting) session (λ view is. viewed_named view) it tt)

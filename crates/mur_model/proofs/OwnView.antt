@@ -1,5 +1,5 @@
 -- Work that a command of a session needs at the mailbox of a view is at that of the session's own.
-use Rattle.std.proofs.Common.{◌≡◌, refl, subst}
+use Rattle.std.proofs.Common.{◌≡◌, subst}
 use Rattle.std.specs.Prelude.{⊤}
 use Rattle.imap_types.specs.declared.command.Command.{Command}
 use Rattle.mur_model.specs.declared.session.Sess.{Sess}
@@ -7,7 +7,7 @@ use Rattle.mur_model.specs.declared.session.Sess.TheVariants.{Selected}
 use Rattle.mur_model.specs.declared.setting.Setting.{Setting}
 use Rattle.mur_model.specs.declared.view.View.{View}
 use Rattle.mur_model.specs.Act.{need_of}
-use Rattle.mur_model.specs.Needed.{Needed, Refusal, Turned, Mailbox, Work, Make, Append, Status, Select, Viewed}
+use Rattle.mur_model.specs.Needed.{Needed, Mailbox, Work, Viewed}
 use Rattle.mur_model.proofs.EachNeed.{AnyCommand, OfAnswers, OfBegun, OfViewed, each_need, of_refusals}
 
 unfoldable pub IsOfWork : Sess → Work → Type 0
@@ -31,6 +31,7 @@ begun_own setting session = record {
   names = λ user pattern. tt;
   unselected = λ user was_selected why. tt;
   make = λ name named. tt;
+  delete = λ name named. tt;
   append = λ name text flags date body asked. tt;
   status = λ user name items named. tt;
   select = λ user name text is_writable was_selected asked named. tt;

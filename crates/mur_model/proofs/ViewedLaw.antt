@@ -1,4 +1,4 @@
--- What a command of a selected session leaves of the store in which its mailbox stands: none is made.
+-- What a command of a selected session leaves of the store in which its mailbox stands: none is made, and none goes.
 use Rattle.std.proofs.Common.{◌≡◌, ℕ, ◌==◌, Bool, true, false, List, Option, None, Some, if◌then◌else◌, refl, ap, ◌∙◌}
 use Rattle.mail_message.specs.Boxes.{Content}
 use Rattle.mail_store.specs.Store.{has_too_many_flags, rows_stored}
@@ -9,29 +9,30 @@ use Rattle.mur_model.specs.declared.store.Store.{Store}
 use Rattle.mur_model.specs.declared.commands.store.FlagStore.{FlagStore}
 use Rattle.mur_model.specs.declared.view.View.{View}
 use Rattle.mur_model.specs.Fetch.{sees}
-use Rattle.mur_model.specs.Left.{Left, kept, made, changed, Worked, IsLeft, box_after, store_after}
+use Rattle.mur_model.specs.Left.{Left, kept, made, changed, removed, Worked, IsLeft, box_after, store_after}
 use Rattle.mur_model.specs.Selected.{gone}
 use Rattle.mur_model.specs.Store.{box_at, with_box}
 use Rattle.mur_model.specs.StoreFlags.{stored_at}
 use Rattle.mur_model.specs.Viewing.{found_gone, viewed_on, work_there}
 use Rattle.mur_model.proofs.AppendLaws.{kept_there}
 
-unfoldable NoneMade : Left → Type 0
-NoneMade kept = Unit {0}
-NoneMade (made content) = ⊥
-NoneMade (changed content) = Unit {0}
+unfoldable StaysThere : Left → Type 0
+StaysThere kept = Unit {0}
+StaysThere (made content) = ⊥
+StaysThere (changed content) = Unit {0}
+StaysThere removed = ⊥
 
-none_left : (left other : Worked) (test : Bool) → NoneMade left.left → NoneMade other.left → NoneMade (if test then left else other).left
+none_left : (left other : Worked) (test : Bool) → StaysThere left.left → StaysThere other.left → StaysThere (if test then left else other).left
 none_left left other true one two = one
 none_left left other false one two = two
 
-stored_made : (view : View) (it : FlagStore) (box : Content) (many : Bool) → NoneMade (stored_at view it box many).left
-unfolding NoneMade
+stored_made : (view : View) (it : FlagStore) (box : Content) (many : Bool) → StaysThere (stored_at view it box many).left
+unfolding StaysThere
 stored_made view it box true = tt
 stored_made view it box false = tt
 
-worked_made : (view : View) (it : ViewWork) (box : Content) → NoneMade (work_there view it box).left
-unfolding work_there NoneMade
+worked_made : (view : View) (it : ViewWork) (box : Content) → StaysThere (work_there view it box).left
+unfolding work_there StaysThere
 worked_made view (work.News why) box = tt
 worked_made view work.Close box = tt
 worked_made view (work.Expunge only) box = tt
@@ -39,17 +40,18 @@ worked_made view (work.Store it) box = stored_made view it box (has_too_many_fla
 worked_made view (work.Fetch it) box = none_left _ _ (sees view it) tt tt
 worked_made view (work.Search it) box = tt
 
-viewed_made : (view : View) (it : ViewWork) (box : Option Content) → NoneMade (viewed_on view it box).left
-unfolding viewed_on NoneMade
+viewed_made : (view : View) (it : ViewWork) (box : Option Content) → StaysThere (viewed_on view it box).left
+unfolding viewed_on StaysThere
 viewed_made view it None = tt
 viewed_made view it (Some box) = none_left (work_there view it box) found_gone (box.serial == view.serial) (worked_made view it box) tt
 
-left_by : (store : Store) (name : List ℕ) (box : Content) (left : Left) → NoneMade left → box_at store name ≡ Some box
+left_by : (store : Store) (name : List ℕ) (box : Content) (left : Left) → StaysThere left → box_at store name ≡ Some box
     → with_box store name (box_after box left) ≡ store_after store name left
-unfolding NoneMade box_after store_after
+unfolding StaysThere box_after store_after
 left_by store name box kept none there = kept_there store name box there
 left_by store name box (made content) none there = absurd none
 left_by store name box (changed content) none there = refl
+left_by store name box removed none there = absurd none
 
 -- the mailbox is there
 pub viewed_there : (store : Store) (name : List ℕ) (view : View) (it : ViewWork) (box left : Content) (turn : Turn) → box_at store name ≡ Some box

@@ -5,7 +5,7 @@ use Rattle.std.specs.Prelude.{◌≡◌, ℕ, ⊤, Bool, true, false, if◌then�
 use Rattle.mail_message.specs.Boxes.{Content}
 use Rattle.imap_types.specs.declared.command.Command.{Command}
 use Rattle.imap_types.specs.declared.command.Command.TheVariants as command
-use Rattle.mur_model.specs.Needed.{Needed, Refusal, Turned, Mailbox, Names, Work, Make, Append as append_work, Status as status_work, Select as select_work, Viewed as viewed_work, at_mailbox}
+use Rattle.mur_model.specs.Needed.{Needed, Refusal, Turned, Mailbox, Names, Work, Make, Delete as delete_work, Append as append_work, Status as status_work, Select as select_work, Viewed as viewed_work, at_mailbox}
 use Rattle.mur_model.specs.declared.work.ViewWork.TheVariants as work
 use Rattle.imap_types.specs.declared.reply.BadText.TheVariants.{State, Syntax}
 use Rattle.imap_types.specs.declared.reply.NoText.TheVariants.{Cannot}
@@ -21,6 +21,7 @@ use Rattle.mur_model.specs.Append.{new_message, append, append_on}
 use Rattle.mur_model.specs.AtOnce.{capability, enable, is_done, logout}
 use Rattle.mur_model.specs.Close.{close, left_by}
 use Rattle.mur_model.specs.Create.{create, create_on}
+use Rattle.mur_model.specs.Delete.{delete, delete_on}
 use Rattle.mur_model.specs.Expunge.{expunge}
 use Rattle.mur_model.specs.Fetch.{fetch}
 use Rattle.mur_model.specs.Left.{Worked, replied, store_after}
@@ -70,7 +71,7 @@ need_begun setting user is_selected (command.Append text flags date body) = appe
 need_begun setting user is_selected (command.Status text items) = status setting user text items
 need_begun setting user is_selected (command.Select text) = select setting user text true is_selected
 need_begun setting user is_selected (command.Examine text) = select setting user text false is_selected
-need_begun setting user is_selected (command.Delete text) = cannot_yet
+need_begun setting user is_selected (command.Delete text) = delete setting user text
 need_begun setting user is_selected (command.List reference mailbox) = list setting user reference mailbox
 need_begun setting user is_selected (command.Copy by_uid set text) = cannot_yet
 need_begun setting user is_selected (command.Xfer text server partition) = cannot_yet
@@ -109,6 +110,7 @@ need_of setting session it = if is_in session (traits_of it).states then need_ta
 -- what work leaves of the mailbox that stands there; a CREATE gives a new one the serial as its UIDVALIDITY, unless the store is full
 unfoldable pub work_on : List ℕ → Work → ℕ → Bool → Option Content → Worked
 work_on name Make serial full box = create_on name serial full box
+work_on name delete_work serial full box = delete_on box
 work_on name (append_work message) serial full box = append_on message box
 work_on name (status_work shown items) serial full box = status_on shown items box
 work_on name (select_work it) serial full box = select_on it name box
@@ -143,6 +145,7 @@ act_of setting store session command serial = act_by store session serial (need_
 
 unfoldable pub MayWork : Store → List ℕ → ℕ → Work → Type 0
 MayWork store name serial Make = box_at store name ≡ None → is_full store ≡ false → IsFree store name serial
+MayWork store name serial delete_work = ⊤
 MayWork store name serial (append_work message) = ⊤
 MayWork store name serial (status_work shown items) = ⊤
 MayWork store name serial (select_work it) = ⊤

@@ -1,7 +1,7 @@
 -- What the home of a mailbox is asked for some work there, and what is awaited then. The answer of a home, and not the mailbox, is what a session has.
 use Rattle.std.specs.Prelude.{ℕ, ⊤, Bool, true, false, List, [], ◌∷◌, Option, None, Some, IsSome}
 use Rattle.imap_types.specs.declared.op.Op.{Op}
-use Rattle.imap_types.specs.declared.op.Op.TheVariants.{Look, Create as create_op, Append as append_op, Expunge as expunge_op, Flags as flags_op, Read as read_op}
+use Rattle.imap_types.specs.declared.op.Op.TheVariants.{Look, Create as create_op, Delete as delete_op, Append as append_op, Expunge as expunge_op, Flags as flags_op, Read as read_op}
 use Rattle.imap_types.specs.declared.op.Op.TheVariants.{Summaries as summaries_op}
 use Rattle.mur_model.specs.declared.commands.fetch.Fetching.{Fetching}
 use Rattle.mur_model.specs.declared.need.Asking.{Asking}
@@ -18,7 +18,7 @@ use Rattle.mur_model.specs.ClientView.{uids as uids_of}
 use Rattle.mur_model.specs.Fetch.{sees}
 use Rattle.mur_model.specs.FetchRows.{asks_rows}
 use Rattle.mur_model.specs.FetchSummaries.{asks_summaries}
-use Rattle.mur_model.specs.Needed.{Work, Make, Append, Status, Select, Viewed}
+use Rattle.mur_model.specs.Needed.{Work, Make, Delete, Append, Status, Select, Viewed}
 use Rattle.mur_model.specs.SearchRows.{are_keys_in_rows}
 
 -- what rows tell needs no message, and what summaries tell no body
@@ -47,6 +47,7 @@ unselected op it = record { op = op; selected = None; awaited = it }
 -- an ask of a session that has a mailbox selected names its UIDVALIDITY (RFC 9051, 2.3.1.1)
 unfoldable pub asked_for : List ℕ → Work → Asking
 asked_for name Make = unselected create_op awaited.Create
+asked_for name Delete = unselected delete_op awaited.Delete
 asked_for name (Append message) = unselected (append_op (message ∷ [])) awaited.Append
 asked_for name (Status shown items) = unselected Look (awaited.Status shown items)
 asked_for name (Select it) = unselected Look (awaited.Select name it)
@@ -64,6 +65,7 @@ viewed_for session it = None
 
 unfoldable pub work_for : Sess → Op → Awaited → Option Work
 work_for session op awaited.Create = Some Make
+work_for session op awaited.Delete = Some Delete
 work_for session op awaited.Append = appended_for op
 work_for session op (awaited.Status shown items) = Some (Status shown items)
 work_for session op (awaited.Select name it) = Some (Select it)

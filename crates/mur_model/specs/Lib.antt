@@ -7,6 +7,7 @@ pub mod AtOnce
 pub mod Waits
 pub mod Traits
 pub mod Create
+pub mod Delete
 pub mod Append
 pub mod Status
 pub mod Act

@@ -1,8 +1,10 @@
 -- LIST (RFC 9051, 6.3.9): the mailboxes on which the user has rights are told, as they are shown to the user, and levels above them. None is selected, and
 -- no news is told.
-use Rattle.std.specs.Prelude.{ℕ, Bool, ◌||◌, if◌then◌else◌, List, [], ◌∷◌, map, filter, codes}
+use Rattle.std.specs.Prelude.{ℕ, ◌≤◌, Bool, ◌||◌, if◌then◌else◌, List, [], ◌∷◌, ◌++◌, length, map, filter, codes, All}
+use Rattle.std.specs.List.{fold}
 use Rattle.std.specs.Map.{keys_of}
 use Rattle.mur_base.specs.Inbox.{owns, shown_name}
+use Rattle.mur_base.specs.declared.limits.TheConstants.{NAME_LIMIT}
 use Rattle.imap_types.specs.declared.reply.Attribute.TheVariants.{NoSelect}
 use Rattle.imap_types.specs.declared.reply.Code.TheVariants.{None as no_code}
 use Rattle.imap_types.specs.declared.reply.Reply.{Reply}
@@ -30,6 +32,34 @@ shown_to it names = map (shown_name it.user) (filter (tells it) names)
 unfoldable pub list_reply : Listing → List (List ℕ) → Reply
 list_reply it names =
     record { lines = map line_of (found_lines it.pattern (shown_to it names)); verdict = ok_reply no_code (codes "LIST") }
+
+-- Mailboxes that are told, where they match, as they are gathered: those that are shown under their own names; and the user's own, as they are shown.
+pub record Gathering : Type 0 where
+  pub named : List (List ℕ)
+  pub own : List (List ℕ)
+
+abbrev pub nothing_gathered : Gathering
+nothing_gathered = record { named = []; own = [] }
+
+-- with one mailbox more
+unfoldable pub gathered_with : Listing → Gathering → List ℕ → Gathering
+gathered_with it so_far name =
+    if owns it.user name then record so_far { own = so_far.own ++ shown_name it.user name ∷ [] }
+    else if it.is_admin then record so_far { named = so_far.named ++ name ∷ [] }
+    else so_far
+
+unfoldable pub gathered_of : Listing → List (List ℕ) → Gathering
+gathered_of it names = fold (gathered_with it) nothing_gathered names
+
+-- all of them, none of which is longer than names may be
+abbrev pub all_gathered : Gathering → List (List ℕ)
+all_gathered it = it.own ++ it.named
+
+abbrev pub CanBeListed : List (List ℕ) → Type 0
+CanBeListed names = All (λ name. length name ≤ NAME_LIMIT) names
+
+abbrev pub IsShort : Gathering → Type 0
+IsShort it = CanBeListed it.named × CanBeListed it.own
 
 -- the names of the mailboxes of a store
 abbrev pub names_in : Store → List (List ℕ)

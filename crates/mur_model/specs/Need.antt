@@ -3,7 +3,6 @@ use Rattle.std.specs.Prelude.{Option, None, Some}
 use Rattle.imap_types.specs.declared.reply.Reply.{Reply as ReplyOf}
 use Rattle.imap_types.specs.Reply.{reply_of}
 use Rattle.mur_model.specs.declared.need.Begun.{Begun}
-use Rattle.mur_model.specs.declared.need.Need.{Need}
 use Rattle.mur_model.specs.declared.need.Need.TheVariants.{Reply, Leave, Home, Names as names}
 use Rattle.mur_model.specs.declared.session.Sess.{Sess}
 use Rattle.mur_model.specs.declared.session.Sess.TheVariants.{Ended}

@@ -1,5 +1,5 @@
 -- What a command needs of the store (RFC 9051, 6): nothing, as it is refused or as this comes of it at once; work at a mailbox; or the names of all.
-use Rattle.std.specs.Prelude.{ℕ, List}
+use Rattle.std.specs.Prelude.{ℕ, ⊤, List}
 use Rattle.imap_types.specs.declared.command.StatusItem.{StatusItem}
 use Rattle.imap_types.specs.declared.reply.BadText.TheVariants.{Message as no_message}
 use Rattle.imap_types.specs.declared.reply.NoText.TheVariants.{Cannot}
@@ -12,14 +12,21 @@ use Rattle.mur_model.specs.declared.session.Turn.{Turn}
 use Rattle.mur_model.specs.declared.view.View.{View}
 use Rattle.mur_model.specs.declared.work.ViewWork.{ViewWork}
 
--- What is to be done at one mailbox: it is made; it gets a message, whose UID isn't told yet; it is told of under a name; it is selected; or what a
--- command of a session that has this view of it does.
+-- What is to be done at one mailbox: it is made; it is deleted; it gets a message, whose UID isn't told yet; it is told of under a name; it is selected; or
+-- what a command of a session that has this view of it does.
 pub data Work : Type 0 where
   Make : Work
+  Delete : Work
   Append : Message → Work
   Status : List ℕ → List StatusItem → Work
   Select : Opening → Work
   Viewed : View → ViewWork → Work
+
+-- A home does work by itself, in one step; but a mailbox is made and deleted with the master.
+unfoldable pub IsOfHome : Work → Type 0
+IsOfHome Make = ⊥
+IsOfHome Delete = ⊥
+IsOfHome work = ⊤
 
 pub data Needed : Type 0 where
   Refusal : Verdict → Needed

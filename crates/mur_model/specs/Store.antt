@@ -1,6 +1,7 @@
 -- The mailbox store (RFC 9051, 2.3): a map from names to mailboxes, and every UIDVALIDITY that was ever given.
-use Rattle.std.specs.Prelude.{◌≡◌, ◌≢◌, ℕ, ◌<◌, nat_le, Bool, List, [], ◌∷◌, ◌++◌, length, Option, All}
-use Rattle.std.specs.Ordering.{nat_cmp}
+use Rattle.std.specs.Prelude.{◌≡◌, ◌≢◌, ℕ, ◌<◌, nat_le, Bool, not, List, [], ◌∷◌, ◌++◌, length, Option, All}
+use Rattle.std.specs.List.{filter}
+use Rattle.std.specs.Ordering.{is_eq, nat_cmp}
 use Rattle.std.specs.Cmp.Lexicographic.{slice_cmp}
 use Rattle.mail_message.specs.Boxes.{Content}
 use Rattle.mur_base.specs.declared.limits.TheConstants.{MAILBOX_LIMIT}
@@ -26,6 +27,10 @@ with_new_box store name box = record {
 -- the store with another content of a mailbox
 abbrev pub with_box : Store → List ℕ → Content → Store
 with_box store name box = record store { boxes = with_value (slice_cmp nat_cmp) store.boxes name box }
+
+-- the store without the mailbox of a name; its UIDVALIDITY stays given
+abbrev pub without_box : Store → List ℕ → Store
+without_box store name = record store { boxes = filter (λ (entry : List ℕ × Content). not (is_eq (slice_cmp nat_cmp name entry.0))) store.boxes }
 
 -- as many mailboxes as there may be: this server's limit, each name counted once
 unfoldable pub is_full : Store → Bool

@@ -1,6 +1,6 @@
 -- The traits of a command, a row each (RFC 9051, 6; RFC 4314, 3): the states of a session that have it, the line that it waits for; and, for the laws,
 -- what it may change of the messages of its mailbox.
-use Rattle.std.specs.Prelude.{Bool, true, false, not, if◌then◌else◌, List, Option, None, Some}
+use Rattle.std.specs.Prelude.{Bool, true, false, not, if◌then◌else◌, List, None, Some}
 use Rattle.std.specs.List.{list_any}
 use Rattle.mail_message.specs.FlagSets.{Flags, flags_after, with_flag}
 use Rattle.mail_message.specs.declared.flag_name.FlagName.TheVariants.{System}

@@ -3,6 +3,7 @@ ghost use Rattle.std.specs.Prelude.{◌≡◌, ℕ, IfOk, IfSome, IsSome};
 ghost use Rattle.mur_model.specs.Act.{worked_at, act_by, act_of, session_after};
 ghost use Rattle.mur_model.specs.Asking.{HasWork, appended_for, viewed_for, work_for};
 ghost use Rattle.mur_model.specs.Acting.{IsActed, IsWorked};
+ghost use Rattle.mur_model.specs.Delete.{delete_on};
 ghost use Rattle.mur_model.specs.Left.{replied};
 ghost use Rattle.mur_model.specs.Listing.{list_reply, names_in};
 ghost use Rattle.mur_model.specs.Needed.{Mailbox, Make};
@@ -12,7 +13,8 @@ ghost use Rattle.mur_model.specs.Store.{box_at};
 use crate::beginning::begin;
 use crate::commands::append::append_at;
 use crate::commands::create::make;
-use crate::commands::list::{Listing, names_in};
+use crate::commands::delete::delete_at;
+use crate::commands::list::{Listing, gathered_in};
 use crate::commands::select::select_at;
 use crate::commands::status::status_at;
 use crate::need::{Asking, Awaited, Begun, Need};
@@ -67,8 +69,8 @@ fn act_by(
 fn list_by(alloc: Global, store: &Store, it: &Listing) -> Result<Reply, Memory>
     ensures { IfOk result (λ reply. reply ≡ list_reply it.now (names_in store.now)) }
 {
-    let names = names_in(alloc, store)?;
-    it.reply(alloc, names.as_slice())
+    let gathered = gathered_in(alloc, it, store)?;
+    it.reply(alloc, &gathered)
 }
 
 /// Does at a mailbox what its home would be asked.
@@ -133,6 +135,7 @@ fn work_at(
     match awaited {
         Awaited::Append => unreachable!(),
         Awaited::Create => create_by(alloc, store, name, serial),
+        Awaited::Delete => delete_by(alloc, store, name),
         Awaited::Status(shown, items) => status_by(alloc, store, name, shown, &items),
         Awaited::Select(_, it) => select_at(alloc, store, name, &it),
         Awaited::Viewed(work) => viewed_by(alloc, store, sess, name, work),
@@ -144,6 +147,12 @@ fn create_by(alloc: Global, store: &mut Store, name: &MailName, serial: u32) -> 
     ensures { IfOk result (λ turn. IsWorked store.old name.now (worked_at store.old name.now Make serial) store.new turn) }
 {
     Ok(replied(make(alloc, store, name, serial)?))
+}
+
+fn delete_by(alloc: Global, store: &mut Store, name: &MailName) -> Result<Turn, Memory>
+    ensures { IfOk result (λ turn. IsWorked store.old name.now (delete_on (box_at store.old name.now)) store.new turn) }
+{
+    Ok(replied(delete_at(alloc, store, name)?))
 }
 
 fn status_by(

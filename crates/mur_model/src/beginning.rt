@@ -8,6 +8,7 @@ use crate::commands::authenticate::authenticate;
 use crate::commands::capability::capability;
 use crate::commands::close::close;
 use crate::commands::create::create;
+use crate::commands::delete::delete;
 use crate::commands::enable::enable;
 use crate::commands::expunge::expunge;
 use crate::commands::fetch::fetch;
@@ -125,9 +126,11 @@ fn begin_begun(
         Command::List(reference, mailbox) => {
             list(alloc, with, user, reference.as_slice(), mailbox.as_slice())
         }
-        Command::Delete(_) | Command::Copy(..) | Command::Xfer(..) | Command::LeftOut(_) => Ok(
-            Begun::refused(alloc, Verdict::No(NoText::Cannot)),
-        ),
+        Command::Delete(text) => delete(alloc, with, user, text.as_slice()),
+        Command::Copy(..) | Command::Xfer(..) | Command::LeftOut(_) => Ok(Begun::refused(
+            alloc,
+            Verdict::No(NoText::Cannot),
+        )),
         _ => Ok(not_yet(alloc)),
     }
 }

@@ -4,6 +4,7 @@ pub mod authenticate;
 pub mod capability;
 pub mod close;
 pub mod create;
+pub mod delete;
 pub mod enable;
 pub mod expunge;
 pub mod fetch;

@@ -30,7 +30,7 @@ pub use commands::expunge::expunge_told;
 pub use commands::fetch::{Fetching, fetch_told, sees};
 pub use commands::fetch_rows::{asks_rows, rows_told};
 pub use commands::fetch_summaries::{asks_summaries, summaries_told};
-pub use commands::list::Listing;
+pub use commands::list::{Gathered, Listing};
 pub use commands::noop::news_told;
 pub use commands::search::{Searching, search_told};
 pub use commands::search_rows::{are_keys_in_rows, rows_searched};

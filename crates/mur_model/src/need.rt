@@ -18,6 +18,7 @@ use std::alloc::Global;
 #[derive(Drop)]
 pub enum Awaited {
     Create,
+    Delete,
     Append,
     /// Under this name, of these items.
     Status(Bytes, StatusItems),

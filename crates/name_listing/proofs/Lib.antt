@@ -7,3 +7,4 @@ pub mod OneListing
 pub mod ShownFits
 pub mod ToldLaw
 pub mod Wildcards
+mod PlainFront

@@ -73,7 +73,7 @@ percent_only names name attribute h = (
 )
 
 -- a byte that is no wildcard stands for itself
-plain_byte : (byte : ℕ) (test : List ℕ → Bool) (text : List ℕ) → is_wildcard byte ≡ false → behind_byte byte test text ≡ behind_one byte test text
+pub plain_byte : (byte : ℕ) (test : List ℕ → Bool) (text : List ℕ) → is_wildcard byte ≡ false → behind_byte byte test text ≡ behind_one byte test text
 unfolding behind_byte
 plain_byte byte test text h = rw h refl
 

@@ -1,5 +1,5 @@
 -- What LIST tells of names (RFC 9051, 6.3.9 and 7.3.1). Given are the names of the mailboxes on which a user has rights, as they are shown.
-use Rattle.std.specs.Prelude.{◌≡◌, ℕ, Bool, ◌&&◌, not, ◌==◌, ◌-◌, nat_eq, if◌then◌else◌, List, [], ◌∷◌, ◌++◌, length, drop, codes}
+use Rattle.std.specs.Prelude.{◌≡◌, ℕ, Bool, false, ◌&&◌, not, ◌==◌, ◌-◌, nat_eq, if◌then◌else◌, List, [], ◌∷◌, ◌++◌, length, take, drop, codes, ◌≤◌, All}
 use Rattle.std.specs.Prelude.{Option, None, Some}
 use Rattle.std.specs.List.{list_any, starts_with}
 use Rattle.std.specs.Ordering.{nat_cmp}
@@ -8,7 +8,7 @@ use Rattle.std.specs.Str.{bytes_eq}
 use Rattle.mur_base.specs.Ascii.{percent, dot}
 use Rattle.mur_base.specs.Inbox.{behind_inbox, moved}
 use Rattle.mur_base.specs.Map.{value_at, IsInOrder}
-use Rattle.mur_base.specs.Patterns.{matches}
+use Rattle.mur_base.specs.Patterns.{is_wildcard, matches}
 use Rattle.imap_types.specs.declared.reply.Attribute.{Attribute}
 use Rattle.imap_types.specs.declared.reply.Attribute.TheVariants.{None as no_attribute, NonExistent}
 
@@ -19,6 +19,10 @@ asks_separator mailbox = length mailbox == 0
 -- the pattern of a command: the mailbox argument behind the reference, where a first level that is INBOX in any case is INBOX (RFC 9051, 5.1)
 unfoldable pub pattern_of : List ℕ → List ℕ → List ℕ
 pattern_of reference mailbox = moved (reference ++ mailbox) (codes "INBOX") (behind_inbox (reference ++ mailbox))
+
+-- no wildcard stands before so many bytes of the pattern
+abbrev pub IsPlainFront : ℕ → List ℕ → Type 0
+IsPlainFront front pattern = (front ≤ length pattern) × All (λ byte. is_wildcard byte ≡ false) (take front pattern)
 
 -- '%' is the last byte of the pattern
 unfoldable pub ends_in_percent : List ℕ → Bool

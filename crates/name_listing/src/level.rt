@@ -1,10 +1,10 @@
-// A name, or a level above it, as it stands in the name of a mailbox: nothing is copied.
+// A name as it is shown, or a level above it: nothing is copied.
 ghost use Rattle.std.specs.Prelude.{◌≡◌};
 
 use std::cmp::Ordering;
 use std::marker::Model;
 
-/// A front of a name. Levels are compared byte by byte.
+/// A name as it is shown, or a front of it. Levels are compared byte by byte.
 #[derive(Drop)]
 pub struct Level<'a> {
     text: &'a [u8],
@@ -25,7 +25,7 @@ impl<'a> Level<'a> {
         Level { text }
     }
 
-    pub fn as_bytes(&self) -> &[u8]
+    pub fn as_bytes(&self) -> &'a [u8]
         ensures { result.now ≡ self.now }
     {
         self.text

@@ -24,5 +24,6 @@ pub use laws::{
     percent_lists_one_level, some_listings, star_lists_all_mailboxes, there_is_one_listing,
     what_is_listed_matches,
 };
+pub use level::Level;
 pub use list::{Lines, listing, reply_lines};
 pub use pattern::{Pattern, asks_separator};

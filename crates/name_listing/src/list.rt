@@ -9,6 +9,7 @@ ghost use Rattle.name_listing.specs.Listing.{IsListing};
 ghost use Rattle.name_listing.specs.Told.{line_of};
 
 use crate::found::{Found, put_levels, put_mailboxes};
+use crate::level::Level;
 use crate::pattern::Pattern;
 use imap_types::{Attribute, ReplyLine, ReplyLines};
 use mur_base::{Bytes, Items, Memory};
@@ -19,15 +20,15 @@ pub type Lines = Items<(Bytes, Attribute)>;
 
 /// What LIST tells of mailboxes, where these are the names of all on which the user has rights, as they are shown. Its time grows as the number of
 /// their levels, each of which is looked up and compared with the pattern; only what is listed is copied.
-pub fn listing(alloc: Global, names: &[Bytes], pattern: &Pattern) -> Result<Lines, Memory>
+pub fn listing(alloc: Global, names: &[Level<'_>], pattern: &Pattern) -> Result<Lines, Memory>
     requires { All (λ name. length name ≤ NAME_LIMIT) names.now }
     ensures found { IfOk result (λ lines. lines ≡ found_lines pattern.now names.now) }
     ensures listing { IfOk result (λ lines. IsListing pattern.now names.now lines) }
 {
     let mut found = Found::new(alloc);
-    put_mailboxes(names, pattern.as_bytes(), &mut found)?;
+    put_mailboxes(names, pattern, &mut found)?;
     if pattern.ends_in_percent() {
-        put_levels(names, pattern.as_bytes(), &mut found)?;
+        put_levels(names, pattern, &mut found)?;
     }
     in_order(alloc, &found)
 }

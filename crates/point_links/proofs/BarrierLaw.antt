@@ -41,7 +41,7 @@ use Rattle.point_links.specs.Barriers.{is_missing, is_refused, is_asked, EachBar
 use Rattle.point_links.specs.Carried.{turn_at}
 use Rattle.point_links.specs.Commands.{ClientCommand, WaitsOn, refused_turn}
 use Rattle.point_links.proofs.Told.{refused_so, server_waits, told_so}
-use Rattle.point_links.proofs.Works.{about_mailbox, is_make, may_work, of_messages}
+use Rattle.point_links.proofs.Works.{about_mailbox, is_make, may_work}
 use Rattle.serve_law.proofs.MissingAlike.{IsMissed, misses}
 use Rattle.session_core.specs.declared.result.OpResult.TheVariants.{Missing}
 
@@ -92,7 +92,7 @@ module _ (murder : Murder) (given : Given) (store : Store) (front master first :
 
   -- about a mailbox that is there
   by_mailbox : (cause : Why) → c.work ≢ Make → decided table master first c cause ≡ goes_on master c.id c.was c.waiting (mailbox_by cause found_at)
-  by_mailbox cause ne = by_about cause (about.Mailbox c.name) (about_mailbox c.name (asked_for c.name c.work).op (of_messages c.name c.work ne))
+  by_mailbox cause ne = by_about cause (about.Mailbox c.name) (about_mailbox c.name c.work ne)
 
   -- about one that is to be made
   by_create : (cause : Why) → c.work ≡ Make

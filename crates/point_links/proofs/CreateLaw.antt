@@ -1,43 +1,25 @@
 -- The master takes the line of a CREATE.
-use Rattle.std.proofs.Common.{◌≡◌, ℕ, ◌&&◌, nat_le, Bool, true, false, cond, is_some, List, [], ◌∷◌, ◌++◌, filter, Option, None, Some, refl}
+use Rattle.std.proofs.Common.{◌≡◌, ℕ, ◌&&◌, nat_le, Bool, true, false, is_some, List, ◌++◌, Option, None, Some, refl}
 use Rattle.std.proofs.Common.{sym, ◌∙◌, ap, subst}
 use Rattle.std.specs.Prelude.{not}
-use Rattle.std.specs.List.{AllByRecursion}
-use Rattle.std.proofs.lemmas.List.Concat.{flat_map-cons}
 use Rattle.asking_core.specs.Answered.{answered}
 use Rattle.back_links.specs.MasterEvents.{given_in}
-use Rattle.back_links.specs.OneTalk.{HasTalk}
-use Rattle.back_links.specs.Spelled.{HasCommandTexts, HasLineTexts}
-use Rattle.back_links.proofs.StepsSaid.{sends_spelled}
-use Rattle.back_links.proofs.Texts.{command_read}
 use Rattle.back_node.specs.declared.node.BackNode.{BackNode}
 use Rattle.link_msg.specs.declared.answer.AnswerBody.{AnswerBody}
 use Rattle.link_msg.specs.declared.answer.AnswerBody.TheVariants.{NotNow}
 use Rattle.link_msg.specs.declared.counts.Counts.{Counts}
 use Rattle.link_msg.specs.declared.counts.Counts.TheVariants.{Always, IfAnswered}
 use Rattle.link_msg.specs.declared.message.LinkMsg.{LinkMsg}
-use Rattle.link_msg.specs.declared.message.LinkMsg.TheVariants.{Line}
 use Rattle.link_msg.specs.declared.out.Out.{Out}
-use Rattle.link_msg.specs.declared.out.Out.TheVariants.{Client, Close, Link, Mark, Told as tell}
 use Rattle.link_msg.specs.declared.outcome.Outcome.{Outcome}
 use Rattle.link_msg.specs.declared.outcome.Outcome.TheVariants.{None as nothing_told, Exists, Limit}
-use Rattle.link_queue.specs.Links.{on_link}
 use Rattle.mail_message.specs.Boxes.{Content}
-use Rattle.mail_message.specs.declared.message.Snapshot.{Snapshot}
 use Rattle.mail_message.specs.FirstAcl.{first_acl}
 use Rattle.master_core.specs.declared.reply.Reply.{Reply}
 use Rattle.master_core.specs.Linked.{node_says}
 use Rattle.master_core.specs.Refusals.{is_active, is_active_state, is_full, is_reserved}
-use Rattle.master_core.specs.Step.{mark_of}
-use Rattle.mupdate_codec.specs.declared.command.MCommand.{MCommand}
 use Rattle.mupdate_codec.specs.declared.command.MCommand.TheVariants as command
-use Rattle.mupdate_codec.specs.declared.tag.Tag.{Tag}
-use Rattle.mupdate_codec.specs.Arguments.{exact}
-use Rattle.mupdate_codec.specs.Asks.{tag_of}
-use Rattle.mupdate_codec.specs.Commands.{command_line}
-use Rattle.mupdate_codec.specs.Whole.{command_in}
 use Rattle.mur_base.specs.declared.home.Location.{Location}
-use Rattle.mur_base.specs.declared.point.AskId.{AskId}
 use Rattle.mur_model.specs.declared.session.Sess.{Sess}
 use Rattle.mur_model.specs.declared.store.Store.{Store}
 use Rattle.mur_model.specs.Act.{MayWork, work_on, worked_at}
@@ -48,18 +30,15 @@ use Rattle.mur_model.specs.Needed.{Work, Make}
 use Rattle.mur_base.specs.declared.limits.TheConstants.{MAILBOX_LIMIT}
 use Rattle.mur_model.specs.Store.{box_at, is_full as store_is_full, IsFree}
 use Rattle.name_commands.specs.Moves.{ends, heard_move}
-use Rattle.name_commands.specs.MasterSteps.{IsTaken, flow_reply}
-use Rattle.name_commands.specs.Places.{answer_message, flow_line, flow_message, stage_command}
+use Rattle.name_commands.specs.MasterSteps.{flow_reply}
+use Rattle.name_commands.specs.Places.{stage_command}
 use Rattle.name_commands.specs.Replied.{IsReplied, name_reserved, was_active, was_reserved, serials_spent, name_activated, table_full, name_closed}
 use Rattle.name_commands.specs.Replied.{name_deleted}
-use Rattle.name_commands.specs.Whose.{Whose, is_command, is_own_line, is_own_message, is_own_out}
-use Rattle.name_commands.proofs.MasterLaw.{line_taken}
-use Rattle.name_commands.proofs.Own.{is_only, kept as kept_first, of_one, on_itself, own_is}
-use Rattle.name_commands.proofs.Sends.{stage_same}
+use Rattle.name_commands.specs.Whose.{is_command, is_own_out}
 use Rattle.name_flows.specs.declared.flow.Flow.{Flow}
 use Rattle.name_flows.specs.declared.flow.Stage.{Stage}
 use Rattle.name_flows.specs.declared.flow.Stage.TheVariants.{Reserving, Making, Deactivating, Deleting}
-use Rattle.name_flows.specs.Running.{done, flow_at}
+use Rattle.name_flows.specs.Running.{done}
 use Rattle.name_links.specs.Serials.{Given}
 use Rattle.node_record.specs.declared.table.Record.{Record}
 use Rattle.node_record.specs.declared.table.State.{State}
@@ -73,61 +52,14 @@ use Rattle.store_links.specs.TableEntries.{store_with}
 use Rattle.store_links.proofs.BoxesLaw.{each_is_a_box}
 use Rattle.many_links.specs.Murder.{Murder, homes_of, master_takes}
 use Rattle.many_links.specs.ManyHold.{ManyHold}
-use Rattle.many_links.specs.Marks.{CarryNoneOut, IsOnlyTold, mark_in, marks_in}
-use Rattle.many_links.specs.MasterEvents.{IsOneCommand, StoreTakes, nothing, created, removed}
+use Rattle.many_links.specs.MasterEvents.{StoreTakes, nothing, created, removed}
 use Rattle.many_links.proofs.BoxesLaw.{mailboxes_are_boxes}
-use Rattle.many_links.proofs.TakesLaw.{takes_keeps_many}
 use Rattle.point_links.specs.Carried.{CarriesOut, turn_at}
 use Rattle.point_links.specs.Commands.{ClientCommand, told_turn}
-use Rattle.point_links.specs.Creates.{ActivateCreates, ActivateOfFull, IsCreated, IsPutOff, IsThere, LineComes, LineIsPoint, ReserveOfOneReserved, ReserveOfOneThere}
+use Rattle.point_links.specs.Creates.{ActivateCreates, ActivateOfFull, IsCreated, IsPutOff, IsThere, ReserveOfOneReserved, ReserveOfOneThere}
+use Rattle.point_links.specs.FlowLines.{LineComes, LineIsPoint}
 use Rattle.point_links.proofs.Told.{done_so, not_now_waits}
-
--- ---- a step that carries none out has no mark that counts always, and one that carries a command out has no other mark
-
-abbrev MarksAre : (AskId × Counts → Type 0) → Out → Type 0
-MarksAre P out = AllByRecursion P (mark_in out)
-
-each_out : (P : AskId × Counts → Type 0) (outs : List Out) → AllByRecursion P (marks_in outs) → AllByRecursion (MarksAre P) outs
-each_out P [] all = tt
-each_out P (Mark ask counts ∷ outs) all =
-    let split = subst (AllByRecursion P) (flat_map-cons mark_in (Mark ask counts) outs) all in ((split.0, tt), each_out P outs split.1)
-each_out P (Client conn bytes ∷ outs) all = (tt, each_out P outs all)
-each_out P (Close conn ∷ outs) all = (tt, each_out P outs all)
-each_out P (Link to message ∷ outs) all = (tt, each_out P outs all)
-each_out P (tell ask how ∷ outs) all = (tt, each_out P outs all)
-
-module _ {X : Type 0} (p : X → Bool) (P : X → Type 0) where
-  filtered : (xs : List X) → AllByRecursion P xs → AllByRecursion P (filter p xs)
-  filtered [] all = tt
-  filtered (x ∷ xs) all = by (p x) (filtered xs all.1)
-    where
-      by : (here : Bool) → AllByRecursion P (filter p xs) → AllByRecursion P (cond here (x ∷ filter p xs) (filter p xs))
-      by true more = (all.0, more)
-      by false more = more
-
-none_always : (p : Out → Bool) (outs : List Out) (first : Out) (ask : AskId) → CarryNoneOut outs
-    → filter p outs ≡ first ∷ Mark ask Always ∷ [] → ⊥
-none_always p outs first ask none e =
-    let all = subst (AllByRecursion (MarksAre IsOnlyTold)) e (filtered p (MarksAre IsOnlyTold) outs (each_out IsOnlyTold outs none)) in
-    apart ((all.1).0).0
-
-abbrev CountsAlways : AskId × Counts → Type 0
-CountsAlways mark = mark.1 ≡ Always
-
-none_if_answered : (p : Out → Bool) (outs : List Out) (first : Out) (ask other : AskId) → marks_in outs ≡ (other, Always) ∷ []
-    → filter p outs ≡ first ∷ Mark ask IfAnswered ∷ [] → ⊥
-none_if_answered p outs first ask other carries e =
-    let always = subst (AllByRecursion CountsAlways) (sym carries) (refl, tt) in
-    let all = subst (AllByRecursion (MarksAre CountsAlways)) e (filtered p (MarksAre CountsAlways) outs (each_out CountsAlways outs always)) in
-    apart (sym ((all.1).0).0)
-
--- ---- which commands the lines are
-
-read_as : (one other : Tag × MCommand) → Some one ≡ Some other → one.1 ≡ other.1
-read_as one other e = (let same : one ≡ other = cc in ap (λ (x : Tag × MCommand). x.1) same)
-
-same_bytes : (one other : List ℕ) → Line one ≡ Line other → one ≡ other
-same_bytes one other e = cc
+use Rattle.point_links.proofs.LineLaw.{LineIs, has_box, line_is, none_always, none_if_answered, nothing_seen}
 
 -- ---- what the store does with a CREATE
 
@@ -152,10 +84,6 @@ there_kept : (store : Store) (name : List ℕ) (serial : ℕ) (box : Content) �
     → worked_at store name Make serial ≡ create_on name serial (store_is_full store) (Some box)
 unfolding work_on
 there_kept store name serial box is = ap (λ (b : Option Content). create_on name serial (store_is_full store) b) is
-
--- the answer to a CREATE tells nothing of the mailbox
-abbrev nothing_seen : Snapshot
-nothing_seen = record { serial = 0; next = 0; size = 0; rows = [] }
 
 created_shown : (session : Sess) (name : List ℕ) (serial : ℕ)
     → turn_of session (asked_for name Make).awaited (Done nothing_told nothing_seen) ≡ Some (make name serial false).turn
@@ -209,10 +137,6 @@ active_is_one : (found : Option Record) → is_active found ≡ true → is_mail
 active_is_one None active = cc
 active_is_one (Some it) active = state_is_one it.state active
 
-has_box : (found : Option Content) → is_some found ≡ true → (box : Content) × (found ≡ Some box)
-has_box None e = cc
-has_box (Some box) e = (box, refl)
-
 no_box : (found : Option Content) → is_some found ≡ false → found ≡ None
 no_box None e = refl
 no_box (Some box) e = cc
@@ -220,70 +144,32 @@ no_box (Some box) e = cc
 -- ---- its line is the first
 
 module _ (murder : Murder) (given : Given) (store : Store) (c : ClientCommand) (name : List ℕ) (node : BackNode) (message : LinkMsg) (rest : List LinkMsg)
-    (flow : Flow) (comes : LineComes murder given store c name node message rest flow) where
-  abbrev pub whose : Whose
-  whose = is_command c.id
-
-  abbrev pub me : Location
+    (flow : Flow) (comes : LineComes murder given store c name node message rest flow) (makes : c.work ≡ Make) where
+  abbrev me : Location
   me = node.flows.me
 
-  abbrev pub table : MailboxTable
+  abbrev table : MailboxTable
   table = murder.master.table
 
   abbrev found_at : Option Record
   found_at = record_at murder.master.table c.name
 
-  abbrev pub down : List LinkMsg
-  down = on_link murder.links murder.master.me name
-
-  abbrev pub says : List Out
+  abbrev says : List Out
   says = (node_says murder.master name message).outs
 
-  abbrev it_is : Tag × MCommand
-  it_is = (tag_of flow.ask, stage_command me c.name flow.stage)
+  line : LineIs murder given store c name node message rest flow
+  line = line_is murder given store c name node message rest flow comes
 
-  talk : HasTalk murder.master name node (message ∷ rest) down given
-  talk = subst (λ (u : List LinkMsg). HasTalk murder.master name node u down given) comes.first (comes.holds.each name node comes.there).talk
-
-  pub taken : IsTaken whose murder.master name node message rest down c.name flow
-  taken = line_taken whose murder.master name node rest down given message c.name flow talk comes.streams comes.own comes.placed
-
-  pub one : IsOneCommand murder given store name message
-  one = takes_keeps_many murder given store name node message rest comes.holds comes.there comes.first
-
-  pub its_id : flow.ask ≡ c.id
-  its_id = is_only c.id flow.ask (own_is whose (flow_at node.flows c.name) flow (comes.placed.at.running c.name ∙ on_itself c.name flow)).1
-
-  both_are : message ∷ filter (is_own_message whose) rest ≡ flow_message me c.name flow ∷ []
-  both_are = sym (kept_first (is_own_message whose) message rest comes.own) ∙ comes.placed.up_is
-
-  message_is : message ≡ flow_message me c.name flow
-  message_is = let e = both_are in cc
-
-  -- it is read so, since it is among the lines that were sent
-  line_spelled : HasLineTexts (flow_line c.name flow)
-  line_spelled = of_one (is_own_line whose) HasLineTexts node.flows.sent (flow_line c.name flow) talk.said.sent comes.placed.at.sent
-
-  spelled : HasCommandTexts it_is
-  spelled =
-      subst (λ (m : MCommand). HasCommandTexts (tag_of flow.ask, m)) (stage_same whose me node.home.held flow.stage c.name)
-      (sends_spelled me node.home.held (flow_line c.name flow ∷ []) talk.said.place talk.said.mailboxes (line_spelled, tt)).0
-
-  is_read : (bytes : List ℕ) (tag : Tag) (m : MCommand) → message ≡ Line bytes → command_in bytes ≡ Some (tag, m) → m ≡ stage_command me c.name flow.stage
-  is_read bytes tag m is read =
-      let text : bytes ≡ (command_line exact).text it_is = same_bytes bytes ((command_line exact).text it_is) (sym is ∙ message_is) in
-      read_as (tag, m) it_is (sym read ∙ ap (λ (b : List ℕ). command_in b) text ∙ command_read it_is spelled)
-
-  abbrev pub its_reply : Reply
+  abbrev its_reply : Reply
   its_reply = flow_reply murder.master.table name me c.name flow
 
   -- ---- what the master's reply is, and what the backend answers at it
 
   record HasReply (counts : Option Counts) (body : AnswerBody) : Type 0 where
     are : its_reply.counts ≡ counts
-    heard : heard_move c.name flow taken.it ≡ Some (ends flow body)
+    heard : heard_move c.name flow line.taken.it ≡ Some (ends flow body)
 
-  activated : flow.stage ≡ Making → is_full table found_at ≡ false → IsReplied table me c.name flow taken.it its_reply
+  activated : flow.stage ≡ Making → is_full table found_at ≡ false → IsReplied table me c.name flow line.taken.it its_reply
       → HasReply (Some Always) (done nothing_told)
   activated making room (name_activated stage full is heard) = record { are = ap (λ (r : Reply). r.counts) is; heard = heard }
   activated making room (table_full stage full is heard) = absurd (let no : true ≡ false = sym full ∙ room in cc)
@@ -294,7 +180,7 @@ module _ (murder : Murder) (given : Given) (store : Store) (c : ClientCommand) (
   activated making room (name_closed stage is heard) = absurd (let no : Making ≡ Deactivating = sym making ∙ stage in cc)
   activated making room (name_deleted stage is heard) = absurd (let no : Making ≡ Deleting = sym making ∙ stage in cc)
 
-  too_many : flow.stage ≡ Making → is_full table found_at ≡ true → IsReplied table me c.name flow taken.it its_reply
+  too_many : flow.stage ≡ Making → is_full table found_at ≡ true → IsReplied table me c.name flow line.taken.it its_reply
       → HasReply (Some IfAnswered) (done Limit)
   too_many making over (table_full stage full is heard) = record { are = ap (λ (r : Reply). r.counts) is; heard = heard }
   too_many making over (name_activated stage room is heard) = absurd (let no : true ≡ false = sym over ∙ room in cc)
@@ -305,7 +191,7 @@ module _ (murder : Murder) (given : Given) (store : Store) (c : ClientCommand) (
   too_many making over (name_closed stage is heard) = absurd (let no : Making ≡ Deactivating = sym making ∙ stage in cc)
   too_many making over (name_deleted stage is heard) = absurd (let no : Making ≡ Deleting = sym making ∙ stage in cc)
 
-  refuses : flow.stage ≡ Reserving → is_active found_at ≡ true → IsReplied table me c.name flow taken.it its_reply
+  refuses : flow.stage ≡ Reserving → is_active found_at ≡ true → IsReplied table me c.name flow line.taken.it its_reply
       → HasReply (Some IfAnswered) (done Exists)
   refuses reserving active (was_active stage too is heard) = record { are = ap (λ (r : Reply). r.counts) is; heard = heard }
   refuses reserving active (was_reserved stage reserved is heard) = absurd (not_both found_at active reserved)
@@ -316,7 +202,7 @@ module _ (murder : Murder) (given : Given) (store : Store) (c : ClientCommand) (
   refuses reserving active (name_closed stage is heard) = absurd (let no : Reserving ≡ Deactivating = sym reserving ∙ stage in cc)
   refuses reserving active (name_deleted stage is heard) = absurd (let no : Reserving ≡ Deleting = sym reserving ∙ stage in cc)
 
-  put_off : flow.stage ≡ Reserving → is_reserved found_at ≡ true → IsReplied table me c.name flow taken.it its_reply → HasReply None NotNow
+  put_off : flow.stage ≡ Reserving → is_reserved found_at ≡ true → IsReplied table me c.name flow line.taken.it its_reply → HasReply None NotNow
   put_off reserving reserved (was_reserved stage too is heard) = record { are = ap (λ (r : Reply). r.counts) is; heard = heard }
   put_off reserving reserved (was_active stage active is heard) = absurd (not_both found_at active reserved)
   put_off reserving reserved (name_reserved stage none is heard) = absurd (let no : false ≡ true = sym (ap is_reserved none) ∙ reserved in cc)
@@ -325,13 +211,6 @@ module _ (murder : Murder) (given : Given) (store : Store) (c : ClientCommand) (
   put_off reserving reserved (table_full stage full is heard) = absurd (let no : Reserving ≡ Making = sym reserving ∙ stage in cc)
   put_off reserving reserved (name_closed stage is heard) = absurd (let no : Reserving ≡ Deactivating = sym reserving ∙ stage in cc)
   put_off reserving reserved (name_deleted stage is heard) = absurd (let no : Reserving ≡ Deleting = sym reserving ∙ stage in cc)
-
-  -- the outputs about it, by the mark of the reply
-  pub outs_are : (counts : Option Counts) → its_reply.counts ≡ counts
-      → filter (is_own_out whose) says ≡ Link name (answer_message flow taken.it) ∷ mark_of (Some c.id) counts
-  outs_are counts e =
-      taken.outs ∙ ap (λ (k : Option Counts). Link name (answer_message flow taken.it) ∷ mark_of (Some flow.ask) k) e
-      ∙ ap (λ (i : AskId). Link name (answer_message flow taken.it) ∷ mark_of (Some i) counts) its_id
 
   -- ---- what the store does
 
@@ -348,13 +227,13 @@ module _ (murder : Murder) (given : Given) (store : Store) (c : ClientCommand) (
     holds : HoldsThen (store_with store c.name serial)
 
   creates : flow.stage ≡ Making → its_reply.counts ≡ Some Always → (later : Store) → StoreTakes message says more store later → HoldsThen later → DoesCreate
-  creates making always _ (nothing given none) holds = absurd (none_always (is_own_out whose) says _ c.id none (outs_are (Some Always) always))
+  creates making always _ (nothing given none) holds = absurd (none_always (is_own_out (is_command c.id)) says _ c.id none (line.outs (Some Always) always))
   creates making always _ (removed ask n box is there given) holds =
       absurd (let no : command.Delete n ≡ command.Activate c.name me (first_acl c.name) =
-      is_read is.bytes is.tag _ is.is is.read ∙ ap (λ (z : Stage). stage_command me c.name z) making in cc)
+      line.read is.bytes is.tag _ is.is is.read ∙ ap (λ (z : Stage). stage_command me c.name z) making in cc)
   creates making always _ (created ask n place acl serial is none free given) holds =
       let same : command.Activate n place acl ≡ command.Activate c.name me (first_acl c.name) =
-      is_read is.bytes is.tag _ is.is is.read ∙ ap (λ (z : Stage). stage_command me c.name z) making in
+      line.read is.bytes is.tag _ is.is is.read ∙ ap (λ (z : Stage). stage_command me c.name z) making in
       let n_is : n ≡ c.name = cc in
       record {
         serial = serial;
@@ -368,18 +247,9 @@ module _ (murder : Murder) (given : Given) (store : Store) (c : ClientCommand) (
   makes_none making counts _ (nothing given none) holds = holds
   makes_none making counts _ (removed ask n box is there given) holds =
       absurd (let no : command.Delete n ≡ command.Activate c.name me (first_acl c.name) =
-      is_read is.bytes is.tag _ is.is is.read ∙ ap (λ (z : Stage). stage_command me c.name z) making in cc)
+      line.read is.bytes is.tag _ is.is is.read ∙ ap (λ (z : Stage). stage_command me c.name z) making in cc)
   makes_none making counts _ (created ask n place acl serial is none free given) holds =
-      absurd (none_if_answered (is_own_out whose) says _ c.id ask is.marked (outs_are (Some IfAnswered) counts))
-
-  pub does_nothing : flow.stage ≡ Reserving → (later : Store) → StoreTakes message says more store later → HoldsThen later → HoldsThen store
-  does_nothing reserving _ (nothing given none) holds = holds
-  does_nothing reserving _ (removed ask n box is there given) holds =
-      absurd (let no : command.Delete n ≡ command.Reserve c.name me =
-      is_read is.bytes is.tag _ is.is is.read ∙ ap (λ (z : Stage). stage_command me c.name z) reserving in cc)
-  does_nothing reserving _ (created ask n place acl serial is none free given) holds =
-      absurd (let no : command.Activate n place acl ≡ command.Reserve c.name me =
-      is_read is.bytes is.tag _ is.is is.read ∙ ap (λ (z : Stage). stage_command me c.name z) reserving in cc)
+      absurd (none_if_answered (is_own_out (is_command c.id)) says _ c.id ask is.marked (line.outs (Some IfAnswered) counts))
 
   -- ---- the points
 
@@ -389,18 +259,18 @@ module _ (murder : Murder) (given : Given) (store : Store) (c : ClientCommand) (
       → answered master c.id c.was c.waiting (done outcome) ≡ told_turn c (turn_at store c.name c.work serial)
   told_as master outcome serial worked is shown =
       done_so c master outcome nothing_seen (turn_at store c.name c.work serial)
-      (subst (λ (w : Work). turn_of c.was (asked_for c.name w).awaited (Done outcome nothing_seen) ≡ Some (turn_at store c.name w serial)) (sym comes.makes)
+      (subst (λ (w : Work). turn_of c.was (asked_for c.name w).awaited (Done outcome nothing_seen) ≡ Some (turn_at store c.name w serial)) (sym makes)
       (shown ∙ ap (λ (w : Worked). Some w.turn) (sym is)))
 
   carries_as : (later : Store) (serial : ℕ) (counts : Counts) → CarriesOut store later c.name Make serial counts
       → CarriesOut store later c.name c.work serial counts
-  carries_as later serial counts carries = subst (λ (w : Work). CarriesOut store later c.name w serial counts) (sym comes.makes) carries
+  carries_as later serial counts carries = subst (λ (w : Work). CarriesOut store later c.name w serial counts) (sym makes) carries
 
   is_created : flow.stage ≡ Making → is_full table found_at ≡ false → IsCreated murder given store c name message flow
   unfolding MayWork
   is_created making room =
-      let reply : HasReply (Some Always) (done nothing_told) = activated making room taken.replied in
-      let does : DoesCreate = creates making reply.are one.later one.does one.hold in
+      let reply : HasReply (Some Always) (done nothing_told) = activated making room line.taken.replied in
+      let does : DoesCreate = creates making reply.are line.one.later line.one.does line.one.hold in
       let serial : ℕ = does.serial in
       let worked : worked_at store c.name Make serial ≡ make c.name serial false =
       makes_by store c.name serial false does.none ((mailboxes_are_boxes murder given store comes.holds).full
@@ -410,8 +280,8 @@ module _ (murder : Murder) (given : Given) (store : Store) (c : ClientCommand) (
         serial = serial;
         none = does.none;
         point = record {
-          it = taken.it;
-          step = outs_are (Some Always) reply.are;
+          it = line.taken.it;
+          step = line.outs (Some Always) reply.are;
           then_holds = does.holds;
           carries = carries_as (store_with store c.name serial) serial Always (record {
             free = λ _. λ _. does.free;
@@ -427,16 +297,16 @@ module _ (murder : Murder) (given : Given) (store : Store) (c : ClientCommand) (
       → LineIsPoint murder given store c name message flow store serial IfAnswered (done Limit)
   unfolding MayWork
   is_over making over serial =
-      let reply : HasReply (Some IfAnswered) (done Limit) = too_many making over taken.replied in
+      let reply : HasReply (Some IfAnswered) (done Limit) = too_many making over line.taken.replied in
       let parts = full_of (is_mailbox_if found_at) (nat_le MAILBOX_LIMIT table.mailboxes) over in
       let none : box_at store c.name ≡ None =
       no_box (box_at store c.name) (sym (each_is_a_box table (homes_of murder.nodes) store comes.holds.shows c.name) ∙ parts.0) in
       let full : store_is_full store ≡ true = (mailboxes_are_boxes murder given store comes.holds).full ∙ parts.1 in
       let worked : worked_at store c.name Make serial ≡ make c.name serial true = makes_by store c.name serial true none full in
       record {
-        it = taken.it;
-        step = outs_are (Some IfAnswered) reply.are;
-        then_holds = makes_none making reply.are one.later one.does one.hold;
+        it = line.taken.it;
+        step = line.outs (Some IfAnswered) reply.are;
+        then_holds = makes_none making reply.are line.one.later line.one.does line.one.hold;
         carries = carries_as store serial IfAnswered (record {
           free = λ _. λ room. absurd (let no : true ≡ false = sym full ∙ room in cc);
           later_is = full_stays store c.name serial ∙ ap (λ (w : Worked). store_after store c.name w.left) (sym worked);
@@ -449,7 +319,7 @@ module _ (murder : Murder) (given : Given) (store : Store) (c : ClientCommand) (
   is_there : flow.stage ≡ Reserving → is_active found_at ≡ true → IsThere murder given store c name message flow
   unfolding MayWork
   is_there reserving active =
-      let reply : HasReply (Some IfAnswered) (done Exists) = refuses reserving active taken.replied in
+      let reply : HasReply (Some IfAnswered) (done Exists) = refuses reserving active line.taken.replied in
       let found = has_box (box_at store c.name)
       (sym (each_is_a_box table (homes_of murder.nodes) store comes.holds.shows c.name) ∙ active_is_one found_at active) in
       let there : box_at store c.name ≡ Some found.0 = found.1 in
@@ -457,9 +327,9 @@ module _ (murder : Murder) (given : Given) (store : Store) (c : ClientCommand) (
         box = found.0;
         is = there;
         point = λ serial. (let worked = there_kept store c.name serial found.0 there in record {
-          it = taken.it;
-          step = outs_are (Some IfAnswered) reply.are;
-          then_holds = does_nothing reserving one.later one.does one.hold;
+          it = line.taken.it;
+          step = line.outs (Some IfAnswered) reply.are;
+          then_holds = line.nothing_done Reserving reserving tt;
           carries = carries_as store serial IfAnswered (record {
             free = λ none. λ _. absurd (let no : false ≡ true = ap is_some (sym none ∙ there) in cc);
             later_is = stays_so store c.name serial (store_is_full store) found.0
@@ -474,27 +344,27 @@ module _ (murder : Murder) (given : Given) (store : Store) (c : ClientCommand) (
 
   is_put_off : flow.stage ≡ Reserving → is_reserved found_at ≡ true → IsPutOff murder given store c name message flow
   is_put_off reserving reserved =
-      let reply : HasReply None NotNow = put_off reserving reserved taken.replied in
+      let reply : HasReply None NotNow = put_off reserving reserved line.taken.replied in
       record {
-        it = taken.it;
-        step = outs_are None reply.are;
-        then_holds = does_nothing reserving one.later one.does one.hold;
+        it = line.taken.it;
+        step = line.outs None reply.are;
+        then_holds = line.nothing_done Reserving reserving tt;
         heard = reply.heard;
         waits = λ master. not_now_waits c master;
       }
 
 pub activate_creates : ActivateCreates
-activate_creates murder given store c name node message rest flow comes making room =
-    is_created murder given store c name node message rest flow comes making room
+activate_creates murder given store c name node message rest flow comes makes making room =
+    is_created murder given store c name node message rest flow comes makes making room
 
 pub activate_of_full : ActivateOfFull
-activate_of_full murder given store c name node message rest flow comes making over serial =
-    is_over murder given store c name node message rest flow comes making over serial
+activate_of_full murder given store c name node message rest flow comes makes making over serial =
+    is_over murder given store c name node message rest flow comes makes making over serial
 
 pub reserve_of_one_there : ReserveOfOneThere
-reserve_of_one_there murder given store c name node message rest flow comes reserving active =
-    is_there murder given store c name node message rest flow comes reserving active
+reserve_of_one_there murder given store c name node message rest flow comes makes reserving active =
+    is_there murder given store c name node message rest flow comes makes reserving active
 
 pub reserve_of_one_reserved : ReserveOfOneReserved
-reserve_of_one_reserved murder given store c name node message rest flow comes reserving reserved =
-    is_put_off murder given store c name node message rest flow comes reserving reserved
+reserve_of_one_reserved murder given store c name node message rest flow comes makes reserving reserved =
+    is_put_off murder given store c name node message rest flow comes makes reserving reserved

@@ -32,6 +32,7 @@ use Rattle.session_core.specs.Begin.{user_of}
 use Rattle.session_core.specs.Results.{result_of, turn_behind, turn_by}
 use Rattle.serve_law.specs.AsTheStore.{HaveAlike}
 use Rattle.serve_law.specs.AsTheStore.HaveAlike.{neither, both}
+use Rattle.serve_law.proofs.MissingAlike.{no_make}
 use Rattle.serve_law.proofs.HomeStore.{IsStoreOf, other_boxes}
 use Rattle.serve_law.proofs.HomeStore.IsStoreOf.{is_missing, is_there}
 use Rattle.serve_law.proofs.ServedAlike.{ServesAlike}
@@ -44,7 +45,7 @@ use Rattle.point_links.specs.AtHome.{AskComes, ClosedSendsOn, IsElsewhere, IsSen
 use Rattle.point_links.specs.Carried.{turn_at}
 use Rattle.point_links.specs.Commands.{ClientCommand, WaitsOn, told_turn}
 use Rattle.point_links.proofs.Told.{done_so, moved_waits, not_now_waits}
-use Rattle.point_links.proofs.Works.{MakesNone, given_stays, may_work, of_messages, order_stays, same_work, work_makes_none}
+use Rattle.point_links.proofs.Works.{StaysThere, given_stays, may_work, of_messages, order_stays, same_work, work_makes_none}
 
 -- ---- what the store has
 
@@ -91,7 +92,7 @@ module _ (murder : Murder) (given : Given) (store : Store) (c : ClientCommand) (
   its_name = c.name_is
 
   is_message : is_of_messages ask.op ≡ true
-  is_message = subst (λ (a : FrontAsk). is_of_messages a.op ≡ true) (sym ask_is) (of_messages c.name c.work comes.no_make)
+  is_message = subst (λ (a : FrontAsk). is_of_messages a.op ≡ true) (sym ask_is) (of_messages c.name c.work comes.of_home)
 
   -- ---- open
 
@@ -115,17 +116,17 @@ module _ (murder : Murder) (given : Given) (store : Store) (c : ClientCommand) (
     serves =
         serves_others store home c.id (user_of c.was) c.name c.work 0
         (store_of_home store home c.name (open_is_the_stores murder given store name node c.name comes.holds comes.there is_here).alike)
-        comes.no_make
+        comes.of_home
 
     -- of a UIDVALIDITY the work reads nothing
     same : (serial : ℕ) → worked 0 ≡ worked serial
-    same serial = same_work c.name c.work 0 serial (is_full store) (is_full store) (box_at store c.name) comes.no_make
+    same serial = same_work c.name c.work 0 serial (is_full store) (is_full store) (box_at store c.name) (no_make c.work comes.of_home)
 
     abbrev left : Left
     left = (worked 0).left
 
-    none_made : MakesNone left
-    none_made = work_makes_none c.name c.work 0 (is_full store) (box_at store c.name) comes.no_make
+    none_made : StaysThere left
+    none_made = work_makes_none c.name c.work 0 (is_full store) (box_at store c.name) comes.of_home
 
     abbrev later : Store
     later = store_after store c.name left
@@ -158,7 +159,7 @@ module _ (murder : Murder) (given : Given) (store : Store) (c : ClientCommand) (
           (done_at.outs ∙ ap (λ (b : Option AnswerBody). answer_outs from c.id step.counts b) serves.is_body);
       then_holds = serves_keeps_many murder given store later name node from ask comes.holds comes.there comes.other serving store_with_it;
       carries = λ serial. record {
-        free = may_work store c.name serial c.work comes.no_make;
+        free = may_work store c.name serial c.work (no_make c.work comes.of_home);
         later_is = ap (λ (w : Worked). store_after store c.name w.left) (same serial);
         stays = λ h. ap (λ (w : Worked). w.left) (sym (same serial)) ∙ serves.unless h;
       };

@@ -14,7 +14,7 @@ use Rattle.link_msg.specs.declared.counts.Counts.{Counts}
 use Rattle.link_msg.specs.declared.message.LinkMsg.TheVariants.{Ask, Answer}
 use Rattle.link_msg.specs.declared.out.Out.TheVariants.{Link, Mark}
 use Rattle.mur_model.specs.declared.store.Store.{Store}
-use Rattle.mur_model.specs.Needed.{Make}
+use Rattle.mur_model.specs.Needed.{IsOfHome}
 use Rattle.name_links.specs.Serials.{Given}
 use Rattle.many_links.specs.Murder.{Murder, home_takes}
 use Rattle.many_links.specs.ManyHold.{ManyHold}
@@ -25,9 +25,9 @@ use Rattle.point_links.specs.Commands.{ClientCommand, WaitsOn, told_turn}
 abbrev pub its_ask : ClientCommand → FrontAsk
 its_ask c = ask_of c.id c.was c.waiting
 
--- it comes to a backend, from another node than the master
+-- it is work that a home does by itself, and comes to a backend from another node than the master
 pub record AskComes (murder : Murder) (given : Given) (store : Store) (c : ClientCommand) (name : List ℕ) (node : BackNode) (from : List ℕ) : Type 0 where
-  pub no_make : c.work ≢ Make
+  pub of_home : IsOfHome c.work
   pub holds : ManyHold murder given store
   pub there : murder.nodes name ≡ Some node
   pub other : from ≢ murder.master.me

@@ -1,28 +1,24 @@
 -- The points of a CREATE (RFC 9051, 6.3.4) behind its backend: the step in which the master takes ACTIVATE for it, or refuses RESERVE since the name is active
--- (RFC 3656, 4.1 and 4.9). The body is that with which the backend answers at the master's response (name_commands, `heard_move`).
+-- (RFC 3656, 4.1 and 4.9).
 use Rattle.std.specs.Prelude.{◌≡◌, ℕ, true, false, List, [], ◌∷◌, ◌++◌, filter, Some, None}
 use Rattle.asking_core.specs.Answered.{answered}
 use Rattle.back_links.specs.MasterEvents.{given_in}
 use Rattle.back_node.specs.declared.node.BackNode.{BackNode}
-use Rattle.link_msg.specs.declared.answer.AnswerBody.{AnswerBody}
 use Rattle.link_msg.specs.declared.answer.AnswerBody.TheVariants.{NotNow}
-use Rattle.link_msg.specs.declared.counts.Counts.{Counts}
 use Rattle.link_msg.specs.declared.counts.Counts.TheVariants.{Always, IfAnswered}
 use Rattle.link_msg.specs.declared.message.LinkMsg.{LinkMsg}
-use Rattle.link_msg.specs.declared.out.Out.TheVariants.{Link, Mark}
+use Rattle.link_msg.specs.declared.out.Out.TheVariants.{Link}
 use Rattle.link_msg.specs.declared.outcome.Outcome.TheVariants.{None as nothing, Exists, Limit}
-use Rattle.link_queue.specs.Links.{on_link}
 use Rattle.mail_message.specs.Boxes.{Content}
 use Rattle.master_core.specs.Linked.{node_says}
 use Rattle.master_core.specs.Refusals.{is_active, is_full, is_reserved}
-use Rattle.master_core.specs.Whose.{TellNobody}
 use Rattle.mupdate_codec.specs.declared.command.MResponse.{MResponse}
 use Rattle.mur_model.specs.declared.store.Store.{Store}
 use Rattle.mur_model.specs.Needed.{Make}
 use Rattle.mur_model.specs.Store.{box_at}
 use Rattle.name_commands.specs.Moves.{ends, heard_move}
-use Rattle.name_commands.specs.Places.{TalkShows, sends, answer_message}
-use Rattle.name_commands.specs.Whose.{is_command, is_own_message, is_own_out}
+use Rattle.name_commands.specs.Places.{answer_message}
+use Rattle.name_commands.specs.Whose.{is_command, is_own_out}
 use Rattle.name_flows.specs.declared.flow.Flow.{Flow}
 use Rattle.name_flows.specs.declared.flow.Stage.TheVariants.{Reserving, Making}
 use Rattle.name_flows.specs.Running.{done}
@@ -31,31 +27,8 @@ use Rattle.node_record.specs.Table.{record_at}
 use Rattle.store_links.specs.TableEntries.{store_with}
 use Rattle.many_links.specs.Murder.{Murder, master_takes}
 use Rattle.many_links.specs.ManyHold.{ManyHold}
-use Rattle.point_links.specs.Carried.{CarriesOut, turn_at}
-use Rattle.point_links.specs.Commands.{ClientCommand, WaitsOn, told_turn}
-
--- the line of a CREATE's flow is the first message of its backend to the master
-pub record LineComes (murder : Murder) (given : Given) (store : Store) (c : ClientCommand) (name : List ℕ) (node : BackNode) (message : LinkMsg)
-    (rest : List LinkMsg) (flow : Flow) : Type 0 where
-  pub makes : c.work ≡ Make
-  pub holds : ManyHold murder given store
-  pub streams : TellNobody murder.master.streams
-  pub there : murder.nodes name ≡ Some node
-  pub first : on_link murder.links name murder.master.me ≡ message ∷ rest
-  pub own : is_own_message (is_command c.id) message ≡ true
-  pub placed : TalkShows (is_command c.id) node (message ∷ rest) (on_link murder.links murder.master.me name) (sends c.name flow)
-
--- The master takes it, and this is the point of the CREATE: the step counts so, the store does what the command does, and the backend answers with this body
--- at the response, of which the client is told what the store replies.
-pub record LineIsPoint (murder : Murder) (given : Given) (store : Store) (c : ClientCommand) (name : List ℕ) (message : LinkMsg) (flow : Flow) (later : Store)
-    (serial : ℕ) (counts : Counts) (body : AnswerBody) : Type 0 where
-  pub it : MResponse
-  pub step : filter (is_own_out (is_command c.id)) (node_says murder.master name message).outs
-      ≡ Link name (answer_message flow it) ∷ Mark c.id counts ∷ []
-  pub then_holds : ManyHold (master_takes murder name message) (given ++ given_in murder.master.table name message) later
-  pub carries : CarriesOut store later c.name c.work serial counts
-  pub heard : heard_move c.name flow it ≡ Some (ends flow body)
-  pub told : (master : List ℕ) → answered master c.id c.was c.waiting body ≡ told_turn c (turn_at store c.name c.work serial)
+use Rattle.point_links.specs.Commands.{ClientCommand, WaitsOn}
+use Rattle.point_links.specs.FlowLines.{LineComes, LineIsPoint}
 
 -- ---- it is carried out
 
@@ -69,7 +42,7 @@ pub record IsCreated (murder : Murder) (given : Given) (store : Store) (c : Clie
 abbrev pub ActivateCreates : Type 0
 ActivateCreates = (murder : Murder) (given : Given) (store : Store) (c : ClientCommand) (name : List ℕ) (node : BackNode) (message : LinkMsg)
     (rest : List LinkMsg) (flow : Flow) → LineComes murder given store c name node message rest flow
-    → flow.stage ≡ Making → is_full murder.master.table (record_at murder.master.table c.name) ≡ false
+    → c.work ≡ Make → flow.stage ≡ Making → is_full murder.master.table (record_at murder.master.table c.name) ≡ false
     → IsCreated murder given store c name message flow
 
 -- ---- it is refused as the mailbox is there
@@ -82,14 +55,14 @@ pub record IsThere (murder : Murder) (given : Given) (store : Store) (c : Client
 abbrev pub ReserveOfOneThere : Type 0
 ReserveOfOneThere = (murder : Murder) (given : Given) (store : Store) (c : ClientCommand) (name : List ℕ) (node : BackNode) (message : LinkMsg)
     (rest : List LinkMsg) (flow : Flow) → LineComes murder given store c name node message rest flow
-    → flow.stage ≡ Reserving → is_active (record_at murder.master.table c.name) ≡ true → IsThere murder given store c name message flow
+    → c.work ≡ Make → flow.stage ≡ Reserving → is_active (record_at murder.master.table c.name) ≡ true → IsThere murder given store c name message flow
 
 -- ---- it is refused as there are as many mailboxes as there may be
 
 abbrev pub ActivateOfFull : Type 0
 ActivateOfFull = (murder : Murder) (given : Given) (store : Store) (c : ClientCommand) (name : List ℕ) (node : BackNode) (message : LinkMsg)
     (rest : List LinkMsg) (flow : Flow) → LineComes murder given store c name node message rest flow
-    → flow.stage ≡ Making → is_full murder.master.table (record_at murder.master.table c.name) ≡ true
+    → c.work ≡ Make → flow.stage ≡ Making → is_full murder.master.table (record_at murder.master.table c.name) ≡ true
     → (serial : ℕ) → LineIsPoint murder given store c name message flow store serial IfAnswered (done Limit)
 
 -- ---- it is put off as the name is reserved: this isn't its point, and the step doesn't count for it
@@ -104,4 +77,4 @@ pub record IsPutOff (murder : Murder) (given : Given) (store : Store) (c : Clien
 abbrev pub ReserveOfOneReserved : Type 0
 ReserveOfOneReserved = (murder : Murder) (given : Given) (store : Store) (c : ClientCommand) (name : List ℕ) (node : BackNode) (message : LinkMsg)
     (rest : List LinkMsg) (flow : Flow) → LineComes murder given store c name node message rest flow
-    → flow.stage ≡ Reserving → is_reserved (record_at murder.master.table c.name) ≡ true → IsPutOff murder given store c name message flow
+    → c.work ≡ Make → flow.stage ≡ Reserving → is_reserved (record_at murder.master.table c.name) ≡ true → IsPutOff murder given store c name message flow

@@ -2,6 +2,7 @@
 ghost use Rattle.point_links.specs.AtHome.{ClosedSendsOn, OpenServes};
 ghost use Rattle.point_links.specs.Barriers.{EachBarrier, MissingIsAPoint, ReservedIsAPoint};
 ghost use Rattle.point_links.specs.Creates.{ActivateCreates, ActivateOfFull, ReserveOfOneReserved, ReserveOfOneThere};
+ghost use Rattle.point_links.specs.Deletes.{DeactivateCloses, DeleteDeletes};
 ghost use Rattle.point_links.specs.Lists.{ListIsAPoint};
 
 /// A backend takes the ask of a command at a mailbox. Where it has the name open, the one store carries the work out in this step, and by the answer the
@@ -20,6 +21,13 @@ pub fn a_create_is_carried_out_where_the_master_takes_its_line()
     ensures full { ActivateOfFull }
     ensures there { ReserveOfOneThere }
     ensures reserved { ReserveOfOneReserved }
+{}
+
+/// The master takes a line for a DELETE. At DELETE the one store takes the mailbox out in this step, and by the backend's answer the client is told what the
+/// store replies. At the DEACTIVATE before it the mailbox stays, the step doesn't count, and the backend sends DELETE next.
+pub fn a_delete_is_carried_out_where_the_master_takes_its_line()
+    ensures deletes { DeleteDeletes }
+    ensures closes { DeactivateCloses }
 {}
 
 /// The master takes the NOOP of a command. By the table of this step its client is told at the OK that the mailbox is missing, as the one store, which has

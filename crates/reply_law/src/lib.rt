@@ -6,6 +6,7 @@ mod append;
 mod authenticate;
 mod close;
 mod create;
+mod delete;
 mod expunge;
 mod fetch;
 mod idle;
@@ -24,6 +25,7 @@ pub use append::{a_message_is_appended, a_message_is_not_appended};
 pub use authenticate::{a_response_logs_in, other_responses_do_not_log_in};
 pub use close::a_mailbox_is_closed;
 pub use create::{a_mailbox_is_created, a_mailbox_is_not_created};
+pub use delete::{a_deleted_mailbox_was_selected, a_mailbox_is_deleted, a_mailbox_is_not_deleted};
 pub use expunge::{an_expunged_message_keeps_its_number, messages_are_expunged};
 pub use fetch::{
     a_body_is_seen, items_are_fetched, messages_are_named_by_numbers, messages_are_named_by_uids,

@@ -66,7 +66,6 @@ pub fn some_commands_cannot_be_done()
     ensures lsub { IsAnswered as_bob "a LSUB \"\" *" ("a NO [CANNOT] cannot be done" ∷ []) }
     ensures move_messages { IsAnswered selected "a MOVE 1 x" ("a NO [CANNOT] cannot be done" ∷ []) }
     ensures uid_move { IsAnswered selected "a UID MOVE 3 x" ("a NO [CANNOT] cannot be done" ∷ []) }
-    ensures delete { IsAnswered as_admin "a DELETE user.amy" ("a NO [CANNOT] cannot be done" ∷ []) }
     ensures transfer { IsAnswered as_admin "a XFER user.amy b2" ("a NO [CANNOT] cannot be done" ∷ []) }
     ensures copy { IsAnswered selected "a COPY 1 INBOX" ("a NO [CANNOT] cannot be done" ∷ []) }
     ensures uid_copy { IsAnswered selected "a UID COPY 3 INBOX" ("a NO [CANNOT] cannot be done" ∷ []) }

@@ -1,5 +1,5 @@
 -- A session finishes by the answer of a home as the one store acts.
-use Rattle.std.proofs.Common.{◌≡◌, ◌≢◌, ℕ, List, Option, None, Some, refl, sym, ◌∙◌, ap, subst}
+use Rattle.std.proofs.Common.{◌≡◌, ℕ, List, Option, None, Some, refl, sym, ◌∙◌, ap, subst}
 use Rattle.backend_core.specs.declared.backend.Backend.{Backend}
 use Rattle.backend_core.specs.Step.{home_step}
 use Rattle.imap_types.specs.declared.command.Command.{Command}
@@ -10,7 +10,7 @@ use Rattle.mur_model.specs.Act.{act_by, act_of, need_of, session_after, worked_a
 use Rattle.mur_model.specs.Asking.{asked_for}
 use Rattle.mur_model.specs.Left.{store_after}
 use Rattle.mur_model.specs.Need.{told_with}
-use Rattle.mur_model.specs.Needed.{Mailbox, Make, Work}
+use Rattle.mur_model.specs.Needed.{IsOfHome, Mailbox, Work}
 use Rattle.mur_model.specs.Traits.{is_in}
 use Rattle.mur_model.specs.declared.need.Awaited.{Awaited}
 use Rattle.mur_model.specs.declared.session.Sess.{Sess}
@@ -74,14 +74,14 @@ unfolding act_of
 acted_as setting store session it name work serial need = ap (act_by store session serial) need
 
 pub answers_as_acted : (setting : Setting) (store : Store) (home : Backend) (session : Sess) (it : Command) (name : List ℕ) (work : Work) (id : AskId) (user : List ℕ)
-    (serial : ℕ) → need_of setting session it ≡ Mailbox name work → work ≢ Make → HaveAlike store home name
+    (serial : ℕ) → need_of setting session it ≡ Mailbox name work → IsOfHome work → HaveAlike store home name
     → AnswersAsActed session name (asked_for name work).awaited (home_step home (ask_of id user name (asked_for name work)))
     (act_of setting store session it serial)
 unfolding act_by IsOfNeeded
-answers_as_acted setting store home session it name work id user serial need ne alike =
+answers_as_acted setting store home session it name work id user serial need of alike =
     let awaited : Awaited = (asked_for name work).awaited in
     let turn : Turn = (worked_at store name work serial).turn in
-    let serves = serves_others store home id user name work serial (store_of_home store home name alike) ne in
+    let serves = serves_others store home id user name work serial (store_of_home store home name alike) of in
     let by = of_result session awaited serves.body turn (result_of serves.body) refl
     (serves.shown session (work_own setting session it (Mailbox name work) need)) in
     let goes_on = λ (e : session ≡ Ended). ended_needs_none setting it name work (ap (λ (s : Sess). need_of setting s it) (sym e) ∙ need) in

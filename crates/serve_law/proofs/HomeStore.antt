@@ -5,8 +5,9 @@ use Rattle.node_record.specs.declared.held.Held.{Held}
 use Rattle.backend_core.specs.HomeStep.{held_at, with_content}
 use Rattle.mur_base.specs.declared.home.Phase.TheVariants.{Open as open_here}
 use Rattle.mur_model.specs.declared.store.Store.{Store}
-use Rattle.mur_model.specs.Left.{Left, kept, made, changed, store_after}
+use Rattle.mur_model.specs.Left.{Left, kept, made, changed, removed, store_after}
 use Rattle.mur_model.specs.Store.{box_at, with_box}
+use Rattle.mur_model.proofs.BoxGone.{others_there}
 use Rattle.backend_core.specs.OpenBox.{open_content, open_box}
 use Rattle.std.specs.Ordering.{nat_cmp}
 use Rattle.std.specs.Cmp.Lexicographic.{slice_cmp}
@@ -57,3 +58,4 @@ unfolding store_after
 other_boxes store name kept other ne = refl
 other_boxes store name (made box) other ne = value_at-with_entry-other (slice_cmp nat_cmp) names_apart store.boxes name other box ne
 other_boxes store name (changed box) other ne = value_at-with_value-other (slice_cmp nat_cmp) names_apart store.boxes name other box ne
+other_boxes store name removed other ne = others_there store name other ne

@@ -1,5 +1,5 @@
 -- What the home does with work at a mailbox is what the one store does with it. Each command has its law in a file of its own.
-use Rattle.std.proofs.Common.{◌≡◌, ◌≢◌, ℕ, List, None, Some, refl, sym, ◌∙◌, ap, subst}
+use Rattle.std.proofs.Common.{◌≡◌, ℕ, List, None, Some, refl, sym, ◌∙◌, ap, subst}
 use Rattle.backend_core.specs.declared.backend.Backend.{Backend}
 use Rattle.backend_core.specs.Expunge.{expunge_step}
 use Rattle.backend_core.specs.Flags.{flags_step}
@@ -11,7 +11,7 @@ use Rattle.link_msg.specs.declared.ask.FrontAsk.{FrontAsk}
 use Rattle.mur_base.specs.declared.point.AskId.{AskId}
 use Rattle.mur_model.specs.declared.work.ViewWork.{ViewWork}
 use Rattle.mur_model.specs.declared.work.ViewWork.TheVariants.{News, Close, Expunge, Store as store_work, Fetch, Search}
-use Rattle.mur_model.specs.Needed.{Work, Make, Append as append_work, Status as status_work, Select as select_work, Viewed as viewed_work}
+use Rattle.mur_model.specs.Needed.{Work, Make, Delete, Append as append_work, Status as status_work, Select as select_work, Viewed as viewed_work, IsOfHome}
 use Rattle.mur_model.specs.declared.store.Store.{Store}
 use Rattle.mur_model.specs.declared.view.View.{View}
 use Rattle.mur_model.specs.Act.{worked_at, work_on}
@@ -68,44 +68,46 @@ views store home id user name view (Search it) serial held is =
     searches store home id user name view it (search_op view (are_keys_in_rows it.keys)) (are_keys_in_rows it.keys) held refl is
 
 -- a mailbox that is there
-there_alike : (store : Store) (home : Backend) (id : AskId) (user name : List ℕ) (work : Work) (serial : ℕ) (held : Held) → work ≢ Make
+there_alike : (store : Store) (home : Backend) (id : AskId) (user name : List ℕ) (work : Work) (serial : ℕ) (held : Held) → IsOfHome work
     → IsAtHome store home name held → OpensAlike store home id user name work serial
-unfolding home_step op_step asked_for work_on
-there_alike store home id user name Make serial held ne is = absurd (ne refl)
-there_alike store home id user name (append_work message) serial held ne is =
+unfolding home_step op_step asked_for work_on IsOfHome
+there_alike store home id user name Make serial held of is = absurd of
+there_alike store home id user name Delete serial held of is = absurd of
+there_alike store home id user name (append_work message) serial held of is =
     subst (λ f. AppendsAlike store home name message f) (sym is.at) (appends_alike store home name message held is)
-there_alike store home id user name (status_work shown items) serial held ne is =
+there_alike store home id user name (status_work shown items) serial held of is =
     subst (λ f. LooksAlike store home name shown items f) (sym is.at) (looks_alike store home name shown items held is)
-there_alike store home id user name (select_work it) serial held ne is =
+there_alike store home id user name (select_work it) serial held of is =
     subst (λ f. SelectsAlike store home name it f) (sym is.at) (selects_alike store home name it held is)
-there_alike store home id user name (viewed_work view it) serial held ne is = views store home id user name view it serial held is
+there_alike store home id user name (viewed_work view it) serial held of is = views store home id user name view it serial held is
 
 abbrev MissedAlike : Store → Backend → AskId → List ℕ → List ℕ → Work → ℕ → Type 0
 MissedAlike store home id user name work serial =
     ServesAlike store home name work (work_on name work serial (is_full store) None) (home_step home (plain_ask id user name work))
 
 -- one that is missing
-missing_alike : (store : Store) (home : Backend) (id : AskId) (user name : List ℕ) (work : Work) (serial : ℕ) → work ≢ Make → box_at store name ≡ None
+missing_alike : (store : Store) (home : Backend) (id : AskId) (user name : List ℕ) (work : Work) (serial : ℕ) → IsOfHome work → box_at store name ≡ None
     → held_at home name ≡ None → MissedAlike store home id user name work serial
-unfolding home_step op_step asked_for work_on
-missing_alike store home id user name Make serial ne box none = absurd (ne refl)
-missing_alike store home id user name (append_work message) serial ne box none =
-    misses_alike store home (plain_ask id user name (append_work message)) (append_work message) serial (is_full store) (λ e. cc) refl box none
-missing_alike store home id user name (status_work shown items) serial ne box none =
-    misses_alike store home (plain_ask id user name (status_work shown items)) (status_work shown items) serial (is_full store) (λ e. cc) refl box none
-missing_alike store home id user name (select_work it) serial ne box none =
-    misses_alike store home (plain_ask id user name (select_work it)) (select_work it) serial (is_full store) (λ e. cc) refl box none
-missing_alike store home id user name (viewed_work view it) serial ne box none =
-    misses_alike store home (plain_ask id user name (viewed_work view it)) (viewed_work view it) serial (is_full store) (λ e. cc) refl box none
+unfolding home_step op_step asked_for work_on IsOfHome
+missing_alike store home id user name Make serial of box none = absurd of
+missing_alike store home id user name Delete serial of box none = absurd of
+missing_alike store home id user name (append_work message) serial of box none =
+    misses_alike store home (plain_ask id user name (append_work message)) (append_work message) serial (is_full store) of refl box none
+missing_alike store home id user name (status_work shown items) serial of box none =
+    misses_alike store home (plain_ask id user name (status_work shown items)) (status_work shown items) serial (is_full store) of refl box none
+missing_alike store home id user name (select_work it) serial of box none =
+    misses_alike store home (plain_ask id user name (select_work it)) (select_work it) serial (is_full store) of refl box none
+missing_alike store home id user name (viewed_work view it) serial of box none =
+    misses_alike store home (plain_ask id user name (viewed_work view it)) (viewed_work view it) serial (is_full store) of refl box none
 
--- any command but a CREATE, whose mailbox the home makes when the name master lets it
-pub serves_others : (store : Store) (home : Backend) (id : AskId) (user name : List ℕ) (work : Work) (serial : ℕ) → IsStoreOf store home name → work ≢ Make
+-- any command but a CREATE and a DELETE, whose mailbox the home makes and deletes when the name master lets it
+pub serves_others : (store : Store) (home : Backend) (id : AskId) (user name : List ℕ) (work : Work) (serial : ℕ) → IsStoreOf store home name → IsOfHome work
     → ServesAlike store home name work (worked_at store name work serial) (home_step home (plain_ask id user name work))
-serves_others store home id user name work serial (is_missing box none) ne =
+serves_others store home id user name work serial (is_missing box none) of =
     subst (λ b. ServesAlike store home name work (work_on name work serial (is_full store) b)
     (home_step home (plain_ask id user name work))) (sym box)
-    (missing_alike store home id user name work serial ne box none)
-serves_others store home id user name work serial (is_there held is) ne =
+    (missing_alike store home id user name work serial of box none)
+serves_others store home id user name work serial (is_there held is) of =
     subst (λ b. ServesAlike store home name work (work_on name work serial (is_full store) b)
     (home_step home (plain_ask id user name work))) (ap open_content is.at ∙ opened held held.content is.is_open ∙ sym is.box)
-    (there_alike store home id user name work serial held ne is)
+    (there_alike store home id user name work serial held of is)

@@ -1,7 +1,5 @@
 -- Only a session that has begun asks a home.
-use Rattle.std.proofs.Common.{◌≡◌, Option, None, Some, sym, ◌∙◌, ap, subst, Result}
-use Rattle.std.proofs.lemmas.Result.{IfOk-weaker}
-use Rattle.mur_base.specs.declared.memory.Memory.{Memory}
+use Rattle.std.proofs.Common.{◌≡◌, Option, None, Some, sym, ◌∙◌, ap, subst}
 use Rattle.imap_types.specs.declared.command.Command.{Command}
 use Rattle.mur_model.specs.Needed.{Needed, Refusal, Turned, Mailbox, Names}
 use Rattle.imap_types.specs.declared.reply.BadText.TheVariants.{State}
@@ -21,7 +19,6 @@ use Rattle.mur_model.specs.declared.need.Begun.{Begun}
 use Rattle.mur_model.specs.Need.{begun_of, told_with}
 use Rattle.session_core.specs.Need.{Behind, session_behind, begun_by_need, told_reply}
 use Rattle.std.specs.Option.{IfSome}
-use Rattle.std.specs.Result.{IfOk}
 
 abbrev Fits : Behind → Type 0
 Fits session_behind = MayNeed session_behind.session session_behind.need

@@ -1,8 +1,6 @@
 -- What comes of a command leaves its client knowing the numbers of the view.
 use Rattle.std.proofs.Common.{◌≡◌, ℕ, ◌+◌, ◌-◌, Bool, true, false, if◌then◌else◌, List, [], ◌∷◌, ◌++◌, length, replicate, Option, None, Some}
-use Rattle.std.proofs.Common.{refl, sym, ◌∙◌, ap, subst, arith, Result}
-use Rattle.std.proofs.lemmas.Result.{IfOk-weaker}
-use Rattle.std.specs.Result.{IfOk}
+use Rattle.std.proofs.Common.{refl, sym, ◌∙◌, ap, subst, arith}
 use Rattle.std.proofs.lemmas.Grind.{common_steps}
 use Rattle.std.proofs.lemmas.List.{length-map}
 use Rattle.std.specs.Option.{IfSome, option_map}
@@ -16,7 +14,6 @@ use Rattle.mail_message.specs.declared.message.Row.{Row}
 use Rattle.mail_message.specs.declared.message.Snapshot.{Snapshot}
 use Rattle.mail_message.specs.declared.message.Summary.{Summary}
 use Rattle.mail_message.specs.RowOrder.{row_at}
-use Rattle.mur_base.specs.declared.memory.Memory.{Memory}
 use Rattle.imap_types.specs.declared.command.Command.{Command}
 use Rattle.imap_types.specs.declared.command.StatusItem.{StatusItem}
 use Rattle.mur_model.specs.Needed.{Needed, Refusal, Turned, Mailbox, Names}
@@ -52,6 +49,7 @@ use Rattle.mur_model.specs.declared.need.Awaited.TheVariants as awaits
 use Rattle.session_core.proofs.AtOnceLaw.{AreStill, IsQuiet, LeavesQuietly, need_quiet}
 use Rattle.session_core.specs.Append as append
 use Rattle.session_core.specs.Create as create
+use Rattle.session_core.specs.Delete as delete
 use Rattle.session_core.specs.Finish.{Finished, finished_by, turn_of}
 use Rattle.mur_model.specs.declared.need.Need.{Need}
 use Rattle.mur_model.specs.declared.need.Begun.{Begun}
@@ -230,6 +228,15 @@ created_still (Done outcome seen) = by outcome
     by outcome = tt
 created_still Missing = tt
 
+deleted_still : (result : OpResult) → IfSome (delete.reply_to_delete result) HasStill
+unfolding delete.reply_to_delete delete.reply_to_deleted
+deleted_still (Done outcome seen) = by outcome
+  where
+    by : (outcome : Outcome) → IfSome (delete.reply_to_deleted outcome) HasStill
+    by nothing = none_still
+    by outcome = tt
+deleted_still Missing = none_still
+
 appended_still : (result : OpResult) → IfSome (append.reply_to_append result) HasStill
 unfolding append.reply_to_append append.reply_to_appended append.reply_to_uids reply_with_uid
 appended_still (Done outcome seen) = by outcome
@@ -269,6 +276,7 @@ turn_leaves : (known : Known) (session : Sess) (awaited : Awaited) (result : OpR
     → IfSome (turn_of session awaited result) (TurnLeaves (known_before awaited known) session)
 unfolding turn_of known_before
 turn_leaves known session awaits.Create result knows = replied_leave known session (create.reply_to_create result) (created_still result) knows
+turn_leaves known session awaits.Delete result knows = replied_leave known session (delete.reply_to_delete result) (deleted_still result) knows
 turn_leaves known session awaits.Append result knows = replied_leave known session (append.reply_to_append result) (appended_still result) knows
 turn_leaves known session (awaits.Status shown items) result knows =
     replied_leave known session (status.reply_to_status shown items result) (counted_still shown items result) knows

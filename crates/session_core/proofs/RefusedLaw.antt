@@ -20,7 +20,7 @@ use Rattle.mur_model.specs.declared.view.View.{View}
 use Rattle.mur_model.specs.Act.{need_begun, need_in, need_of, need_selected, need_taken}
 use Rattle.mur_model.specs.Asking.{asked_for}
 use Rattle.mur_model.specs.Need.{told_with}
-use Rattle.mur_model.specs.Needed.{Needed, Refusal, Turned, Mailbox, Names, Work, Make, Append, Status, Select, Viewed}
+use Rattle.mur_model.specs.Needed.{Needed, Refusal, Turned, Mailbox, Names, Work, Make, Delete, Append, Status, Select, Viewed}
 use Rattle.mur_model.specs.Relocation.{cause_text, refused_for}
 use Rattle.mur_model.specs.Rights.{has_rights}
 use Rattle.mur_model.specs.Select.{opening, select, select_as, select_by}
@@ -116,6 +116,7 @@ none_begun setting = record {
   names = λ user pattern. tt;
   unselected = λ user was_selected why. tt;
   make = λ name named. tt;
+  delete = λ name named. tt;
   append = λ name text flags date body asked. tt;
   status = λ user name items named. tt;
   select = λ user name text is_writable was_selected asked named. absurd (no_selecting is_writable text asked);
@@ -145,6 +146,7 @@ other_refuses session it (Refusal verdict) none selecting = tt
 other_refuses session it (Turned turn) none selecting = tt
 other_refuses session it (Names listing) none selecting = tt
 other_refuses session it (Mailbox name Make) none selecting = λ why. sym (stays_told session it why none)
+other_refuses session it (Mailbox name Delete) none selecting = λ why. sym (stays_told session it why none)
 other_refuses session it (Mailbox name (Append message)) none selecting = λ why. sym (stays_told session it why none)
 other_refuses session it (Mailbox name (Status shown items)) none selecting = λ why. sym (stays_told session it why none)
 other_refuses session it (Mailbox name (Select opened)) none selecting = absurd selecting

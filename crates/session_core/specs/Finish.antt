@@ -6,10 +6,11 @@ use Rattle.mur_model.specs.declared.session.Sess.{Sess}
 use Rattle.mur_model.specs.declared.session.Turn.{Turn}
 use Rattle.mur_model.specs.Left.{replied}
 use Rattle.mur_model.specs.declared.need.Awaited.{Awaited}
-use Rattle.mur_model.specs.declared.need.Awaited.TheVariants.{Create, Append, Status, Select, Viewed}
+use Rattle.mur_model.specs.declared.need.Awaited.TheVariants.{Create, Delete, Append, Status, Select, Viewed}
 use Rattle.mur_model.specs.declared.need.Need.{Need}
 use Rattle.session_core.specs.Append.{reply_to_append}
 use Rattle.session_core.specs.Create.{reply_to_create}
+use Rattle.session_core.specs.Delete.{reply_to_delete}
 use Rattle.session_core.specs.Need.{told_reply}
 use Rattle.session_core.specs.Select.{select_turn}
 use Rattle.session_core.specs.Status.{reply_to_status}
@@ -17,6 +18,7 @@ use Rattle.session_core.specs.Viewed.{viewed_in}
 
 unfoldable pub turn_of : Sess → Awaited → OpResult → Option Turn
 turn_of session Create result = option_map replied (reply_to_create result)
+turn_of session Delete result = option_map replied (reply_to_delete result)
 turn_of session Append result = option_map replied (reply_to_append result)
 turn_of session (Status shown items) result = option_map replied (reply_to_status shown items result)
 turn_of session (Select name it) result = select_turn name it result

@@ -1,6 +1,7 @@
 pub mod Append
 pub mod Begin
 pub mod Create
+pub mod Delete
 pub mod Finish
 pub mod Need
 pub mod Numbers

@@ -2,6 +2,7 @@
 pub mod append;
 pub mod close;
 pub mod create;
+pub mod delete;
 pub mod expunge;
 pub mod fetch;
 pub mod noop;

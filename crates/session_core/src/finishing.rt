@@ -10,6 +10,7 @@ ghost use Rattle.session_core.specs.Finish.{finish, finished_by, turn_of};
 use crate::beginning::takes;
 use crate::commands::append::append_reply;
 use crate::commands::create::create_reply;
+use crate::commands::delete::delete_reply;
 use crate::commands::select::select_turn;
 use crate::commands::status::status_reply;
 use crate::result::OpResult;
@@ -60,6 +61,7 @@ fn turn_of(
 {
     match awaited {
         Awaited::Create => Ok(replied(create_reply(alloc, op_result)?)),
+        Awaited::Delete => Ok(replied(delete_reply(alloc, op_result)?)),
         Awaited::Append => Ok(replied(append_reply(alloc, op_result)?)),
         Awaited::Status(shown, items) => {
             Ok(replied(status_reply(alloc, shown, items, op_result)?))

@@ -21,6 +21,7 @@ mod MessagesDone
 mod BodiesAsked
 mod DoneAtBox
 mod DoneCreate
+mod DoneDelete
 mod DoneExpunge
 mod DoneFetch
 mod DoneStore
@@ -40,7 +41,7 @@ pub mod CommandsSpeak
 pub mod LinesLaw
 mod NewsWhole
 mod BoxesGrow
-mod ViewsCover
+pub mod ViewsCover
 pub mod NewsTold
 pub mod LetsIn
 pub mod LoginLaw

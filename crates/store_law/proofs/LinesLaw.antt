@@ -17,7 +17,7 @@ use Rattle.imap_types.specs.declared.command.StatusItem.{StatusItem}
 use Rattle.imap_types.specs.declared.reply.NoText.{NoText}
 use Rattle.imap_types.specs.declared.reply.ReplyLine.{ReplyLine}
 use Rattle.imap_types.specs.declared.reply.ReplyLine.TheVariants.{Search}
-use Rattle.mur_model.specs.Needed.{Needed, Refusal, Turned, Mailbox, Names, Work, Make, Append as append_work, Status as status_work, Select as select_work, Viewed as viewed_work}
+use Rattle.mur_model.specs.Needed.{Needed, Refusal, Turned, Mailbox, Names, Work, Make, Delete as delete_work, Append as append_work, Status as status_work, Select as select_work, Viewed as viewed_work}
 use Rattle.mur_model.specs.declared.commands.fetch.Fetching.{Fetching}
 use Rattle.mur_model.specs.declared.commands.select.Opening.{Opening}
 use Rattle.mur_model.specs.declared.commands.store.FlagStore.{FlagStore}
@@ -32,8 +32,9 @@ use Rattle.mur_model.specs.Act.{act_by, act_of, need_of, work_on}
 use Rattle.mur_model.specs.Append.{append_on, append_reply, append_to}
 use Rattle.mur_model.specs.ClientView.{Known, known_after}
 use Rattle.mur_model.specs.Create.{create_on, make}
+use Rattle.mur_model.specs.Delete.{delete_on}
 use Rattle.mur_model.specs.Fetch.{fetch_at, fetch_lines, fetch_told, seen_flags, sees}
-use Rattle.mur_model.specs.Left.{Left, Worked, box_after, changed, kept, made, store_after}
+use Rattle.mur_model.specs.Left.{Left, Worked, box_after, changed, kept, made, removed, store_after}
 use Rattle.mur_model.specs.Select.{select_on, unselected}
 use Rattle.mur_model.specs.Selected.{rows_of}
 use Rattle.mur_model.specs.Status.{status_on, status_reply}
@@ -109,6 +110,11 @@ unfolding create_on LinesSpeak
 created_quiet name serial full None = made_quiet name serial full
 created_quiet name serial full (Some there) = λ box known. tt
 
+deleted_quiet : (found : Option Content) → AreQuiet (delete_on found).turn.reply.lines
+unfolding delete_on LinesSpeak
+deleted_quiet None = λ box known. tt
+deleted_quiet (Some there) = λ box known. tt
+
 appended_quiet : (message : Message) (there : Content) (fault : Option StoreFault) → AreQuiet (append_to message there fault).turn.reply.lines
 unfolding append_to append_reply LinesSpeak
 appended_quiet message there (Some fault) = λ box known. tt
@@ -169,6 +175,7 @@ begun_at_own setting = record {
   names = λ user pattern. tt;
   unselected = λ user was_selected why. tt;
   make = λ name named. tt;
+  delete = λ name named. tt;
   append = λ name text flags date body asked. tt;
   status = λ user name items named. tt;
   select = λ user name text is_writable was_selected asked named. tt;
@@ -190,11 +197,12 @@ need_at_own setting session it = each_need (begun_at_own setting) session (λ vi
 
 -- ---- each command
 
--- the mailbox of a view isn't made anew
+-- the mailbox of a view isn't made anew, nor deleted
 abbrev IsNotMade : Left → Type 0
 IsNotMade kept = ⊤
 IsNotMade (made content) = ⊥
 IsNotMade (changed content) = ⊤
+IsNotMade removed = ⊥
 
 either_not_made : (test : Bool) (one other : Worked) → IsNotMade one.left → IsNotMade other.left → IsNotMade (if test then one else other).left
 either_not_made true one other is is_other = is
@@ -237,6 +245,7 @@ module _ (store : Store) (view : View) where
   left_speaks box kept lines at speak not_made =
       subst (λ (found : Option Content). IfSome found (λ b. b.serial ≡ view.serial → LinesSpeak b (known_of view) lines)) (sym at) (λ same. speak)
   left_speaks box (made content) lines at speak not_made = absurd not_made
+  left_speaks box removed lines at speak not_made = absurd not_made
   left_speaks box (changed content) lines at speak not_made =
       subst (λ (found : Option Content). IfSome found (λ b. b.serial ≡ view.serial → LinesSpeak b (known_of view) lines))
       (sym (value_at-with_value (slice_cmp nat_cmp) names_apart store.boxes view.name content box at)) (λ same. speak)
@@ -255,6 +264,8 @@ module _ (store : Store) (view : View) where
   unfolding work_on IsOfWork
   work_speaks name Make serial full at own = let worked = create_on name serial full (box_at store name) in
       quiet_speaks (store_after store name worked.left) worked.turn.reply.lines (created_quiet name serial full (box_at store name))
+  work_speaks name delete_work serial full at own = let worked = delete_on (box_at store name) in
+      quiet_speaks (store_after store name worked.left) worked.turn.reply.lines (deleted_quiet (box_at store name))
   work_speaks name (append_work message) serial full at own = let worked = append_on message (box_at store name) in
       quiet_speaks (store_after store name worked.left) worked.turn.reply.lines (append_quiet message (box_at store name))
   work_speaks name (status_work shown items) serial full at own = let worked = status_on shown items (box_at store name) in

@@ -1,5 +1,5 @@
 -- What a LIST is told depends on no mailbox but those whose names it may tell.
-use Rattle.std.proofs.Common.{◌≡◌, ℕ, Bool, true, false, ◌&&◌, List, [], ◌∷◌, map, filter, Option}
+use Rattle.std.proofs.Common.{◌≡◌, ℕ, Bool, true, false, ◌&&◌, List, map, Option}
 use Rattle.std.proofs.Common.{refl, sym, ◌∙◌, ap, subst}
 use Rattle.std.specs.Prelude.{IsSome}
 use Rattle.std.specs.List.{Contains, list_any}
@@ -25,20 +25,7 @@ use Rattle.mur_model.specs.declared.commands.list.Listing.{Listing}
 use Rattle.mur_model.specs.declared.store.Store.{Store}
 use Rattle.mur_model.specs.Listing.{list_reply, names_in, shown_to, tells}
 use Rattle.mur_model.specs.Store.{box_at}
-
--- a test of what is shown of the names that are told
-shown_tested_by : (it : Listing) (test : List ℕ → Bool) (name : List ℕ) (names : List (List ℕ)) (told : Bool)
-    → list_any test (map (shown_name it.user) (filter (tells it) names)) ≡ list_any (λ n. tells it n && test (shown_name it.user n)) names
-    → tells it name ≡ told
-    → list_any test (map (shown_name it.user) (filter (tells it) (name ∷ names))) ≡ list_any (λ n. tells it n && test (shown_name it.user n)) (name ∷ names)
-shown_tested_by it test name names true more is = rw (is, more) refl
-shown_tested_by it test name names false more is = rw (is, more) refl
-
-pub shown_tested : (it : Listing) (test : List ℕ → Bool) (names : List (List ℕ))
-    → list_any test (shown_to it names) ≡ list_any (λ n. tells it n && test (shown_name it.user n)) names
-unfolding shown_to
-shown_tested it test [] = refl
-shown_tested it test (name ∷ names) = shown_tested_by it test name names (tells it name) (shown_tested it test names) refl
+use Rattle.mur_model.proofs.GatheredLaw.{shown_tested}
 
 -- a test passes a name of one store, where a mailbox of each name that it passes is in both or in neither
 passes : (test : List ℕ → Bool) (store other : Store) → ((name : List ℕ) → test name ≡ true → box_at store name ≡ box_at other name)

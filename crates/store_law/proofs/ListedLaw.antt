@@ -28,7 +28,7 @@ use Rattle.mur_model.specs.Rights.{has_rights}
 use Rattle.mur_model.specs.Traits.{is_in, may_be, traits_of}
 use Rattle.store_law.specs.Listed.{AreListed, IsListReply, IsShown, ListsMailboxes}
 use Rattle.store_law.specs.Logins.{session_user}
-use Rattle.store_law.proofs.ListedAlike.{shown_tested}
+use Rattle.mur_model.proofs.GatheredLaw.{shown_tested}
 
 module _ (setting : Setting) (store : Store) (user reference mailbox : List ℕ) where
   abbrev it : Listing

@@ -17,7 +17,7 @@ use Rattle.imap_types.specs.declared.command.Command.{Command}
 use Rattle.imap_types.specs.declared.command.Command.TheVariants as command
 use Rattle.imap_types.specs.declared.command.StatusItem.{StatusItem}
 use Rattle.imap_types.specs.declared.reply.Reply.{Reply}
-use Rattle.mur_model.specs.Needed.{Needed, Refusal, Turned, Mailbox, Names, Work, Make, Append as append_work, Status as status_work, Select as select_work, Viewed as viewed_work}
+use Rattle.mur_model.specs.Needed.{Needed, Refusal, Turned, Mailbox, Names, Work, Make, Delete as delete_work, Append as append_work, Status as status_work, Select as select_work, Viewed as viewed_work}
 use Rattle.mur_model.specs.declared.commands.fetch.Fetching.{Fetching}
 use Rattle.mur_model.specs.declared.commands.search.Searching.{Searching}
 use Rattle.mur_model.specs.declared.commands.store.FlagStore.{FlagStore}
@@ -33,6 +33,7 @@ use Rattle.mur_model.specs.declared.work.ViewWork.TheVariants as view_work
 use Rattle.mur_model.specs.Act.{act_by, act_of, need_begun, need_in, need_of, need_selected, need_taken, session_after, work_on}
 use Rattle.mur_model.specs.Append.{append_on, append_reply, append_to}
 use Rattle.mur_model.specs.Create.{create_on, make}
+use Rattle.mur_model.specs.Delete.{delete_on}
 use Rattle.mur_model.specs.Left.{Worked}
 use Rattle.mur_model.specs.NamedRows.{named_uids}
 use Rattle.mur_model.specs.Rights.{has_rights}
@@ -116,6 +117,11 @@ pub created_still : (name : List ℕ) (serial : ℕ) (full : Bool) (found : Opti
 unfolding create_on
 created_still name serial full None = made_still name serial full
 created_still name serial full (Some box) = λ mirror. refl
+
+pub deleted_still : (found : Option Content) → IsStill (delete_on found).turn
+unfolding delete_on
+deleted_still None = λ mirror. refl
+deleted_still (Some box) = λ mirror. refl
 
 appended_still : (message : Message) (box : Content) (fault : Option StoreFault) → IsStill (append_to message box fault).turn
 unfolding append_to append_reply
@@ -236,6 +242,7 @@ module _ (R : Mirror → List Row → Type 0) (keeps : Keeps R) where
         → let turn = (work_on name work serial full found).turn in OfView R (read_lines mirror turn.reply.lines) (session_after session turn.session)
     unfolding work_on IsOfWork OfView
     work_behind name Make full found rises own fits = still_behind mirror session _ _ is (created_still name serial full found)
+    work_behind name delete_work full found rises own fits = still_behind mirror session _ _ is (deleted_still found)
     work_behind name (append_work message) full found rises own fits = still_behind mirror session _ _ is (append_still message found)
     work_behind name (status_work shown items) full found rises own fits = still_behind mirror session _ _ is (status_still shown items found)
     work_behind name (select_work opened) full found rises own fits = absurd (no_select opened.is_writable fits)

@@ -1,4 +1,4 @@
--- Which command can end in which work at a mailbox: that takes messages away, changes their flags, adds one, or selects it.
+-- Which command can end in which work at a mailbox: that takes messages away, changes their flags, adds one, selects it, or deletes it.
 use Rattle.std.proofs.Common.{◌≡◌, ℕ, ◌||◌, Bool, true, false, if◌then◌else◌, List, [], ◌∷◌, ◌++◌, length, Option, None, Some, codes}
 use Rattle.std.proofs.Common.{refl, sym, ◌∙◌, ap, subst}
 use Rattle.std.specs.Prelude.{⊤}
@@ -20,7 +20,7 @@ use Rattle.mur_base.specs.declared.user.User.{User}
 use Rattle.imap_types.specs.declared.command.Command.{Command}
 use Rattle.imap_types.specs.declared.command.Command.TheVariants as command
 use Rattle.imap_types.specs.declared.command.StatusItem.{StatusItem}
-use Rattle.mur_model.specs.Needed.{Needed, Refusal, Turned, Mailbox, Names, Work, Make, Append as append_work, Status as status_work, Select as select_work, Viewed as viewed_work, at_mailbox, no_such_number, read_only}
+use Rattle.mur_model.specs.Needed.{Needed, Refusal, Turned, Mailbox, Names, Work, Make, Delete as delete_work, Append as append_work, Status as status_work, Select as select_work, Viewed as viewed_work, at_mailbox, no_such_number, read_only}
 use Rattle.mur_model.specs.declared.work.NewsFor.TheVariants as news_for
 use Rattle.mur_model.specs.declared.work.ViewWork.{ViewWork}
 use Rattle.mur_model.specs.declared.work.ViewWork.TheVariants as view_work
@@ -38,6 +38,7 @@ use Rattle.mur_model.specs.Append.{append, append_as, append_by, new_message}
 use Rattle.mur_model.specs.AtOnce.{is_done}
 use Rattle.mur_model.specs.Close.{left_by}
 use Rattle.mur_model.specs.Create.{create, create_as, create_by, create_meant, is_inbox, without_separator}
+use Rattle.mur_model.specs.Delete.{delete, delete_as, delete_by}
 use Rattle.mur_model.specs.Expunge.{expunge, expunge_named}
 use Rattle.mur_model.specs.Fetch.{each_once, fetch_named, is_body, same_item}
 use Rattle.mur_model.specs.Keys.{have_all_numbers, keys_at}
@@ -52,8 +53,9 @@ use Rattle.mur_model.specs.Select.{opening, select, select_as, select_by}
 use Rattle.mur_model.specs.Status.{status, status_as, status_by}
 use Rattle.mur_model.specs.StoreFlags.{store, store_named}
 use Rattle.mur_model.specs.Traits.{Nothing, Labels, effect_of, is_in, traits_of}
-use Rattle.store_law.specs.Examined.{adds}
-use Rattle.store_law.specs.NoneLost.{Expunges, IsAbout, IsNamed, MayBecome, MayChange, MayLabel}
+use Rattle.store_law.specs.Appended.{name_meant}
+use Rattle.store_law.specs.Examined.{changes_named}
+use Rattle.store_law.specs.NoneLost.{Deletes, Expunges, IsAbout, IsNamed, MayBecome, MayChange, MayLabel}
 
 -- all messages are meant, or those of some UIDs
 abbrev pub IsMeant : Option (List ℕ) → ℕ → Type 0
@@ -90,7 +92,8 @@ Selects it is_writable = ⊥
 
 abbrev pub FitsWork : Sess → Command → List ℕ → Work → Type 0
 FitsWork session it name Make = ⊤
-FitsWork session it name (append_work message) = adds it ≡ true
+FitsWork session it name delete_work = Deletes session it name
+FitsWork session it name (append_work message) = changes_named it ≡ true
 FitsWork session it name (status_work shown items) = ⊤
 FitsWork session it name (select_work opened) = Selects it opened.is_writable
 FitsWork session it name (viewed_work view work) = FitsView session it name view work
@@ -162,12 +165,24 @@ module _ (session : Sess) (it : Command) where
   create_fits setting user name false (Some fault) = tt
   create_fits setting user name false None = create_by_fits name (may_create setting.users user name)
 
-  append_by_fits : (name : List ℕ) (message : Message) (may : Bool) → adds it ≡ true → Fits session it (append_by name message may)
+  delete_by_fits : (name : List ℕ) (may : Bool) → Deletes session it name → Fits session it (delete_by name may)
+  unfolding delete_by
+  delete_by_fits name true so = so
+  delete_by_fits name false so = tt
+
+  delete_fits : (setting : Setting) (user name : List ℕ) (inbox : Bool) (fault : Option NameFault) → Deletes session it name
+      → Fits session it (delete_as setting user name inbox fault)
+  unfolding delete_as
+  delete_fits setting user name true fault so = tt
+  delete_fits setting user name false (Some fault) so = tt
+  delete_fits setting user name false None so = delete_by_fits name (has_rights setting.users user name) so
+
+  append_by_fits : (name : List ℕ) (message : Message) (may : Bool) → changes_named it ≡ true → Fits session it (append_by name message may)
   unfolding append_by
   append_by_fits name message true so = so
   append_by_fits name message false so = tt
 
-  append_fits : (setting : Setting) (user name : List ℕ) (message : Message) (fault : Option NameFault) → adds it ≡ true
+  append_fits : (setting : Setting) (user name : List ℕ) (message : Message) (fault : Option NameFault) → changes_named it ≡ true
       → Fits session it (append_as setting user name message fault)
   unfolding append_as
   append_fits setting user name message (Some fault) so = tt
@@ -201,34 +216,39 @@ module _ (session : Sess) (it : Command) where
   list_fits setting user reference mailbox =
       either (asks_separator mailbox) separator_told (Names (listing_by setting user (pattern_of reference mailbox))) (λ so. tt) tt
 
-  begun_fits : (setting : Setting) (user : List ℕ) (is_selected : Bool) (asked : Command) → it ≡ asked
-      → Fits session it (need_begun setting user is_selected asked)
-  unfolding need_begun create create_meant append status select adds
-  begun_fits setting user is_selected (command.List reference mailbox) same = list_fits setting user reference mailbox
-  begun_fits setting user is_selected (command.Create text) same =
+  -- a session of this user means by a text what they do
+  begun_fits : (setting : Setting) (user : List ℕ) (is_selected : Bool) (asked : Command) → ((text : List ℕ) → name_meant session text ≡ Some (taken_name user text))
+      → it ≡ asked → Fits session it (need_begun setting user is_selected asked)
+  unfolding need_begun create create_meant delete append status select changes_named Deletes
+  begun_fits setting user is_selected (command.List reference mailbox) means same = list_fits setting user reference mailbox
+  begun_fits setting user is_selected (command.Create text) means same =
       let meant = without_separator text in
       create_fits setting user (taken_name user meant) (is_inbox meant) (mail_name_fault (taken_name user meant))
-  begun_fits setting user is_selected (command.Append text flags date body) same =
-      append_fits setting user (taken_name user text) (new_message setting flags date body) (mail_name_fault (taken_name user text)) (ap adds same)
-  begun_fits setting user is_selected (command.Status text items) same =
+  begun_fits setting user is_selected (command.Delete text) means same =
+      delete_fits setting user (taken_name user text) (is_inbox text) (mail_name_fault (taken_name user text))
+      (subst (λ (c : Command). Deletes session c (taken_name user text)) (sym same) (means text))
+  begun_fits setting user is_selected (command.Append text flags date body) means same =
+      append_fits setting user (taken_name user text) (new_message setting flags date body) (mail_name_fault (taken_name user text)) (ap changes_named same)
+  begun_fits setting user is_selected (command.Status text items) means same =
       status_fits setting user (taken_name user text) items (mail_name_fault (taken_name user text))
-  begun_fits setting user is_selected (command.Select text) same =
+  begun_fits setting user is_selected (command.Select text) means same =
       select_fits setting user (taken_name user text) true is_selected (mail_name_fault (taken_name user text))
       (subst (λ (c : Command). Selects c true) (sym same) refl)
-  begun_fits setting user is_selected (command.Examine text) same =
+  begun_fits setting user is_selected (command.Examine text) means same =
       select_fits setting user (taken_name user text) false is_selected (mail_name_fault (taken_name user text))
       (subst (λ (c : Command). Selects c false) (sym same) refl)
-  begun_fits setting user is_selected asked same = tt
+  begun_fits setting user is_selected asked means same = tt
 
   idled_fits : (line : List ℕ) (done : Needed) → Fits session it done → Fits session it (idled line done)
   idled_fits line done is = either (is_done line) done (Refusal (bad_reply Syntax)) (λ so. is) tt
 
-  in_fits : (setting : Setting) (user : List ℕ) (asked : Command) → it ≡ asked → Fits session it (need_in setting user asked)
+  in_fits : (setting : Setting) (user : List ℕ) (asked : Command) → ((text : List ℕ) → name_meant session text ≡ Some (taken_name user text)) → it ≡ asked
+      → Fits session it (need_in setting user asked)
   unfolding need_in
-  in_fits setting user command.Noop same = tt
-  in_fits setting user (command.Idle (Some line)) same = idled_fits line (Turned (replied (completed (codes "IDLE")))) tt
-  in_fits setting user (command.Idle None) same = begun_fits setting user false (command.Idle None) same
-  in_fits setting user asked same = begun_fits setting user false asked same
+  in_fits setting user command.Noop means same = tt
+  in_fits setting user (command.Idle (Some line)) means same = idled_fits line (Turned (replied (completed (codes "IDLE")))) tt
+  in_fits setting user (command.Idle None) means same = begun_fits setting user false (command.Idle None) means same
+  in_fits setting user asked means same = begun_fits setting user false asked means same
 
 -- ---- commands of a session that has this view
 
@@ -306,11 +326,11 @@ close_fits view =
     (λ writable. (may_change view command.Close (IsMeant None) (λ uid meant. tt) writable, refl)) tt
 
 selected_fits : (setting : Setting) (view : View) (it : Command) → Fits (selected view) it (need_selected setting view it)
-unfolding need_selected
+unfolding need_selected name_meant
 selected_fits setting view command.Noop = tt
 selected_fits setting view (command.Idle (Some line)) =
     idled_fits (selected view) (command.Idle (Some line)) line (at_mailbox view (view_work.News news_for.Idle)) tt
-selected_fits setting view (command.Idle None) = begun_fits (selected view) (command.Idle None) setting view.user true (command.Idle None) refl
+selected_fits setting view (command.Idle None) = begun_fits (selected view) (command.Idle None) setting view.user true (command.Idle None) (λ text. refl) refl
 selected_fits setting view command.Close = close_fits view
 selected_fits setting view command.Unselect = tt
 selected_fits setting view (command.Expunge only) = expunge_fits view only
@@ -320,12 +340,12 @@ selected_fits setting view (command.Search by_uid keys) =
     let placed = keys_at (length view.rows) (last_uid view.rows) keys in
     either (selected view) (command.Search by_uid keys) (have_all_numbers (length view.rows) keys)
     (at_mailbox view (view_work.Search (record { by_uid = by_uid; keys = placed }))) no_such_number (λ so. tt) tt
-selected_fits setting view it = begun_fits (selected view) it setting view.user true it refl
+selected_fits setting view it = begun_fits (selected view) it setting view.user true it (λ text. refl) refl
 
 taken_fits : (setting : Setting) (session : Sess) (it : Command) → Fits session it (need_taken setting session it)
-unfolding need_taken
+unfolding need_taken name_meant
 taken_fits setting Off it = off_fits Off it setting it
-taken_fits setting (In user) it = in_fits (In user) it setting user it refl
+taken_fits setting (In user) it = in_fits (In user) it setting user it (λ text. refl) refl
 taken_fits setting (selected view) it = selected_fits setting view it
 taken_fits setting Ended it = tt
 

@@ -30,6 +30,7 @@ use Rattle.mur_model.specs.Append.{append, append_as, append_by, new_message}
 use Rattle.mur_model.specs.AtOnce.{is_done}
 use Rattle.mur_model.specs.Close.{left_by}
 use Rattle.mur_model.specs.Create.{create, create_as, create_by, create_meant, is_inbox, without_separator}
+use Rattle.mur_model.specs.Delete.{delete, delete_as, delete_by}
 use Rattle.mur_model.specs.Expunge.{expunge, expunge_named}
 use Rattle.mur_model.specs.Fetch.{fetch_named}
 use Rattle.mur_model.specs.Keys.{have_all_numbers, keys_at}
@@ -115,6 +116,17 @@ create_is setting user name true fault = refl
 create_is setting user name false (Some fault) = refl
 create_is setting user name false None = create_by_is name (may_create setting.users user name)
 
+delete_by_is : (name : List ℕ) (may : Bool) → NeedWantsNone (delete_by name may)
+unfolding delete_by wants_cause
+delete_by_is name true = tt
+delete_by_is name false = refl
+
+delete_is : (setting : Setting) (user name : List ℕ) (inbox : Bool) (fault : Option NameFault) → NeedWantsNone (delete_as setting user name inbox fault)
+unfolding delete_as wants_cause
+delete_is setting user name true fault = refl
+delete_is setting user name false (Some fault) = refl
+delete_is setting user name false None = delete_by_is name (has_rights setting.users user name)
+
 append_by_is : (name : List ℕ) (message : Message) (may : Bool) → NeedWantsNone (append_by name message may)
 unfolding append_by wants_cause
 append_by_is name message true = tt
@@ -154,11 +166,13 @@ list_is setting user reference mailbox =
     either (asks_separator mailbox) separator_told (Names (listing_by setting user (pattern_of reference mailbox))) refl tt
 
 begun_is : (setting : Setting) (user : List ℕ) (is_selected : Bool) (it : Command) → NeedWantsNone (need_begun setting user is_selected it)
-unfolding need_begun create create_meant append status select wants_cause
+unfolding need_begun create create_meant delete append status select wants_cause
 begun_is setting user is_selected (command.List reference mailbox) = list_is setting user reference mailbox
 begun_is setting user is_selected (command.Create text) =
     let meant = without_separator text in
     create_is setting user (taken_name user meant) (is_inbox meant) (mail_name_fault (taken_name user meant))
+begun_is setting user is_selected (command.Delete text) =
+    delete_is setting user (taken_name user text) (is_inbox text) (mail_name_fault (taken_name user text))
 begun_is setting user is_selected (command.Append text flags date body) =
     append_is setting user (taken_name user text) (new_message setting flags date body) (mail_name_fault (taken_name user text))
 begun_is setting user is_selected (command.Status text items) =

@@ -1,5 +1,5 @@
 -- Once it was answered OK a command that tells it all, a client knows its mailbox as it is.
-use Rattle.std.proofs.Common.{◌≡◌, ℕ, ◌==◌, Bool, true, false, if◌then◌else◌, List, [], length, Option, None, Some, refl, sym, ◌∙◌, ap, subst, arith}
+use Rattle.std.proofs.Common.{◌≡◌, ℕ, ◌==◌, Bool, true, false, if◌then◌else◌, List, [], length, Option, None, Some, refl, ◌∙◌, ap, subst, arith}
 use Rattle.std.specs.Prelude.{⊤, IfSome}
 use Rattle.std.specs.Cmp.Lexicographic.{slice_cmp}
 use Rattle.std.specs.Ordering.{nat_cmp}
@@ -36,7 +36,7 @@ use Rattle.mur_model.specs.Expunge.{expunge_named}
 use Rattle.mur_model.specs.Fetch.{each_once, fetch_at, fetch_named, flag_uids, sees, seen_flags}
 use Rattle.mur_model.specs.History.{Course, IsLegal, Talk}
 use Rattle.mur_model.specs.Keys.{have_all_numbers, keys_at}
-use Rattle.mur_model.specs.Left.{Left, Worked, box_after, kept, made, changed, store_after}
+use Rattle.mur_model.specs.Left.{Left, Worked, box_after, kept, made, changed, removed, store_after}
 use Rattle.mur_model.specs.NamedRows.{last_uid, named_uids, names_messages}
 use Rattle.mur_model.specs.Needed.{Needed, Refusal, at_mailbox, no_such_number, read_only}
 use Rattle.mur_model.specs.News.{news}
@@ -44,7 +44,7 @@ use Rattle.mur_model.specs.Selected.{rows_of}
 use Rattle.mur_model.specs.Store.{box_at}
 use Rattle.mur_model.specs.StoreFlags.{store_named, stored_at}
 use Rattle.mur_model.specs.Traits.{is_in, may_be, traits_of}
-use Rattle.mur_model.specs.Viewing.{viewed_on, work_there}
+use Rattle.mur_model.specs.Viewing.{found_gone, viewed_on, work_there}
 use Rattle.store_law.specs.Mirror.{Mirror, OfView, mirror_of}
 use Rattle.store_law.specs.NewsTold.{IsToldAll, KnowsAll, NewsAreTold, tells_all}
 use Rattle.store_law.proofs.BoxesGrow.{Grows, LeftGrows, there_grows}
@@ -54,7 +54,7 @@ use Rattle.store_law.proofs.MirrorSteps.{act_keeps}
 use Rattle.store_law.proofs.NewsWhole.{Covers, told_whole}
 use Rattle.store_law.proofs.RisingStores.{AllRise, Rises, box_rises, expunged_rises, points_rise, stored_rises}
 use Rattle.store_law.proofs.RisingViews.{rows_rise}
-use Rattle.store_law.proofs.ViewsCover.{CoversBox, IsCovered, grown_covers, none_covered, points_covered}
+use Rattle.store_law.proofs.ViewsCover.{AllGiven, CoversBox, IsCovered, grown_covers, none_covered, points_covered}
 
 -- the session's view is its mailbox
 record IsWhole (view : View) (later : Store) (session : Sess) : Type 0 where
@@ -88,6 +88,7 @@ module _ (store : Store) (view : View) (code : Code) (name : List ℕ) where
           (told_whole view.rows (rows_of box) box.next covers told (rows_rise box rising));
     }
     told_is (made other) true told e grows rising = absurd grows
+    told_is removed true told e grows rising = absurd grows
     told_is (changed later) true told e grows rising = record {
       box = later;
       there = value_at-with_value (slice_cmp nat_cmp) names_apart store.boxes view.name later box at;
@@ -130,11 +131,19 @@ module _ (store : Store) (view : View) (code : Code) (name : List ℕ) where
     there_is (view_work.Fetch it) tells ok = fetched_is it (sees view it) refl tells (there_grows view (view_work.Fetch it) box)
     there_is (view_work.Search it) tells ok = told_is kept it.by_uid [] tells tt rises
 
-    found_is : (work : ViewWork) → TellsAll work → Leaves (viewed_on view work (Some box))
-    unfolding viewed_on
-    found_is work tells ok =
-        let meets : (box.serial == view.serial) ≡ true = grind (arith, nat_tests, same) in
-        rw meets (there_is work tells (rw meets at ok))
+  found_is : (found : Option Content) → box_at store view.name ≡ found → IfSome found Rises → CoversBox store view → (work : ViewWork) → TellsAll work
+      → (viewed_on view work found).turn.reply.verdict ≡ ok_reply code name
+      → IsWhole view (store_after store view.name (viewed_on view work found).left) (session_after (selected view) (viewed_on view work found).turn.session)
+  unfolding viewed_on
+  found_is None at rises it work tells ok = cc
+  found_is (Some box) at rises it work tells ok = by (box.serial == view.serial) refl ok
+    where
+      by : (meets : Bool) → (box.serial == view.serial) ≡ meets → let worked = if meets then work_there view work box else found_gone in
+          worked.turn.reply.verdict ≡ ok_reply code name
+          → IsWhole view (store_after store view.name worked.left) (session_after (selected view) worked.turn.session)
+      by true e ok =
+          let same : box.serial ≡ view.serial = grind (arith, nat_tests, e) in there_is box rises at same (it.covers box at same) work tells ok
+      by false e ok = cc
 
   module _ (rise : AllRise store) (it : CoversBox store view) (serial : ℕ) where
     -- what a need leaves where it was answered OK
@@ -148,11 +157,7 @@ module _ (store : Store) (view : View) (code : Code) (name : List ℕ) where
 
     view_does : (work : ViewWork) → TellsAll work → Does (at_mailbox view work)
     unfolding act_by work_on
-    view_does work tells = subst
-        (λ (found : Option Content). (viewed_on view work found).turn.reply.verdict ≡ ok_reply code name
-        → IsWhole view (store_after store view.name (viewed_on view work found).left) (session_after (selected view) (viewed_on view work found).turn.session))
-        (sym it.there)
-        (found_is it.box (subst (λ (found : Option Content). IfSome found Rises) it.there (box_rises store view.name rise)) it.there it.same it.covers work tells)
+    view_does work tells = found_is (box_at store view.name) refl (box_rises store view.name rise) it work tells
 
     number_does : Does no_such_number
     unfolding act_by
@@ -213,9 +218,9 @@ told_all setting store mirror (selected view) rise agrees covered =
     (act_keeps Agrees keeps_mirror setting store (selected view) it serial mirror rise agrees)
 
 pub news_are_told : (setting : Setting) (first : Course) (talk : Talk) (points : List Point) (last : Course) → IsLegal setting first talk points last
-    → AllRise first.store → ((conn : ℕ) → first.sessions conn ≡ Off) → NewsAreTold setting talk points last
-news_are_told setting first talk points last legal rise off = λ conn loses_none.
+    → AllRise first.store → AllGiven first.store → ((conn : ℕ) → first.sessions conn ≡ Off) → NewsAreTold setting talk points last
+news_are_told setting first talk points last legal rise given off = λ conn loses_none.
     told_all setting last.store (mirror_of [] (talk.requests conn) (talk.answers conn)) (last.sessions conn)
     (points_rise setting talk first last points legal.follows rise)
     (mirrored Agrees keeps_mirror setting first talk points last legal rise conn (off conn) loses_none)
-    (points_covered setting talk first last points legal.follows rise (none_covered first.store first.sessions off) conn)
+    (points_covered setting talk first last points legal.follows rise given (none_covered first.store first.sessions off) conn)

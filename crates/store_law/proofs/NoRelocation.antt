@@ -9,7 +9,7 @@ use Rattle.mail_store.specs.declared.fault.StoreFault.{StoreFault}
 use Rattle.imap_types.specs.declared.command.StatusItem.{StatusItem}
 use Rattle.mur_model.specs.declared.commands.fetch.Fetching.{Fetching}
 use Rattle.mur_model.specs.Listing.{list_reply}
-use Rattle.mur_model.specs.Needed.{Needed, Refusal, Turned, Mailbox, Names, Work, Make, Append as append_work, Status as status_work, Select as select_work, Viewed as viewed_work}
+use Rattle.mur_model.specs.Needed.{Needed, Refusal, Turned, Mailbox, Names, Work, Make, Delete as delete_work, Append as append_work, Status as status_work, Select as select_work, Viewed as viewed_work}
 use Rattle.mur_model.specs.declared.work.ViewWork.{ViewWork}
 use Rattle.mur_model.specs.declared.work.ViewWork.TheVariants as view_work
 use Rattle.imap_types.specs.declared.request.Answer.{Answer}
@@ -25,6 +25,7 @@ use Rattle.mur_model.specs.Act.{act_by, act_of, need_of, work_on}
 use Rattle.mur_model.specs.Answer.{answer_of}
 use Rattle.mur_model.specs.Append.{append_on, append_reply, append_to}
 use Rattle.mur_model.specs.Create.{create_on, make}
+use Rattle.mur_model.specs.Delete.{delete_on}
 use Rattle.mur_model.specs.Fetch.{fetch_at, fetch_told, seen_flags, sees}
 use Rattle.mur_model.specs.Left.{Worked, changed, kept}
 use Rattle.mur_model.specs.Select.{select_on}
@@ -52,6 +53,11 @@ created_is : (name : List ℕ) (serial : ℕ) (full : Bool) (box : Option Conten
 unfolding create_on wants_cause
 created_is name serial full (Some there) = refl
 created_is name serial full None = made_is name serial full
+
+deleted_is : (box : Option Content) → WorkWantsNone (delete_on box)
+unfolding delete_on wants_cause
+deleted_is None = refl
+deleted_is (Some there) = refl
 
 appended_by : (message : Message) (box : Content) (fault : Option StoreFault) → WorkWantsNone (append_to message box fault)
 unfolding append_to append_reply wants_cause
@@ -100,6 +106,7 @@ viewed_is view work (Some box) = either_work (box.serial == view.serial) (work_t
 work_is : (name : List ℕ) (work : Work) (serial : ℕ) (full : Bool) (box : Option Content) → WorkWantsNone (work_on name work serial full box)
 unfolding work_on
 work_is name Make serial full box = created_is name serial full box
+work_is name delete_work serial full box = deleted_is box
 work_is name (append_work message) serial full box = appended_is message box
 work_is name (status_work shown items) serial full box = counted_is shown items box
 work_is name (select_work it) serial full box = opened_is it name box

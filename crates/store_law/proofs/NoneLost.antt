@@ -1,4 +1,4 @@
--- Where each mailbox of a store has its UIDs below its UIDNEXT, no command loses a message or a flag of one.
+-- Where each mailbox of a store has its UIDs below its UIDNEXT, no command loses a mailbox, a message or a flag of one.
 use Rattle.std.proofs.Math.Logic.{⊎_elim}
 use Rattle.std.proofs.Common.{◌≡◌, ◌≢◌, ℕ, ◌==◌, ◌&&◌, ◌||◌, Bool, true, false, if◌then◌else◌, List, [], ◌∷◌, Option, None, Some}
 use Rattle.std.proofs.Common.{inl, inr, refl, sym, ◌∙◌, ap, subst, arith}
@@ -24,7 +24,7 @@ use Rattle.mail_store.proofs.FollowsLaws.{appended_follows, stored_follows, expu
 use Rattle.mur_base.proofs.MapLaws.{names_apart, same_or_other, value_at-with_value, value_at-with_value-other, value_at-with_entry-other}
 use Rattle.imap_types.specs.declared.command.Command.{Command}
 use Rattle.mur_model.specs.declared.commands.fetch.Fetching.{Fetching}
-use Rattle.mur_model.specs.Needed.{Needed, Refusal, Turned, Mailbox, Names, Work, Make, Append as append_work, Status as status_work, Select as select_work, Viewed as viewed_work}
+use Rattle.mur_model.specs.Needed.{Needed, Refusal, Turned, Mailbox, Names, Work, Make, Delete as delete_work, Append as append_work, Status as status_work, Select as select_work, Viewed as viewed_work}
 use Rattle.mur_model.specs.declared.work.ViewWork.{ViewWork}
 use Rattle.mur_model.specs.declared.work.ViewWork.TheVariants as view_work
 use Rattle.mur_model.specs.declared.session.Sess.{Sess}
@@ -35,14 +35,16 @@ use Rattle.mur_model.specs.declared.view.View.{View}
 use Rattle.mur_model.specs.Act.{act_by, act_of, need_of, work_on}
 use Rattle.mur_model.specs.Append.{append_on, append_to}
 use Rattle.mur_model.specs.Create.{create_on, make}
+use Rattle.mur_model.specs.Delete.{delete_on}
 use Rattle.mur_model.specs.Fetch.{fetch_at, is_body, seen_flags, sees}
-use Rattle.mur_model.specs.Left.{Left, Worked, kept, made, changed, store_after}
+use Rattle.mur_model.specs.Left.{Left, Worked, kept, made, changed, removed, store_after}
 use Rattle.mur_model.specs.Select.{select_on}
 use Rattle.mur_model.specs.Status.{status_on}
-use Rattle.mur_model.specs.Store.{box_at, is_full, with_box, with_new_box}
+use Rattle.mur_model.specs.Store.{box_at, is_full, with_box, with_new_box, without_box}
 use Rattle.mur_model.specs.StoreFlags.{stored_at}
 use Rattle.mur_model.specs.Viewing.{found_gone, viewed_on, work_there}
-use Rattle.store_law.specs.NoneLost.{AllGoOn, BoxGoesOn, ChangesOne, Expunges, GoesOnAt, LosesNone, MayChange, MayLabel, MessageGoesOn}
+use Rattle.mur_model.proofs.BoxGone.{box_gone, others_there}
+use Rattle.store_law.specs.NoneLost.{AllGoOn, BoxGoesOn, ChangesOne, Deletes, Expunges, GoesOnAt, LosesNone, MayChange, MayLabel, MessageGoesOn}
 use Rattle.store_law.proofs.MessagesLeft.{IsLeftBy, IsStoredFlags, IsWithFlags, expunged_left, stored_left, uid_of_found}
 use Rattle.store_law.proofs.NeedsFit.{Fits, FitsView, FitsWork, IsMeant, need_fits}
 use Rattle.store_law.proofs.RisingStores.{Rises}
@@ -137,6 +139,7 @@ module _ (session : Sess) (it : Command) (name : List ℕ) where
   LeavesIt box kept = Unit {0}
   LeavesIt box (made content) = ⊥
   LeavesIt box (changed content) = BoxGoesOn session it name box content
+  LeavesIt box removed = Deletes session it name
 
   either_leaves : (box : Content) (test : Bool) (one other : Worked) → (test ≡ true → LeavesIt box one.left) → LeavesIt box other.left
       → LeavesIt box (if test then one else other).left
@@ -190,8 +193,9 @@ module _ (session : Sess) (it : Command) (name : List ℕ) where
 
   work_leaves : (work : Work) (serial : ℕ) (full : Bool) (box : Content) → IsNumbered box → FitsWork session it name work
       → LeavesIt box (work_on name work serial full (Some box)).left
-  unfolding work_on create_on append_on status_on select_on
+  unfolding work_on create_on delete_on append_on status_on select_on
   work_leaves Make serial full box numbered fits = tt
+  work_leaves delete_work serial full box numbered fits = fits
   work_leaves (append_work message) serial full box numbered fits = append_leaves message box (append_fault box (message ∷ [])) numbered.0
   work_leaves (status_work shown items) serial full box numbered fits = tt
   work_leaves (select_work opened) serial full box numbered fits = tt
@@ -203,6 +207,7 @@ abbrev NoneChanged : Left → Type 0
 NoneChanged kept = Unit {0}
 NoneChanged (made content) = Unit {0}
 NoneChanged (changed content) = ⊥
+NoneChanged removed = ⊥
 
 made_changes_none : (name : List ℕ) (serial : ℕ) (full : Bool) → NoneChanged (make name serial full).left
 unfolding make
@@ -210,8 +215,9 @@ made_changes_none name serial true = tt
 made_changes_none name serial false = tt
 
 work_changes_none : (name : List ℕ) (work : Work) (serial : ℕ) (full : Bool) → NoneChanged (work_on name work serial full None).left
-unfolding work_on create_on append_on status_on select_on viewed_on
+unfolding work_on create_on delete_on append_on status_on select_on viewed_on
 work_changes_none name Make serial full = made_changes_none name serial full
+work_changes_none name delete_work serial full = tt
 work_changes_none name (append_work message) serial full = tt
 work_changes_none name (status_work shown items) serial full = tt
 work_changes_none name (select_work opened) serial full = tt
@@ -251,12 +257,24 @@ module _ (session : Sess) (it : Command) where
       (value_at-with_entry-other (slice_cmp nat_cmp) names_apart store.boxes name other content ne))
       (same_or_other (slice_cmp nat_cmp) names_apart other name)
 
+  gone_goes_on : (name : List ℕ) (found later : Option Content) → later ≡ None → Deletes session it name → IfSome found (λ b. GoesOnAt session it name b later)
+  gone_goes_on name None later gone deletes = tt
+  gone_goes_on name (Some box) later gone deletes = subst (GoesOnAt session it name box) (sym gone) deletes
+
+  removed_goes_on : (store : Store) (name : List ℕ) → Deletes session it name → AllGoOn session it store (without_box store name)
+  removed_goes_on store name deletes = λ other. ⊎_elim
+      (λ (e : other ≡ name). subst (λ n. IfSome (box_at store n) (λ b. GoesOnAt session it n b (box_at (without_box store name) n))) (sym e)
+      (gone_goes_on name (box_at store name) (box_at (without_box store name) name) (box_gone store name) deletes))
+      (λ (ne : other ≢ name). same_goes_on other (box_at store other) (box_at (without_box store name) other) (others_there store name other ne))
+      (same_or_other (slice_cmp nat_cmp) names_apart other name)
+
   left_goes_on : (store : Store) (name : List ℕ) (box : Content) (left : Left) → box_at store name ≡ Some box → LeavesIt session it name box left
       → AllGoOn session it store (store_after store name left)
   unfolding store_after
   left_goes_on store name box kept at leaves = still_there store
   left_goes_on store name box (made content) at leaves = absurd leaves
   left_goes_on store name box (changed content) at leaves = changed_goes_on store name box content at leaves
+  left_goes_on store name box removed at leaves = removed_goes_on store name leaves
 
   none_goes_on : (store : Store) (name : List ℕ) (left : Left) → box_at store name ≡ None → NoneChanged left
       → AllGoOn session it store (store_after store name left)
@@ -264,6 +282,7 @@ module _ (session : Sess) (it : Command) where
   none_goes_on store name kept none changes = still_there store
   none_goes_on store name (made content) none changes = made_goes_on store name content none
   none_goes_on store name (changed content) none changes = absurd changes
+  none_goes_on store name removed none changes = absurd changes
 
   work_goes_on : (store : Store) (name : List ℕ) (work : Work) (serial : ℕ) (found : Option Content) → IfSome found IsNumbered
       → box_at store name ≡ found → FitsWork session it name work
@@ -288,6 +307,7 @@ unfolding store_after
 others_stay store name kept other ne = refl
 others_stay store name (made content) other ne = value_at-with_entry-other (slice_cmp nat_cmp) names_apart store.boxes name other content ne
 others_stay store name (changed content) other ne = value_at-with_value-other (slice_cmp nat_cmp) names_apart store.boxes name other content ne
+others_stay store name removed other ne = others_there store name other ne
 
 act_changes_one : (store : Store) (session : Sess) (serial : ℕ) (need : Needed) → ChangesOne store (act_by store session serial need).store
 unfolding act_by

@@ -12,7 +12,7 @@ use Rattle.mur_base.specs.Names.{mail_name_fault}
 use Rattle.mur_base.specs.declared.name.NameFault.{NameFault}
 use Rattle.imap_types.specs.declared.command.Command.{Command}
 use Rattle.imap_types.specs.declared.command.Command.TheVariants as command
-use Rattle.mur_model.specs.Needed.{Needed, Refusal, Turned, Mailbox, Names, Work, Make, Append as append_work, Status as status_work, Select as select_work, Viewed as viewed_work}
+use Rattle.mur_model.specs.Needed.{Needed, Refusal, Turned, Mailbox, Names, Work, Make, Delete as delete_work, Append as append_work, Status as status_work, Select as select_work, Viewed as viewed_work}
 use Rattle.mur_model.specs.declared.commands.fetch.Fetching.{Fetching}
 use Rattle.mur_model.specs.declared.commands.store.FlagStore.{FlagStore}
 use Rattle.mur_model.specs.declared.session.Sess.{Sess}
@@ -25,6 +25,7 @@ use Rattle.mur_model.specs.declared.work.ViewWork.TheVariants as view_work
 use Rattle.mur_model.specs.Act.{act_by, act_of, need_begun, need_in, need_of, need_selected, need_taken, session_after, work_on}
 use Rattle.mur_model.specs.Append.{append_on, append_to}
 use Rattle.mur_model.specs.Create.{create_on, make}
+use Rattle.mur_model.specs.Delete.{delete_on}
 use Rattle.mur_model.specs.Fetch.{fetch_at, fetch_told, sees, seen_flags}
 use Rattle.mur_model.specs.Left.{Worked, kept, changed}
 use Rattle.mur_model.specs.Rights.{has_rights}
@@ -176,9 +177,11 @@ module _ (store : Store) (session : Sess) (it : Command) (serial : ℕ) (to_chan
     (no_select : (is_writable : Bool) → Selects it is_writable → ⊥) where
   work_behind : (name : List ℕ) (work : Work) (full : Bool) (found : Option Content) → IsOfWork session work → FitsWork session it name work
       → IsOpenedSo to_change (session_after session (work_on name work serial full found).turn.session)
-  unfolding work_on create_on append_on status_on IsOfWork IsOpenedSo
+  unfolding work_on create_on delete_on append_on status_on IsOfWork IsOpenedSo
   work_behind name Make full None own fits = none_behind to_change session _ is (made_none name serial full)
   work_behind name Make full (Some box) own fits = is
+  work_behind name delete_work full None own fits = is
+  work_behind name delete_work full (Some box) own fits = is
   work_behind name (append_work message) full None own fits = is
   work_behind name (append_work message) full (Some box) own fits =
       none_behind to_change session _ is (appended_none message box (append_fault box (message ∷ [])))

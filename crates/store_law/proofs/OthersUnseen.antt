@@ -22,12 +22,14 @@ use Rattle.mur_model.specs.Act.{Acted, act_by, act_of, need_of, session_after, w
 use Rattle.mur_model.specs.Answer.{answer_of}
 use Rattle.mur_model.specs.Append.{append_on}
 use Rattle.mur_model.specs.Create.{create_on}
+use Rattle.mur_model.specs.Delete.{delete_on}
 use Rattle.mur_model.specs.Select.{select_on}
 use Rattle.mur_model.specs.Status.{status_on}
 use Rattle.mur_model.specs.Viewing.{viewed_on}
-use Rattle.mur_model.specs.Left.{Left, Worked, kept, made, changed, store_after}
-use Rattle.mur_model.specs.Needed.{Needed, Refusal, Turned, Mailbox, Names, Work, Make, Append as append_work, Status as status_work, Select as select_work, Viewed as viewed_work}
+use Rattle.mur_model.specs.Left.{Left, Worked, kept, made, changed, removed, store_after}
+use Rattle.mur_model.specs.Needed.{Needed, Refusal, Turned, Mailbox, Names, Work, Make, Delete as delete_work, Append as append_work, Status as status_work, Select as select_work, Viewed as viewed_work}
 use Rattle.mur_model.specs.Store.{box_at, is_full}
+use Rattle.mur_model.proofs.BoxGone.{box_gone, others_there}
 use Rattle.store_law.specs.OthersUnseen.{Creates, HasOwnSelected, IsAlike, IsAnsweredAlike, IsCreate, IsFull, KeepsToItsOwn, MayMake, MayUse}
 use Rattle.store_law.proofs.ListedAlike.{both_or_neither, replied_alike}
 use Rattle.store_law.proofs.NoneLost.{others_stay}
@@ -54,6 +56,7 @@ same_work : (users : List User) (session : Sess) (it : Command) (name : List ℕ
     → (Creates it → full ≡ other) → (box : Option Content) → work_on name work serial full box ≡ work_on name work serial other box
 unfolding work_on
 same_work users session it name Make own serial full other same box = ap (λ s. create_on name serial s box) (same own.0)
+same_work users session it name delete_work own serial full other same box = refl
 same_work users session it name (append_work message) own serial full other same box = refl
 same_work users session it name (status_work shown items) own serial full other same box = refl
 same_work users session it name (select_work opened) own serial full other same box = refl
@@ -86,6 +89,10 @@ left_alike store other at name (changed box) here is =
     ⊎_elim (λ (e : name ≡ at). rw e (found_then store.boxes at box ∙ ap (option_map (λ _. box)) here ∙ sym (found_then other.boxes at box)))
     (λ (ne : name ≢ at). value_at-with_value-other (slice_cmp nat_cmp) names_apart store.boxes at name box ne ∙ is
     ∙ sym (value_at-with_value-other (slice_cmp nat_cmp) names_apart other.boxes at name box ne))
+    (same_or_other (slice_cmp nat_cmp) names_apart name at)
+left_alike store other at name removed here is =
+    ⊎_elim (λ (e : name ≡ at). rw e (box_gone store at ∙ sym (box_gone other at)))
+    (λ (ne : name ≢ at). others_there store at name ne ∙ is ∙ sym (others_there other at name ne))
     (same_or_other (slice_cmp nat_cmp) names_apart name at)
 
 -- ---- a command in two stores
@@ -130,8 +137,9 @@ act_leaves users session it store serial (Mailbox at work) own name barred =
 -- where there is no mailbox, only work that makes one leaves one
 none_left : (users : List User) (session : Sess) (it : Command) (name : List ℕ) (work : Work) (serial : ℕ) (full : Bool)
     → IsOwnWork users session it name work → ¬ MayMake users session name → (work_on name work serial full None).left ≡ kept
-unfolding work_on append_on status_on select_on viewed_on
+unfolding work_on delete_on append_on status_on select_on viewed_on
 none_left users session it name Make serial full own barred = absurd (barred own.1)
+none_left users session it name delete_work serial full own barred = refl
 none_left users session it name (append_work message) serial full own barred = refl
 none_left users session it name (status_work shown items) serial full own barred = refl
 none_left users session it name (select_work opened) serial full own barred = refl

@@ -26,13 +26,14 @@ use Rattle.mur_model.specs.Append.{append, append_as, append_by, new_message}
 use Rattle.mur_model.specs.AtOnce.{is_done}
 use Rattle.mur_model.specs.Close.{left_by}
 use Rattle.mur_model.specs.Create.{create, create_as, create_by, create_meant, is_inbox, without_separator}
+use Rattle.mur_model.specs.Delete.{delete, delete_as, delete_by}
 use Rattle.mur_model.specs.Expunge.{expunge, expunge_named}
 use Rattle.mur_model.specs.Fetch.{fetch_named}
 use Rattle.mur_model.specs.Keys.{have_all_numbers, keys_at}
 use Rattle.mur_model.specs.Left.{replied}
 use Rattle.mur_model.specs.Listing.{list, listing_by, separator_told, tells}
 use Rattle.mur_model.specs.NamedRows.{last_uid, names_messages}
-use Rattle.mur_model.specs.Needed.{Needed, Refusal, Turned, Mailbox, Names, Work, Make, Append as append_work, Status as status_work, Select as select_work, Viewed as viewed_work, at_mailbox, no_such_number, read_only}
+use Rattle.mur_model.specs.Needed.{Needed, Refusal, Turned, Mailbox, Names, Work, Make, Delete as delete_work, Append as append_work, Status as status_work, Select as select_work, Viewed as viewed_work, at_mailbox, no_such_number, read_only}
 use Rattle.mur_model.specs.Rights.{has_rights, may_create}
 use Rattle.mur_model.specs.Select.{opening, select, select_as, select_by}
 use Rattle.mur_model.specs.Status.{status, status_as, status_by}
@@ -51,6 +52,7 @@ LeavesOwn users (Some later) = HasOwnSelected users later
 -- where the work makes a mailbox, its user may and asks for that; and who has rights on the one that it selects, or is of
 abbrev pub IsOwnWork : List User → Sess → Command → List ℕ → Work → Type 0
 IsOwnWork users session it name Make = Creates it × MayMake users session name
+IsOwnWork users session it name delete_work = ⊤
 IsOwnWork users session it name (append_work message) = ⊤
 IsOwnWork users session it name (status_work shown items) = ⊤
 IsOwnWork users session it name (select_work opened) = HasRightsOn users opened.user name
@@ -96,6 +98,19 @@ module _ (setting : Setting) (session : Sess) (user : List ℕ)
   create_own text name false (Some fault) = tt
   create_own text name false None = create_by_own text name (may_create setting.users user name) refl
 
+  delete_by_own : (it : Command) (name : List ℕ) (right : Bool) → has_rights setting.users user name ≡ right
+      → NeedsOwn setting.users session it (delete_by name right)
+  unfolding delete_by
+  delete_by_own it name true is = (may name (has_right setting.users user name is), tt)
+  delete_by_own it name false is = tt
+
+  delete_own : (it : Command) (name : List ℕ) (inbox : Bool) (fault : Option NameFault)
+      → NeedsOwn setting.users session it (delete_as setting user name inbox fault)
+  unfolding delete_as
+  delete_own it name true fault = tt
+  delete_own it name false (Some fault) = tt
+  delete_own it name false None = delete_by_own it name (has_rights setting.users user name) refl
+
   append_by_own : (it : Command) (name : List ℕ) (message : Message) (right : Bool) → has_rights setting.users user name ≡ right
       → NeedsOwn setting.users session it (append_by name message right)
   unfolding append_by
@@ -139,10 +154,12 @@ module _ (setting : Setting) (session : Sess) (user : List ℕ)
       (λ name is. may name (has_right setting.users user name is))
 
   begun_own : (is_selected : Bool) (it : Command) → NeedsOwn setting.users session it (need_begun setting user is_selected it)
-  unfolding need_begun create create_meant append status select HasOwnSelected
+  unfolding need_begun create create_meant delete append status select HasOwnSelected
   begun_own is_selected (command.Create text) =
       let meant = without_separator text in
       create_own text (taken_name user meant) (is_inbox meant) (mail_name_fault (taken_name user meant))
+  begun_own is_selected (command.Delete text) =
+      delete_own (command.Delete text) (taken_name user text) (is_inbox text) (mail_name_fault (taken_name user text))
   begun_own is_selected (command.Append text flags date body) =
       append_own (command.Append text flags date body) (taken_name user text) (new_message setting flags date body) (mail_name_fault (taken_name user text))
   begun_own is_selected (command.Status text items) =

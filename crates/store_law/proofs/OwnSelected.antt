@@ -27,11 +27,12 @@ use Rattle.mur_model.specs.Act.{act_by, act_of, need_of, session_after, work_on,
 use Rattle.mur_model.specs.Answer.{answer_of}
 use Rattle.mur_model.specs.Append.{append_on, append_to}
 use Rattle.mur_model.specs.Create.{create_on, make}
+use Rattle.mur_model.specs.Delete.{delete_on}
 use Rattle.mur_model.specs.Fetch.{fetch_at, sees}
 use Rattle.mur_model.specs.History.{Course, Talk, Follows, with_session}
 use Rattle.mur_model.specs.History.Follows.{no_points, a_reply, a_loss, a_refusal}
 use Rattle.mur_model.specs.Left.{Worked}
-use Rattle.mur_model.specs.Needed.{Needed, Refusal, Turned, Mailbox, Names, Work, Make, Append as append_work, Status as status_work, Select as select_work, Viewed as viewed_work}
+use Rattle.mur_model.specs.Needed.{Needed, Refusal, Turned, Mailbox, Names, Work, Make, Delete as delete_work, Append as append_work, Status as status_work, Select as select_work, Viewed as viewed_work}
 use Rattle.mur_model.specs.Relocation.{refused_for}
 use Rattle.mur_model.specs.Select.{select_on}
 use Rattle.mur_model.specs.Status.{status_on}
@@ -53,6 +54,11 @@ module _ (users : List User) where
   unfolding create_on
   created_own name serial full (Some there) = tt
   created_own name serial full None = made_own name serial full
+
+  deleted_own : (box : Option Content) → LeavesOwn users (delete_on box).turn.session
+  unfolding delete_on
+  deleted_own None = tt
+  deleted_own (Some there) = tt
 
   appended_own : (message : Message) (box : Content) (fault : Option StoreFault) → LeavesOwn users (append_to message box fault).turn.session
   unfolding append_to
@@ -111,6 +117,7 @@ module _ (users : List User) where
       → LeavesOwn users (work_on name work serial full box).turn.session
   unfolding work_on
   work_own session it name Make serial full box own = created_own name serial full box
+  work_own session it name delete_work serial full box own = deleted_own box
   work_own session it name (append_work message) serial full box own = append_own message box
   work_own session it name (status_work shown items) serial full box own = status_own shown items box
   work_own session it name (select_work opened) serial full box own = select_own opened name box own

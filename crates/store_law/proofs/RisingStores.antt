@@ -26,7 +26,7 @@ use Rattle.mail_store.specs.declared.fault.StoreFault.{StoreFault}
 use Rattle.mail_store.proofs.TouchedLaws.{next-flags, next-gone}
 use Rattle.mur_base.specs.declared.point.Point.{Point}
 use Rattle.mur_model.specs.declared.commands.fetch.Fetching.{Fetching}
-use Rattle.mur_model.specs.Needed.{Needed, Refusal, Turned, Mailbox, Names, Work, Make, Append as append_work, Status as status_work, Select as select_work, Viewed as viewed_work}
+use Rattle.mur_model.specs.Needed.{Needed, Refusal, Turned, Mailbox, Names, Work, Make, Delete as delete_work, Append as append_work, Status as status_work, Select as select_work, Viewed as viewed_work}
 use Rattle.mur_model.specs.declared.work.ViewWork.{ViewWork}
 use Rattle.mur_model.specs.declared.work.ViewWork.TheVariants as view_work
 use Rattle.imap_types.specs.declared.request.Request.{Request}
@@ -40,15 +40,17 @@ use Rattle.mur_model.specs.Act.{act_by, act_of, need_of, work_on}
 use Rattle.mur_model.specs.Answer.{answer_of}
 use Rattle.mur_model.specs.Append.{append_on, append_to}
 use Rattle.mur_model.specs.Create.{create_on, make}
+use Rattle.mur_model.specs.Delete.{delete_on}
 use Rattle.mur_model.specs.Fetch.{fetch_at, seen_flags, sees}
 use Rattle.mur_model.specs.History.{Course, Talk, Follows}
 use Rattle.mur_model.specs.History.Follows.{no_points, a_reply, a_loss, a_refusal}
-use Rattle.mur_model.specs.Left.{Left, Worked, kept, made, changed, store_after}
+use Rattle.mur_model.specs.Left.{Left, Worked, kept, made, changed, removed, store_after}
 use Rattle.mur_model.specs.Select.{select_on}
 use Rattle.mur_model.specs.Status.{status_on}
 use Rattle.mur_model.specs.Store.{box_at, empty_store, is_full}
 use Rattle.mur_model.specs.StoreFlags.{stored_at}
 use Rattle.mur_model.specs.Viewing.{found_gone, viewed_on, work_there}
+use Rattle.mur_model.proofs.BoxGone.{each_left}
 
 -- UIDs rise strictly from one on, and below another
 abbrev pub RisesTo : ℕ → List Message → ℕ → Type 0
@@ -147,6 +149,7 @@ abbrev pub LeftRises : Left → Type 0
 LeftRises kept = ⊤
 LeftRises (made box) = Rises box
 LeftRises (changed box) = Rises box
+LeftRises removed = ⊤
 
 made_rises : (name : List ℕ) (serial : ℕ) (full : Bool) → LeftRises (make name serial full).left
 unfolding make
@@ -183,13 +186,15 @@ there_rises view (view_work.Search asked) box rises = tt
 
 work_rises : (name : List ℕ) (work : Work) (serial : ℕ) (full : Bool) (found : Option Content) → IfSome found Rises
     → LeftRises (work_on name work serial full found).left
-unfolding work_on create_on append_on status_on select_on viewed_on
+unfolding work_on create_on delete_on append_on status_on select_on viewed_on
 work_rises name Make serial full None rises = made_rises name serial full
+work_rises name delete_work serial full None rises = tt
 work_rises name (append_work message) serial full None rises = tt
 work_rises name (status_work shown items) serial full None rises = tt
 work_rises name (select_work opened) serial full None rises = tt
 work_rises name (viewed_work view work) serial full None rises = tt
 work_rises name Make serial full (Some box) rises = tt
+work_rises name delete_work serial full (Some box) rises = tt
 work_rises name (append_work message) serial full (Some box) rises = append_rises message box (append_fault box (message ∷ [])) rises
 work_rises name (status_work shown items) serial full (Some box) rises = tt
 work_rises name (select_work opened) serial full (Some box) rises = tt
@@ -207,6 +212,7 @@ unfolding store_after
 left_rises store name kept is all = all
 left_rises store name (made box) is all = All-values-insert_entry (slice_cmp nat_cmp) name box Rises store.boxes all is
 left_rises store name (changed box) is all = All-values-set_value (is_at (slice_cmp nat_cmp name)) Rises store.boxes box all is
+left_rises store name removed is all = each_left (λ (e : List ℕ × Content). e.1) Rises store name all
 
 act_rises : (store : Store) (session : Sess) (serial : ℕ) (need : Needed) → AllRise store → AllRise (act_by store session serial need).store
 unfolding act_by

@@ -38,13 +38,14 @@ use Rattle.mur_model.specs.Append.{append, append_as, append_by, append_on, appe
 use Rattle.mur_model.specs.AtOnce.{is_done}
 use Rattle.mur_model.specs.Close.{left_by}
 use Rattle.mur_model.specs.Create.{create, create_as, create_by, create_meant, create_on, is_inbox, make, without_separator}
+use Rattle.mur_model.specs.Delete.{delete, delete_as, delete_by, delete_on}
 use Rattle.mur_model.specs.Expunge.{expunge_named}
 use Rattle.mur_model.specs.Fetch.{fetch_at, fetch_named, fetch_told, sees, seen_flags}
 use Rattle.mur_model.specs.Keys.{have_all_numbers, keys_at}
 use Rattle.mur_model.specs.Left.{Worked, kept, changed, replied}
 use Rattle.mur_model.specs.Listing.{list, listing_by, separator_told}
 use Rattle.mur_model.specs.NamedRows.{last_uid, names_messages}
-use Rattle.mur_model.specs.Needed.{Needed, Refusal, Turned, Mailbox, Names, Work, Make, Append as append_work, Status as status_work, Select as select_work, Viewed as viewed_work, at_mailbox, no_such_number, read_only}
+use Rattle.mur_model.specs.Needed.{Needed, Refusal, Turned, Mailbox, Names, Work, Make, Delete as delete_work, Append as append_work, Status as status_work, Select as select_work, Viewed as viewed_work, at_mailbox, no_such_number, read_only}
 use Rattle.mur_model.specs.Rights.{has_rights, may_create}
 use Rattle.mur_model.specs.Select.{opening, select, select_as, select_by, select_on}
 use Rattle.mur_model.specs.Selected.{rows_of}
@@ -81,6 +82,11 @@ created_on : (user name : List ℕ) (serial : ℕ) (full : Bool) (box : Option C
 unfolding create_on
 created_on user name serial full (Some there) = tt
 created_on user name serial full None = made_on user name serial full
+
+deleted_on : (user : List ℕ) (box : Option Content) → StaysOwn user (delete_on box).turn
+unfolding delete_on
+deleted_on user None = tt
+deleted_on user (Some there) = tt
 
 appended_by : (user : List ℕ) (message : Message) (box : Content) (fault : Option StoreFault) → StaysOwn user (append_to message box fault).turn
 unfolding append_to
@@ -143,6 +149,7 @@ work_stays : (user name : List ℕ) (work : Work) (serial : ℕ) (full : Bool) (
     → StaysOwn user (work_on name work serial full box).turn
 unfolding work_on IsWorkOf
 work_stays user name Make serial full box own = created_on user name serial full box
+work_stays user name delete_work serial full box own = deleted_on user box
 work_stays user name (append_work message) serial full box own = appended_on user message box
 work_stays user name (status_work shown items) serial full box own = counted_on user shown items box
 work_stays user name (select_work it) serial full box own = selected_on user it name box own
@@ -171,6 +178,17 @@ unfolding create_as IsNeedOf
 create_need_as setting user name true fault = tt
 create_need_as setting user name false (Some fault) = tt
 create_need_as setting user name false None = create_need user name (may_create setting.users user name)
+
+delete_need : (user name : List ℕ) (may : Bool) → IsNeedOf user (delete_by name may)
+unfolding delete_by IsNeedOf IsWorkOf
+delete_need user name true = tt
+delete_need user name false = tt
+
+delete_need_as : (setting : Setting) (user name : List ℕ) (inbox : Bool) (fault : Option NameFault) → IsNeedOf user (delete_as setting user name inbox fault)
+unfolding delete_as IsNeedOf
+delete_need_as setting user name true fault = tt
+delete_need_as setting user name false (Some fault) = tt
+delete_need_as setting user name false None = delete_need user name (has_rights setting.users user name)
 
 append_need : (user name : List ℕ) (message : Message) (may : Bool) → IsNeedOf user (append_by name message may)
 unfolding append_by IsNeedOf IsWorkOf
@@ -212,10 +230,12 @@ list_need setting user reference mailbox =
     either_need user (asks_separator mailbox) separator_told (Names (listing_by setting user (pattern_of reference mailbox))) tt refl
 
 begun_need : (setting : Setting) (user : List ℕ) (is_selected : Bool) (it : Command) → IsNeedOf user (need_begun setting user is_selected it)
-unfolding need_begun create create_meant append status select IsNeedOf
+unfolding need_begun create create_meant delete append status select IsNeedOf
 begun_need setting user is_selected (command.Create text) =
     let meant = without_separator text in
     create_need_as setting user (taken_name user meant) (is_inbox meant) (mail_name_fault (taken_name user meant))
+begun_need setting user is_selected (command.Delete text) =
+    delete_need_as setting user (taken_name user text) (is_inbox text) (mail_name_fault (taken_name user text))
 begun_need setting user is_selected (command.Append text flags date body) =
     let name = taken_name user text in
     append_need_as setting user name (new_message setting flags date body) (mail_name_fault name)

@@ -1,5 +1,5 @@
 -- What a command that was answered OK has done (RFC 9051, 7.1.1), said of the messages that the mailbox had and has, by their UIDs, and flag by flag.
-use Rattle.std.specs.Prelude.{◌≡◌, ◌≢◌, ◌⊎◌, ◌↔◌, ⊤, ℕ, true, false, List, [], ◌∷◌, ◌++◌, Option, None, Some}
+use Rattle.std.specs.Prelude.{◌≡◌, ◌≢◌, ◌⊎◌, ◌↔◌, ⊤, ℕ, true, false, List, [], ◌∷◌, ◌++◌, Option, None, Some, IsSome}
 use Rattle.std.specs.List.{Contains}
 use Rattle.mail_message.specs.Boxes.{Content}
 use Rattle.mail_message.specs.FlagSets.{Flags}
@@ -84,6 +84,16 @@ pub record Creates (session : Sess) (text : List ℕ) (store later : Store) : Ty
   pub spelled : SpellsName text name
   pub made : IsMadeAt (name_meant session name) store later
 
+-- ---- DELETE (RFC 9051, 6.3.5)
+
+pub record IsRemoved (name : List ℕ) (store later : Store) : Type 0 where
+  pub was : IsSome (box_at store name)
+  pub gone : box_at later name ≡ None
+
+abbrev pub IsRemovedAt : Option (List ℕ) → Store → Store → Type 0
+IsRemovedAt None store later = ⊥
+IsRemovedAt (Some name) store later = IsRemoved name store later
+
 -- ---- FETCH (RFC 9051, 6.4.5)
 
 -- BODY[], or a part of it, and not BODY.PEEK[]
@@ -104,9 +114,10 @@ pub record Fetches (IsNamed : ℕ → Type 0) (items : List Item) (view : View) 
 abbrev pub Everything : ℕ → Type 0
 Everything uid = ⊤
 
--- what the store is behind a command, by what it was (RFC 9051, 6.3.4, 6.4.1, 6.4.3, 6.4.5, 6.4.6 and 6.4.9)
+-- what the store is behind a command, by what it was (RFC 9051, 6.3.4, 6.3.5, 6.4.1, 6.4.3, 6.4.5, 6.4.6 and 6.4.9)
 abbrev pub IsDone : Sess → Command → Store → Store → Type 0
 IsDone session (command.Create text) store later = Creates session text store later
+IsDone session (command.Delete text) store later = IsRemovedAt (name_meant session text) store later
 IsDone session command.Close store later =
     InView (λ view. view.is_writable ≡ true → BoxBecomes (ExpungesNamed Everything) view store later) session
 IsDone session (command.Expunge None) store later = InView (λ view. BoxBecomes (ExpungesNamed Everything) view store later) session

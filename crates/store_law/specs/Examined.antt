@@ -21,10 +21,11 @@ unfoldable pub IsOpenedSo : Bool → Sess → Type 0
 IsOpenedSo to_change (selected view) = view.is_writable ≡ to_change
 IsOpenedSo to_change session = ⊤
 
--- an APPEND adds to whichever mailbox it names (RFC 9051, 6.3.12)
-unfoldable pub adds : Command → Bool
-adds (command.Append text flags date body) = true
-adds it = false
+-- an APPEND adds to whichever mailbox it names, and a DELETE deletes it (RFC 9051, 6.3.5 and 6.3.12)
+unfoldable pub changes_named : Command → Bool
+changes_named (command.Append text flags date body) = true
+changes_named (command.Delete text) = true
+changes_named it = false
 
 -- each mailbox that is there stays, whole
 abbrev pub AllStay : Store → Store → Type 0
@@ -35,6 +36,6 @@ pub record ReadsWhatIsExamined (setting : Setting) : Type 0 where
   -- where a mailbox is selected as the commands up to now say, it is so behind one more
   pub opens_as_asked : (store : Store) (session : Sess) (it : Command) (serial : ℕ) (to_change : Bool) → IsOpenedSo to_change session
       → IsOpenedSo (is_to_change to_change it) (act_of setting store session it serial).session
-  -- and a session that has one selected to be read changes none, that one or another, by any command but an APPEND
-  pub changes_none : (store : Store) (view : View) (it : Command) (serial : ℕ) → view.is_writable ≡ false → adds it ≡ false
+  -- and a session that has one selected to be read changes none, that one or another, by any command but an APPEND or a DELETE
+  pub changes_none : (store : Store) (view : View) (it : Command) (serial : ℕ) → view.is_writable ≡ false → changes_named it ≡ false
       → AllStay store (act_of setting store (selected view) it serial).store

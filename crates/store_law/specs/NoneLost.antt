@@ -1,4 +1,4 @@
--- No command loses a message of the store, or a flag of one, but where that is what the command is for (RFC 9051, 2.3.1.1 and 2.3.2).
+-- No command loses a mailbox or a message of the store, or a flag of one, but where that is what the command is for (RFC 9051, 2.3.1.1 and 2.3.2).
 use Rattle.std.specs.Prelude.{◌≡◌, ◌≢◌, ◌⊎◌, ⊤, ℕ, true, List, Option, None, Some, IfSome}
 use Rattle.std.specs.List.{Contains}
 use Rattle.mail_store.specs.Kept.{IsLaterContent}
@@ -7,6 +7,7 @@ use Rattle.mail_message.specs.FlagSets.{Flags}
 use Rattle.mail_message.specs.declared.message.Message.{Message}
 use Rattle.mail_message.specs.declared.message.Row.{Row}
 use Rattle.imap_types.specs.declared.command.Command.{Command}
+use Rattle.imap_types.specs.declared.command.Command.TheVariants as command
 use Rattle.mur_model.specs.declared.session.Sess.{Sess}
 use Rattle.mur_model.specs.declared.session.Sess.TheVariants.{Off, In, Selected as selected, Ended}
 use Rattle.mur_model.specs.declared.setting.Setting.{Setting}
@@ -15,6 +16,7 @@ use Rattle.mur_model.specs.Act.{act_of}
 use Rattle.mur_model.specs.NamedRows.{named_uids}
 use Rattle.mur_model.specs.Store.{box_at}
 use Rattle.mur_model.specs.Traits.{Change, Each, Labels, Named, Removes, These, effect_of}
+use Rattle.store_law.specs.Appended.{name_meant}
 
 unfoldable pub IsNamed : List Row → Named → ℕ → Type 0
 IsNamed rows Each uid = ⊤
@@ -59,9 +61,14 @@ pub record BoxGoesOn (session : Sess) (it : Command) (name : List ℕ) (box late
   pub messages : (uid : ℕ) (message : Message) → message_at box.messages uid ≡ Some message
       → MessageGoesOn session it name box message (message_at later.messages uid)
 
--- no mailbox goes away
+-- a DELETE of the mailbox that the session's user means by the text (RFC 9051, 6.3.5)
+unfoldable pub Deletes : Sess → Command → List ℕ → Type 0
+Deletes session (command.Delete text) name = name_meant session text ≡ Some name
+Deletes session it name = ⊥
+
+-- a mailbox goes away by a DELETE of it alone
 abbrev pub GoesOnAt : Sess → Command → List ℕ → Content → Option Content → Type 0
-GoesOnAt session it name box None = ⊥
+GoesOnAt session it name box None = Deletes session it name
 GoesOnAt session it name box (Some later) = BoxGoesOn session it name box later
 
 -- each mailbox goes on

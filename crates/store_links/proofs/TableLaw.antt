@@ -9,7 +9,8 @@ use Rattle.mur_base.specs.declared.home.Location.{Location}
 use Rattle.mur_base.proofs.MapLaws.{names_apart, same_or_other}
 use Rattle.mur_base.proofs.MapOrder.{with_entry-in_order, with_value-in_order}
 use Rattle.mur_model.specs.declared.store.Store.{Store}
-use Rattle.mur_model.specs.Store.{box_at}
+use Rattle.mur_model.specs.Store.{box_at, without_box}
+use Rattle.mur_model.proofs.BoxGone.{box_gone, others_there, without_box-in_order}
 use Rattle.node_record.specs.declared.held.Held.{Held}
 use Rattle.node_record.specs.declared.master.MasterRecord.{MasterRecord}
 use Rattle.node_record.specs.declared.master.MasterRecord.TheVariants as entry
@@ -20,12 +21,11 @@ use Rattle.node_record.specs.Held.{held_at}
 use Rattle.node_record.specs.Table.{Records, MailboxTable, is_mailbox_if, record_at, kept_state, moved, reserved_again, table_after}
 use Rattle.master_core.specs.Servers.{name_of}
 use Rattle.home_law.specs.ManyNames.{Mailbox}
-use Rattle.name_flows.proofs.NameMaps.{value_at-without_key-same, value_at-without_key-other}
 use Rattle.name_links.specs.Contents.{acl_in, HasAcl, content_in}
 use Rattle.name_links.proofs.LinesByName.{order_kept}
 use Rattle.name_links.proofs.StateTurn.{own_reserved, own_active, own_kept, own_deleted, record_other}
 use Rattle.store_links.specs.Shown.{Homes, content_at, IsMailboxOf, StateShows, RecordShows, NameShows, Shows}
-use Rattle.store_links.specs.TableEntries.{OthersStay, MakesNone, OthersMakeNone, without_box, IsRemoved, DeleteIsOne}
+use Rattle.store_links.specs.TableEntries.{OthersStay, MakesNone, OthersMakeNone, IsRemoved, DeleteIsOne}
 use Rattle.store_links.proofs.ShownLaw.{none_by, shows_as, record_of, mailbox_by, name_stays}
 
 -- ---- the table stays in order
@@ -100,24 +100,21 @@ others_make_none table homes store e shown none = by_name table homes store stor
 -- ---- DELETE
 
 module _ (table : MailboxTable) (homes : Homes) (store : Store) (n : Mailbox) (shown : Shows table homes store) where
-  pub gone : box_at (without_box store n) n ≡ None
-  gone = value_at-without_key-same store.boxes n shown.boxes_in_order
-
   pub others_left : OthersStay store (without_box store n) n
-  others_left m ne = value_at-without_key-other store.boxes n m (λ e. ne (sym e)) shown.boxes_in_order
+  others_left m ne = others_there store n m ne
 
   removed_shows : Shows (table_after table (entry.Deleted n)) homes (without_box store n)
   removed_shows =
       by_name table homes store (without_box store n) shown (entry.Deleted n)
-      (subst (λ (r : Option Record). RecordShows homes n (box_at (without_box store n) n) r) (sym (own_deleted table n shown.records_in_order)) gone)
-      others_left (order_kept n store.boxes shown.boxes_in_order)
+      (subst (λ (r : Option Record). RecordShows homes n (box_at (without_box store n) n) r) (sym (own_deleted table n shown.records_in_order)) (box_gone store n))
+      others_left (without_box-in_order store n shown.boxes_in_order)
 
   removed : (r : Option Record) → is_mailbox_if r ≡ true → RecordShows homes n (box_at store n) r → IsRemoved table homes store n
   removed None e s = cc
   removed (Some it) e s = by_state it.state refl s
     where
       by_acl : (acl : List ℕ) → IsMailboxOf (content_at homes (it.place).server n) (box_at store n) acl → IsRemoved table homes store n
-      by_acl acl is = record { box = is.content; was = is.in_store; gone = gone; shows = removed_shows; others = others_left }
+      by_acl acl is = record { box = is.content; was = is.in_store; gone = box_gone store n; shows = removed_shows; others = others_left }
 
       by_state : (z : State) → it.state ≡ z → StateShows (content_at homes (it.place).server n) (box_at store n) z → IsRemoved table homes store n
       by_state (Bare serial) f s = let no : is_mailbox_if (Some it) ≡ false = rw f refl in cc

@@ -1,14 +1,11 @@
 -- What the entries of the master's disk are to the one store. A CREATE is done where the master takes ACTIVATE of a name that never was active, a DELETE
 -- where it takes DELETE of a mailbox (RFC 3656, 4.1 and 4.4); no other entry makes or removes one.
 use Rattle.std.specs.Prelude.{◌≡◌, ◌≢◌, ℕ, false, List, ◌++◌, Option, None, Some}
-use Rattle.std.specs.Ordering.{nat_cmp}
-use Rattle.std.specs.Cmp.Lexicographic.{slice_cmp}
 use Rattle.mail_message.specs.Boxes.{Content, empty_box}
 use Rattle.mail_message.specs.FirstAcl.{first_acl}
-use Rattle.mur_base.specs.Map.{without_key}
 use Rattle.mur_base.specs.declared.home.Location.{Location}
 use Rattle.mur_model.specs.declared.store.Store.{Store}
-use Rattle.mur_model.specs.Store.{box_at, with_new_box, IsFree}
+use Rattle.mur_model.specs.Store.{box_at, with_new_box, IsFree, without_box}
 use Rattle.mupdate_codec.specs.declared.command.MCommand.{MCommand}
 use Rattle.mupdate_codec.specs.declared.tag.Tag.{Tag}
 use Rattle.node_record.specs.declared.master.MasterRecord.{MasterRecord}
@@ -76,10 +73,6 @@ OthersMakeNone = (table : MailboxTable) (homes : Homes) (store : Store) (it : Ma
     → Shows (table_after table it) homes store
 
 -- ---- DELETE
-
--- the store without a mailbox; its UIDVALIDITY stays given
-abbrev pub without_box : Store → Mailbox → Store
-without_box store n = record store { boxes = without_key (slice_cmp nat_cmp) store.boxes n }
 
 pub record IsRemoved (table : MailboxTable) (homes : Homes) (store : Store) (n : Mailbox) : Type 0 where
   pub box : Content

@@ -1,6 +1,6 @@
 -- What the place of a command tells: the one store has replied nothing to it, and what comes of the place is no reply; or the store has replied, and what
 -- comes of the place is that reply.
-use Rattle.std.specs.Prelude.{◌≡◌, ℕ, true, List, [], ◌∷◌, ◌++◌, Some}
+use Rattle.std.specs.Prelude.{◌≡◌, ℕ, true, List, [], ◌∷◌, ◌++◌, Option, None, Some}
 use Rattle.ask_routes.specs.declared.next.Why.{Why}
 use Rattle.asking_core.specs.Answered.{WentOn, answered}
 use Rattle.asking_core.specs.declared.waiting.At.{At}
@@ -16,7 +16,7 @@ use Rattle.master_core.specs.Refusals.{is_reserved}
 use Rattle.mupdate_codec.specs.declared.command.MResponse.{MResponse}
 use Rattle.mur_model.specs.Act.{session_after}
 use Rattle.mur_model.specs.Listing.{list_reply}
-use Rattle.mur_model.specs.Needed.{Make}
+use Rattle.mur_model.specs.Needed.{Work, Make, Delete as Remove}
 use Rattle.mur_model.specs.Relocation.{refused_for}
 use Rattle.mur_model.specs.declared.commands.list.Listing.{Listing}
 use Rattle.mur_model.specs.declared.session.Sess.{Sess}
@@ -24,11 +24,12 @@ use Rattle.mur_model.specs.declared.session.Turn.{Turn}
 use Rattle.name_commands.specs.Moves.{ends, heard_move}
 use Rattle.name_commands.specs.Moves.Move.{is_sent}
 use Rattle.name_commands.specs.Places.{NamePlace, NamePlace as name_at}
-use Rattle.name_flows.specs.declared.ask.AskKind.TheVariants.{Create}
+use Rattle.name_flows.specs.declared.ask.AskKind.{AskKind}
+use Rattle.name_flows.specs.declared.ask.AskKind.TheVariants.{Create, Delete}
 use Rattle.name_flows.specs.declared.ask.NameAsk.{NameAsk}
 use Rattle.name_flows.specs.declared.flow.Flow.{Flow}
 use Rattle.name_flows.specs.declared.flow.Stage.{Stage}
-use Rattle.name_flows.specs.declared.flow.Stage.TheVariants.{Reserving, Making}
+use Rattle.name_flows.specs.declared.flow.Stage.TheVariants.{Reserving, Making, Deactivating, Deleting}
 use Rattle.node_record.specs.Table.{MailboxTable, record_at}
 use Rattle.point_links.specs.AtHome.{IsElsewhere, its_ask}
 use Rattle.point_links.specs.Barriers.{decided}
@@ -72,22 +73,31 @@ Brings master first front c other turn = ⊥
 
 -- ---- it isn't: it waits on, or is refused once its frontend takes the master's OK
 
-abbrev pub is_of_create : Stage → Type 0
-is_of_create Reserving = Unit {0}
-is_of_create Making = Unit {0}
-is_of_create stage = ⊥
+-- which work a backend does with the master
+abbrev pub kind_of : Work → Option AskKind
+kind_of Make = Some Create
+kind_of Remove = Some Delete
+kind_of work = None
 
--- a CREATE that its backend was asked
+abbrev pub is_of_kind : AskKind → Stage → Type 0
+is_of_kind Create Reserving = Unit {0}
+is_of_kind Create Making = Unit {0}
+is_of_kind Delete Deactivating = Unit {0}
+is_of_kind Delete Deleting = Unit {0}
+is_of_kind kind stage = ⊥
+
+-- a CREATE or DELETE that its backend was asked
 pub record IsFlowOf (front : List ℕ) (c : ClientCommand) (name : List ℕ) (flow : Flow) : Type 0 where
-  pub makes : c.work ≡ Make
+  pub kind : AskKind
+  pub does : kind_of c.work ≡ Some kind
   pub name_is : name ≡ c.name
   pub front_is : flow.front ≡ front
   pub its : flow.ask ≡ c.id
-  pub stage : is_of_create flow.stage
+  pub stage : is_of_kind kind flow.stage
 
--- the ask of a CREATE
-abbrev pub create_ask : List ℕ → ClientCommand → NameAsk
-create_ask front c = record { front = front; id = c.id; name = c.name; kind = Create }
+-- its ask
+abbrev pub kind_ask : List ℕ → ClientCommand → AskKind → NameAsk
+kind_ask front c kind = record { front = front; id = c.id; name = c.name; kind = kind }
 
 -- the response to the line of its flow puts it off, or lets it send the next line
 pub data GoesOnAtResponse (name : List ℕ) (flow : Flow) (it : MResponse) : Type 0 where
@@ -96,7 +106,7 @@ pub data GoesOnAtResponse (name : List ℕ) (flow : Flow) (it : MResponse) : Typ
 
 abbrev pub undecided_at : List ℕ → ClientCommand → NamePlace → Type 0
 undecided_at front c name_at.nowhere = ⊥
-undecided_at front c (name_at.waits ask) = (c.work ≡ Make) × (ask ≡ create_ask front c)
+undecided_at front c (name_at.waits ask) = (kind : AskKind) × (kind_of c.work ≡ Some kind) × (ask ≡ kind_ask front c kind)
 undecided_at front c (name_at.sends name flow) = IsFlowOf front c name flow
 undecided_at front c (name_at.hears name flow it) = IsFlowOf front c name flow × GoesOnAtResponse name flow it
 

@@ -33,6 +33,7 @@ use Rattle.store_law.proofs.OpenedLaw.{reads_what_is_examined}
 use Rattle.store_law.proofs.OthersUnseen.{keeps_to_its_own}
 use Rattle.store_law.proofs.OwnSelected.{none_own, points_own}
 use Rattle.store_law.proofs.RisingStores.{Rises, box_rises, none_rises, points_rise, some_rising}
+use Rattle.store_law.proofs.ViewsCover.{none_given}
 use Rattle.cluster_core.specs.Heard.{heard}
 use Rattle.cluster_core.specs.LawSetting.{law_setting}
 use Rattle.cluster_core.specs.declared.world.World.{World}
@@ -112,7 +113,7 @@ told_so_far config steps talk before later are date_is silent earlier fits now l
           (none_own (law_setting config)) conn);
       lists = lists_mailboxes (law_setting config) legal.last.store;
       views_told = views_are_told (law_setting config) first_course (talk_told law.story) (history_of world) legal.last legal.legal none_rises (λ conn. refl);
-      news_told = news_are_told (law_setting config) first_course (talk_told law.story) (history_of world) legal.last legal.legal none_rises (λ conn. refl);
+      news_told = news_are_told (law_setting config) first_course (talk_told law.story) (history_of world) legal.last legal.legal none_rises none_given (λ conn. refl);
       low_serials = subst (λ (s : Store). All (λ (pair : Pair). pair.serial ≤ reserves_taken config before) s.given) (sym legal.same_store)
           (serials_are_low config are before law);
       lost_next = history.lost_next;

@@ -79,7 +79,7 @@ one_body front id one other outs first second is too =
 comes_for : (murder : Murder) (given : Given) (store : Store) (c : ClientCommand) (name : List ℕ) (node : BackNode) (front : List ℕ) (at : At)
     → AskComes murder given store c name node front → AskComes murder given store (waiting_at c at) name node front
 comes_for murder given store c name node front at comes =
-    record { no_make = comes.no_make; holds = comes.holds; there = comes.there; other = comes.other }
+    record { of_home = comes.of_home; holds = comes.holds; there = comes.there; other = comes.other }
 
 tells_all : (murder : Murder) (given : Given) (store : Store) (c : ClientCommand) (name : List ℕ) (node : BackNode) (front master : List ℕ)
     → AskComes murder given store c name node front → (is_here : is_open_here (held_at node.home c.name) ≡ true)

@@ -1,6 +1,6 @@
--- The master takes the line of a CREATE's flow. ACTIVATE, or a RESERVE that is refused for good, is the CREATE's point; a RESERVE whose OK lets its backend go
--- on, or that puts it off, isn't, and the step makes no mark for it.
-use Rattle.std.proofs.Common.{◌≡◌, ℕ, Bool, true, false, List, [], ◌∷◌, ◌++◌, filter, Option, None, Some, refl, sym, ◌∙◌, ap, subst}
+-- The master takes the line of a CREATE's or DELETE's flow. ACTIVATE, a RESERVE that is refused for good, or DELETE is the command's point; a RESERVE or
+-- DEACTIVATE whose OK lets its backend go on, or a RESERVE that puts it off, isn't, and the step makes no mark for it.
+use Rattle.std.proofs.Common.{◌≡◌, ◌≢◌, ◌⊎◌, inl, inr, ℕ, Bool, true, false, List, [], ◌∷◌, ◌++◌, filter, Option, None, Some, refl, sym, ◌∙◌, ap, subst}
 use Rattle.asking_core.specs.Answered.{answered}
 use Rattle.asking_core.specs.declared.waiting.At.{At}
 use Rattle.back_links.specs.MasterEvents.{given_in}
@@ -16,7 +16,6 @@ use Rattle.link_msg.specs.declared.outcome.Outcome.TheVariants.{None as nothing,
 use Rattle.mail_message.specs.Boxes.{Content}
 use Rattle.many_links.specs.Murder.{Murder, master_takes}
 use Rattle.many_links.specs.ManyHold.{ManyHold}
-use Rattle.many_links.specs.MasterEvents.{IsOneCommand}
 use Rattle.mark_history.specs.Marked.{Tale}
 use Rattle.mark_history.specs.declared.mark.Mark.{Mark}
 use Rattle.master_core.specs.declared.reply.Reply.{Reply}
@@ -27,13 +26,16 @@ use Rattle.mur_model.specs.declared.session.Turn.{Turn}
 use Rattle.mur_model.specs.declared.store.Store.{Store}
 use Rattle.mur_model.specs.Act.{work_on}
 use Rattle.mur_model.specs.Create.{create_on, make}
-use Rattle.mur_model.specs.Needed.{Make, Work}
+use Rattle.mur_model.specs.Left.{Worked}
+use Rattle.mur_model.specs.Needed.{Make, Work, Delete, Append as append_work, Status as status_work, Select as select_work, Viewed as viewed_work}
 use Rattle.mur_model.specs.Store.{box_at, is_full as store_is_full}
 use Rattle.name_commands.specs.Moves.{ends, heard_move}
 use Rattle.name_commands.specs.MasterSteps.{flow_reply}
 use Rattle.name_commands.specs.Places.{answer_message, NamePlace as name_at}
 use Rattle.name_commands.specs.Replied.{IsReplied, name_activated, name_closed, name_deleted, name_reserved, serials_spent, table_full, was_active, was_reserved}
 use Rattle.name_commands.specs.Whose.{is_command, is_own_out}
+use Rattle.name_flows.specs.declared.ask.AskKind.{AskKind}
+use Rattle.name_flows.specs.declared.ask.AskKind.TheVariants.{Create, Delete as Remove}
 use Rattle.name_flows.specs.declared.flow.Flow.{Flow}
 use Rattle.name_flows.specs.declared.flow.Stage.{Stage}
 use Rattle.name_flows.specs.declared.flow.Stage.TheVariants.{Reserving, Making, Deactivating, Deleting}
@@ -42,10 +44,12 @@ use Rattle.name_links.specs.Serials.{Given}
 use Rattle.node_record.specs.Table.{record_at}
 use Rattle.point_links.specs.Carried.{CarriesOut, turn_at}
 use Rattle.point_links.specs.Commands.{ClientCommand, told_turn}
-use Rattle.point_links.specs.Creates.{LineComes}
-use Rattle.point_links.proofs.CreateLaw.{activate_creates, activate_of_full, reserve_of_one_reserved, reserve_of_one_there}
-use Rattle.point_links.proofs.CreateLaw as law
-use Rattle.cluster_core.proofs.Commands.Knows.{GoesOnAtResponse, IsFlowOf, TellsAtAnswer, is_of_create, waiting_at}
+use Rattle.point_links.specs.FlowLines.{LineComes}
+use Rattle.point_links.proofs.CreateLaw.{activate_creates, activate_of_full, reserve_of_one_there}
+use Rattle.point_links.proofs.DeleteLaw.{delete_deletes}
+use Rattle.point_links.proofs.LineLaw.{IsNoEnd, LineIs, line_is}
+use Rattle.point_links.proofs.Works.{is_make, same_work}
+use Rattle.cluster_core.proofs.Commands.Knows.{GoesOnAtResponse, IsFlowOf, TellsAtAnswer, is_of_kind, kind_of, waiting_at}
 use Rattle.cluster_core.proofs.Commands.Knows.GoesOnAtResponse.{puts_off, sends_on}
 use Rattle.cluster_core.proofs.Commands.Place.{Place, Place as place}
 use Rattle.cluster_core.proofs.Commands.Standing.{Fixed}
@@ -66,7 +70,7 @@ pub record Responds (now : ℕ) (c : ClientCommand) (murder : Murder) (name : Li
   pub step : filter (is_own_out (is_command c.id)) (node_says murder.master name message).outs ≡ Link name (answer_message flow it) ∷ outs
   pub marks : marks_made now (node_says murder.master name message).outs ≡ marked
 
--- it is the CREATE's point
+-- it is the command's point
 pub record IsPointAtMaster (fixed : Fixed) (front : List ℕ) (conn now : ℕ) (marks : List Mark) (story : Tale) (tag : Tag) (c : ClientCommand)
     (murder : Murder) (given : Given) (name : List ℕ) (node : BackNode) (message : LinkMsg) (flow : Flow) : Type 0 where
   pub it : MResponse
@@ -108,7 +112,7 @@ EachLineGoes = (fixed : Fixed) (front : List ℕ) (conn now : ℕ) (marks : List
     → LineComes murder given story.course.store c name node message rest flow
     → LineGoes fixed front conn now marks story tag c murder given name node message flow
 
--- ---- the reply to a CREATE doesn't tell the UIDVALIDITY
+-- ---- the reply doesn't tell the UIDVALIDITY
 
 made_turn : (name : List ℕ) (one other : ℕ) (spent : Bool) → (make name one spent).turn ≡ (make name other spent).turn
 unfolding make
@@ -120,11 +124,42 @@ unfolding create_on
 create_turn name one other spent (Some there) = refl
 create_turn name one other spent None = made_turn name one other spent
 
-same_turn : (store : Store) (name : List ℕ) (work : Work) (one other : ℕ) → work ≡ Make → turn_at store name work one ≡ turn_at store name work other
+turn_by : (store : Store) (name : List ℕ) (work : Work) (one other : ℕ) → (work ≡ Make) ⊎ (work ≢ Make)
+    → turn_at store name work one ≡ turn_at store name work other
 unfolding work_on
-same_turn store name work one other makes =
+turn_by store name work one other (inl makes) =
     subst (λ (w : Work). turn_at store name w one ≡ turn_at store name w other) (sym makes)
     (create_turn name one other (store_is_full store) (box_at store name))
+turn_by store name work one other (inr ne) =
+    ap (λ (w : Worked). w.turn) (same_work name work one other (store_is_full store) (store_is_full store) (box_at store name) ne)
+
+same_turn : (store : Store) (name : List ℕ) (work : Work) (one other : ℕ) → turn_at store name work one ≡ turn_at store name work other
+same_turn store name work one other = turn_by store name work one other (is_make work)
+
+-- ---- whose line a stage's is
+
+-- a CREATE's, or a DELETE's
+abbrev work_at : Stage → Work
+work_at Reserving = Make
+work_at Making = Make
+work_at Deactivating = Delete
+work_at Deleting = Delete
+
+work_of : (kind : AskKind) (stage : Stage) (work : Work) → is_of_kind kind stage → kind_of work ≡ Some kind → work ≡ work_at stage
+work_of Create Reserving Make of is = refl
+work_of Create Making Make of is = refl
+work_of Remove Deactivating Delete of is = refl
+work_of Remove Deleting Delete of is = refl
+work_of Create Deactivating work of is = absurd of
+work_of Create Deleting work of is = absurd of
+work_of Remove Reserving work of is = absurd of
+work_of Remove Making work of is = absurd of
+work_of Remove stage Make of is = cc
+work_of Create stage Delete of is = cc
+work_of kind stage (append_work message) of is = cc
+work_of kind stage (status_work shown items) of is = cc
+work_of kind stage (select_work it) of is = cc
+work_of kind stage (viewed_work view it) of is = cc
 
 -- ---- each line
 
@@ -138,8 +173,11 @@ module _ (fixed : Fixed) (front : List ℕ) (conn now : ℕ) (marks : List Mark)
   abbrev says : List Out
   says = (node_says murder.master name message).outs
 
+  line : LineIs murder given store c name node message rest flow
+  line = line_is murder given store c name node message rest flow comes
+
   abbrev it_is : MResponse
-  it_is = (law.taken murder given store c name node message rest flow comes).it
+  it_is = line.taken.it
 
   abbrev reply : Reply
   reply = flow_reply murder.master.table name node.flows.me c.name flow
@@ -149,7 +187,6 @@ module _ (fixed : Fixed) (front : List ℕ) (conn now : ℕ) (marks : List Mark)
 
   comes_at : (at : At) → LineComes murder given store (waiting_at c at) name node message rest flow
   comes_at at = record {
-    makes = comes.makes;
     holds = comes.holds;
     streams = comes.streams;
     there = comes.there;
@@ -162,7 +199,7 @@ module _ (fixed : Fixed) (front : List ℕ) (conn now : ℕ) (marks : List Mark)
       → filter (is_own_out (is_command c.id)) says ≡ Link name (answer_message flow it_is) ∷ outs
       → Responds now c murder name node message flow it_is outs (marks_made now outs)
   responds_so counts outs e step = record {
-    answer = (law.taken murder given store c name node message rest flow comes).answer;
+    answer = line.taken.answer;
     step = step;
     marks = line_marks_its now (is_command c.id) murder.master name message comes.streams comes.own ∙ ap (marks_made now) step;
   }
@@ -175,7 +212,7 @@ module _ (fixed : Fixed) (front : List ℕ) (conn now : ℕ) (marks : List Mark)
   tells_so : (body : AnswerBody) (serial : ℕ) → ToldAll body → TellsAtAnswer fixed.master c body (turn_at store c.name c.work serial)
   tells_so body serial told at =
       let one = told at in
-      one.1 ∙ ap (λ (t : Turn). told_turn (waiting_at c at) t) (same_turn store c.name c.work one.0 serial comes.makes)
+      one.1 ∙ ap (λ (t : Turn). told_turn (waiting_at c at) t) (same_turn store c.name c.work one.0 serial)
 
   point_so : (later : Store) (counts : Counts) (body : AnswerBody) (serial : ℕ) → reply.counts ≡ Some counts
       → heard_move c.name flow it_is ≡ Some (ends flow body)
@@ -186,66 +223,72 @@ module _ (fixed : Fixed) (front : List ℕ) (conn now : ℕ) (marks : List Mark)
     it = it_is;
     counts = counts;
     later = later;
-    responds = responds_so (Some counts) (mark c.id counts ∷ []) are (law.outs_are murder given store c name node message rest flow comes (Some counts) are);
+    responds = responds_so (Some counts) (mark c.id counts ∷ []) are (line.outs (Some counts) are);
     then_holds = holds;
     carried = carried_so fixed front conn now marks story tag c is_open serial later counts here carries
         (record { body = body; its = of.its; front_is = of.front_is; ended = heard; tells = tells_so body serial told });
   })
 
-  one : IsOneCommand murder given store name message
-  one = law.one murder given store c name node message rest flow comes
-
-  waits_so : reply.counts ≡ None → flow.stage ≡ Reserving → GoesOnAtResponse c.name flow it_is
+  waits_so : reply.counts ≡ None → (stage : Stage) → flow.stage ≡ stage → IsNoEnd stage → GoesOnAtResponse c.name flow it_is
       → LineGoes fixed front conn now marks story tag c murder given name node message flow
-  waits_so are stage goes = waits_on (record {
+  waits_so are stage at no_end goes = waits_on (record {
     it = it_is;
-    responds = responds_so None [] are (law.outs_are murder given store c name node message rest flow comes None are);
-    then_holds = law.does_nothing murder given store c name node message rest flow comes stage one.later one.does one.hold;
+    responds = responds_so None [] are (line.outs None are);
+    then_holds = line.nothing_done stage at no_end;
     knows = known_so fixed front conn now marks story tag c is_open here (of, goes);
   })
 
-  seen_here : reply.counts ≡ Some IfAnswered → flow.stage ≡ Reserving → GoesOnAtResponse c.name flow it_is
+  seen_here : reply.counts ≡ Some IfAnswered → (stage : Stage) → flow.stage ≡ stage → IsNoEnd stage → GoesOnAtResponse c.name flow it_is
       → LineGoes fixed front conn now marks story tag c murder given name node message flow
-  seen_here are stage goes = is_seen (record {
+  seen_here are stage at no_end goes = is_seen (record {
     it = it_is;
     responds = responds_so (Some IfAnswered) (mark c.id IfAnswered ∷ []) are
-        (law.outs_are murder given store c name node message rest flow comes (Some IfAnswered) are);
-    then_holds = law.does_nothing murder given store c name node message rest flow comes stage one.later one.does one.hold;
+        (line.outs (Some IfAnswered) are);
+    then_holds = line.nothing_done stage at no_end;
     seen = seen_so fixed front conn now marks story tag c is_open here (of, goes);
   })
+
+  its_work : (stage : Stage) → flow.stage ≡ stage → c.work ≡ work_at stage
+  its_work stage e = work_of of.kind stage c.work (subst (is_of_kind of.kind) e of.stage) of.does
 
   full_so : (heard : heard_move c.name flow it_is ≡ Some (ends flow (done Limit))) → reply.counts ≡ Some IfAnswered → flow.stage ≡ Making
       → is_full murder.master.table (record_at murder.master.table c.name) ≡ true
       → LineGoes fixed front conn now marks story tag c murder given name node message flow
   full_so heard are stage over =
-      let it = activate_of_full murder given store c name node message rest flow comes stage over 0 in
+      let makes = its_work Making stage in
+      let it = activate_of_full murder given store c name node message rest flow comes makes stage over 0 in
       point_so store IfAnswered (done Limit) 0 are heard it.then_holds it.carries
-      (λ at. (0, (activate_of_full murder given store (waiting_at c at) name node message rest flow (comes_at at) stage over 0).told fixed.master))
-
-  no_delete : (stage : Stage) → flow.stage ≡ stage → is_of_create stage
-  no_delete stage e = subst is_of_create e of.stage
+      (λ at. (0, (activate_of_full murder given store (waiting_at c at) name node message rest flow (comes_at at) makes stage over 0).told fixed.master))
 
   goes_by : IsReplied murder.master.table node.flows.me c.name flow it_is reply
       → LineGoes fixed front conn now marks story tag c murder given name node message flow
-  goes_by (name_reserved stage none is heard) = waits_so (ap (λ (r : Reply). r.counts) is) stage (sends_on (record flow { stage = Making }) heard)
-  goes_by (was_reserved stage reserved is heard) = waits_so (ap (λ (r : Reply). r.counts) is) stage (puts_off heard)
+  goes_by (name_reserved stage none is heard) = waits_so (ap (λ (r : Reply). r.counts) is) Reserving stage tt (sends_on (record flow { stage = Making }) heard)
+  goes_by (was_reserved stage reserved is heard) = waits_so (ap (λ (r : Reply). r.counts) is) Reserving stage tt (puts_off heard)
   goes_by (was_active stage active is heard) =
-      let there = reserve_of_one_there murder given store c name node message rest flow comes stage active in
+      let makes = its_work Reserving stage in
+      let there = reserve_of_one_there murder given store c name node message rest flow comes makes stage active in
       point_so store IfAnswered (done Exists) 0 (ap (λ (r : Reply). r.counts) is) heard (there.point 0).then_holds (there.point 0).carries
-      (λ at. (let its = reserve_of_one_there murder given store (waiting_at c at) name node message rest flow (comes_at at) stage active in
+      (λ at. (let its = reserve_of_one_there murder given store (waiting_at c at) name node message rest flow (comes_at at) makes stage active in
       (0, (its.point 0).told fixed.master)))
-  goes_by (serials_spent stage none spent is heard) = seen_here (ap (λ (r : Reply). r.counts) is) stage (puts_off heard)
+  goes_by (serials_spent stage none spent is heard) = seen_here (ap (λ (r : Reply). r.counts) is) Reserving stage tt (puts_off heard)
   goes_by (table_full stage over is heard) = full_so heard (ap (λ (r : Reply). r.counts) is) stage over
   goes_by (name_activated stage room is heard) =
-      let made = activate_creates murder given store c name node message rest flow comes stage room in
+      let makes = its_work Making stage in
+      let made = activate_creates murder given store c name node message rest flow comes makes stage room in
       point_so _ Always (done nothing) made.serial (ap (λ (r : Reply). r.counts) is) heard (made.point).then_holds (made.point).carries
-      (λ at. (let its = activate_creates murder given store (waiting_at c at) name node message rest flow (comes_at at) stage room in
+      (λ at. (let its = activate_creates murder given store (waiting_at c at) name node message rest flow (comes_at at) makes stage room in
       (its.serial, (its.point).told fixed.master)))
-  goes_by (name_closed stage is heard) = absurd (no_delete Deactivating stage)
-  goes_by (name_deleted stage is heard) = absurd (no_delete Deleting stage)
+  goes_by (name_closed stage is heard) =
+      waits_so (ap (λ (r : Reply). r.counts) is) Deactivating stage tt (sends_on (record flow { stage = Deleting }) heard)
+  goes_by (name_deleted stage is heard) =
+      let deletes = its_work Deleting stage in
+      let gone = delete_deletes murder given store c name node message rest flow comes deletes stage in
+      point_so _ Always (done nothing) 0 (ap (λ (r : Reply). r.counts) is) heard (gone.point 0).then_holds (gone.point 0).carries
+      (λ at. (let its = delete_deletes murder given store (waiting_at c at) name node message rest flow (comes_at at) deletes stage in
+      (0, (its.point 0).told fixed.master)))
 
   goes : LineGoes fixed front conn now marks story tag c murder given name node message flow
-  goes = goes_by (law.taken murder given store c name node message rest flow comes).replied
+  goes = goes_by line.taken.replied
 
 pub each_line_goes : EachLineGoes
 each_line_goes fixed front conn now marks story tag c murder given name node message rest flow is_open of comes =

@@ -240,7 +240,7 @@ module _ (config : Config) (heard : ℕ → Heard) (world : World) (law : KeepsL
       where
         front_of : (f : List ℕ) (tag : Tag) (c : ClientCommand) (asked : NameAsk) → KnowsOf fixed f conn tag c story (place.is_at me (name_at.waits asked))
             → asked.front ≡ f
-        front_of f tag c asked (undecided said was tells) = ap (λ (a : NameAsk). a.front) tells.1
+        front_of f tag c asked (undecided said was tells) = ap (λ (a : NameAsk). a.front) tells.2
         front_of f tag c asked (is_decided turn said session ends brings) = absurd brings
 
     somewhere : (here : Place) (ask : NameAsk) → here ≡ place.is_at me (name_at.waits ask) → here ≡ place.nowhere → ⊥

@@ -1,5 +1,5 @@
 -- A backend takes a message that is about a command: its ask, or the master's response to the line of its flow.
-use Rattle.std.proofs.Common.{◌≡◌, ◌≢◌, ◌⊎◌, inl, inr, ℕ, ◌+◌, Bool, true, false, cond, List, [], ◌∷◌, ◌++◌, length, map, Option, None, Some, refl, sym, ◌∙◌, ap, subst}
+use Rattle.std.proofs.Common.{◌≡◌, ◌⊎◌, inl, inr, ℕ, ◌+◌, Bool, true, false, cond, List, [], ◌∷◌, ◌++◌, length, map, Option, None, Some, refl, sym, ◌∙◌, ap, subst}
 use Rattle.std.specs.Ordering.{nat_cmp}
 use Rattle.asking_core.specs.declared.waiting.At.{At}
 use Rattle.back_links.specs.BackEvents.{IsFitting, fits_by as fits_of}
@@ -40,12 +40,12 @@ use Rattle.mur_base.specs.declared.point.AskId.{AskId}
 use Rattle.mur_config.specs.declared.config.Config.{Config}
 use Rattle.mur_model.specs.declared.store.Store.{Store}
 use Rattle.mur_model.specs.History.{numbered}
-use Rattle.mur_model.specs.Needed.{Make}
+use Rattle.mur_model.specs.Needed.{Delete, IsOfHome, Make}
 use Rattle.node_step.specs.declared.node.NodeState.TheVariants as state
 use Rattle.name_commands.specs.Moves.{Move, asked_move, is_answered, is_kept, is_sent}
 use Rattle.name_commands.specs.Places.{IsNumbered, NamePlace as name_at}
 use Rattle.name_flows.specs.declared.ask.AskKind.{AskKind}
-use Rattle.name_flows.specs.declared.ask.AskKind.TheVariants.{Create}
+use Rattle.name_flows.specs.declared.ask.AskKind.TheVariants.{Create, Delete as Remove}
 use Rattle.name_flows.specs.declared.ask.Told.{Told}
 use Rattle.name_flows.specs.declared.flow.Flow.{Flow}
 use Rattle.name_flows.specs.Asked.{asked_step}
@@ -55,9 +55,9 @@ use Rattle.name_flows.specs.Listing.{up_step}
 use Rattle.name_flows.specs.Steps.{FlowStep, handed}
 use Rattle.point_links.specs.AtHome.{AskComes, its_ask}
 use Rattle.point_links.specs.Commands.{ClientCommand}
-use Rattle.point_links.proofs.Works.{is_make}
+use Rattle.point_links.proofs.Works.{who_does}
 use Rattle.cluster_core.specs.declared.world.World.{World}
-use Rattle.cluster_core.proofs.Commands.Knows.{Undecided}
+use Rattle.cluster_core.proofs.Commands.Knows.{Undecided, kind_of}
 use Rattle.cluster_core.proofs.Commands.Knows.Knows.{is_decided, undecided}
 use Rattle.cluster_core.proofs.Commands.Place.{Place, Place as place}
 use Rattle.cluster_core.proofs.Commands.Standing.{Fixed, WaitsAt, next_id}
@@ -71,7 +71,7 @@ use Rattle.cluster_core.proofs.Steps.HomeSteps.{HomeTakes, moved_to}
 use Rattle.cluster_core.proofs.Steps.Murders.{IsFront, IsIn}
 use Rattle.cluster_core.proofs.Steps.Worlds.{in_murder, in_world_then, is_front}
 use Rattle.cluster_core.proofs.Points.Acts.{KnowsOf}
-use Rattle.cluster_core.proofs.Points.AtBackend.{create_fits, create_is_asked, create_kind, message_kind, response_moves}
+use Rattle.cluster_core.proofs.Points.AtBackend.{message_kind, name_ask_fits, name_is_asked, name_kind_is, response_moves}
 use Rattle.cluster_core.proofs.Points.AtHome.{answer_outs, answered_at, closed_is_seen, open_is_its_point}
 use Rattle.cluster_core.proofs.Points.Found.{IsFoundIn, found_in, in_answer, in_ask, in_line, in_noop, in_ok, in_response}
 use Rattle.cluster_core.proofs.Points.ListPoint.{list_not_at_home}
@@ -225,9 +225,9 @@ module _ (config : Config) (heard : ℕ → Heard) (world : World) (law : KeepsL
       whom_by later goes = subst (λ p. (a : At) → WaitsAt a p → WaitsAt a later) (sym asks) goes
 
       -- for messages
-      module _ (ne : c.work ≢ Make) where
+      module _ (of : IsOfHome c.work) where
         comes : AskComes murder law.given store c to node fnode
-        comes = record { no_make = ne; holds = law.many; there = there; other = its_front.no_master }
+        comes = record { of_home = of; holds = law.many; there = there; other = its_front.no_master }
 
         answers : (body : AnswerBody) (counts : Counts) (later : Store)
             → (node_takes node fnode (Ask (its_ask c))).outs ≡ answer_outs fnode c.id body counts
@@ -243,7 +243,7 @@ module _ (config : Config) (heard : ℕ → Heard) (world : World) (law : KeepsL
             out (many to node there fnode (Ask (its_ask c)) later hold)
             (in_world_then fixed world law.master law.nodes.me to fnode node (node_takes node fnode (Ask (its_ask c))) there fnode front.replica id
             (answered_at to c.id body)
-            (ask_is_answered murder law.given store to node fnode front.replica id (its_ask c) answer counts takes its_front (message_kind c ne) refl step in_ask_is))
+            (ask_is_answered murder law.given store to node fnode front.replica id (its_ask c) answer counts takes its_front (message_kind c of) refl step in_ask_is))
             tt (whom_by (answered_at to c.id body) (λ a is. is))
 
         messages_by : (found : Bool) → is_open_here (held_at node.home c.name) ≡ found → OwnAtHome fnode to node (Ask (its_ask c))
@@ -256,13 +256,13 @@ module _ (config : Config) (heard : ℕ → Heard) (world : World) (law : KeepsL
             answers it.body IfAnswered store it.step it.then_holds
             (of_seen fixed fnode conn world.steps world.marks story waits.tag c (answered_at to c.id it.body) it.seen)
 
-      -- of a CREATE
-      create : c.work ≡ Make → OwnAtHome fnode to node (Ask (its_ask c))
-      create makes =
-          let it = create_is_asked fixed fnode conn world.steps world.marks story waits.tag c murder law.given to node opened.is_open
-          (record { makes = makes; holds = law.many; there = there; other = its_front.no_master; numbered = numbered_c }) in
+      -- of a CREATE or DELETE
+      of_name : (kind : AskKind) → kind_of c.work ≡ Some kind → OwnAtHome fnode to node (Ask (its_ask c))
+      of_name kind does =
+          let it = name_is_asked fixed fnode conn world.steps world.marks story waits.tag c murder law.given to node kind opened.is_open
+          (record { does = does; holds = law.many; there = there; other = its_front.no_master; numbered = numbered_c }) in
           let moves = it.1 in
-          let move : Move = asked_move node.flows node.home.held (name_ask fnode (its_ask c) Create) in
+          let move : Move = asked_move node.flows node.home.held (name_ask fnode (its_ask c) kind) in
           let me : Location = node.flows.me in
           own_step config conn fnode front world story (heard conn) here waits (then fnode to node (Ask (its_ask c))) law.master law.given store None
           (moved_to to me move)
@@ -272,17 +272,18 @@ module _ (config : Config) (heard : ℕ → Heard) (world : World) (law : KeepsL
           (many to node there fnode (Ask (its_ask c)) store moves.then_holds)
           (in_world_then fixed world law.master law.nodes.me to fnode node (node_takes node fnode (Ask (its_ask c))) there fnode front.replica id
           (moved_to to me move)
-          (ask_is_moved murder law.given store to node fnode front.replica id (its_ask c) Create takes its_front (create_fits c makes numbered_c)
-          (create_kind c makes) in_ask_is).placed)
+          (ask_is_moved murder law.given store to node fnode front.replica id (its_ask c) kind takes its_front (name_ask_fits c kind does numbered_c)
+          (name_kind_is c kind does) in_ask_is).placed)
           (moved_marked _ _ id to me move)
           (whom_by (moved_to to me move) (λ a is. whom_begun to me (its_ask c) move a (named to node there) is))
 
       ask_own : OwnAtHome fnode to node (Ask (its_ask c))
-      ask_own = by (is_make c.work)
+      ask_own = by (who_does c.work)
         where
-          by : (c.work ≡ Make) ⊎ (c.work ≢ Make) → OwnAtHome fnode to node (Ask (its_ask c))
-          by (inl makes) = create makes
-          by (inr ne) = messages_by ne (is_open_here (held_at node.home c.name)) refl
+          by : IsOfHome c.work ⊎ ((c.work ≡ Make) ⊎ (c.work ≡ Delete)) → OwnAtHome fnode to node (Ask (its_ask c))
+          by (inl of) = messages_by of (is_open_here (held_at node.home c.name)) refl
+          by (inr (inl makes)) = of_name Create (ap kind_of makes)
+          by (inr (inr deletes)) = of_name Remove (ap kind_of deletes)
 
     -- ---- the master's response to the line of its flow
 
@@ -352,11 +353,12 @@ module _ (config : Config) (heard : ℕ → Heard) (world : World) (law : KeepsL
 
       -- its ask is of a name, and of numbers of 64 bits
       ask_fits : IsFitting (Ask (its_ask c))
-      ask_fits = by (is_make c.work)
+      ask_fits = by (who_does c.work)
         where
-          by : (c.work ≡ Make) ⊎ (c.work ≢ Make) → IsFitting (Ask (its_ask c))
-          by (inl makes) = create_fits c makes numbered_c
-          by (inr ne) = subst (λ (kind : Option AskKind). fits_of kind (its_ask c)) (sym (message_kind c ne)) tt
+          by : IsOfHome c.work ⊎ ((c.work ≡ Make) ⊎ (c.work ≡ Delete)) → IsFitting (Ask (its_ask c))
+          by (inl of) = subst (λ (kind : Option AskKind). fits_of kind (its_ask c)) (sym (message_kind c of)) tt
+          by (inr (inl makes)) = name_ask_fits c Create (ap kind_of makes) numbered_c
+          by (inr (inr deletes)) = name_ask_fits c Remove (ap kind_of deletes) numbered_c
 
       fitting : (h : Place) → here ≡ h → IsFoundIn (master_of config) fnode id from to message h → IsFitting message
       fitting _ is (in_ask server ask e1 e2 e3) =

@@ -38,7 +38,7 @@ use Rattle.name_links.specs.Serials.{Given}
 use Rattle.node_record.specs.Table.{MailboxTable}
 use Rattle.point_links.specs.Barriers.{NoopComes}
 use Rattle.point_links.specs.Commands.{ClientCommand}
-use Rattle.point_links.specs.Creates.{LineComes}
+use Rattle.point_links.specs.FlowLines.{LineComes}
 use Rattle.route_links.specs.Answered.{noop_of}
 use Rattle.route_links.specs.Barriers.{Place as barrier}
 use Rattle.cluster_core.specs.declared.world.World.{World}
@@ -226,7 +226,6 @@ module _ (config : Config) (heard : ℕ → Heard) (world : World) (law : KeepsL
 
       comes : LineComes murder law.given store c from node message rest flow
       comes = record {
-        makes = of.makes;
         holds = law.many;
         streams = law.feeds.nobodys;
         there = there;

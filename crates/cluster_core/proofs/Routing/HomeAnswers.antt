@@ -1,6 +1,6 @@
 -- A backend that is asked for messages answers in the step in which it takes the ask: that they were served exactly where it has the name open, and then the
 -- step always counts.
-use Rattle.std.proofs.Common.{◌≡◌, ◌≢◌, ℕ, ◌+◌, Bool, true, false, cond, List, [], ◌∷◌, ◌++◌, drop, Option, None, Some, refl, sym, ◌∙◌, ap}
+use Rattle.std.proofs.Common.{◌≡◌, ◌≢◌, ◌⊎◌, inl, inr, ℕ, ◌+◌, Bool, true, false, cond, List, [], ◌∷◌, ◌++◌, drop, Option, None, Some, refl, sym, ◌∙◌, ap}
 use Rattle.std.specs.Ordering.{nat_cmp}
 use Rattle.std.specs.Cmp.Lexicographic.{slice_cmp}
 use Rattle.back_node.specs.declared.node.BackNode.{BackNode}
@@ -15,7 +15,6 @@ use Rattle.backend_core.specs.Step.{home_step}
 use Rattle.cluster_core.specs.Headline.Backends.{IsBackend}
 use Rattle.cluster_core.specs.Headline.Outside.{table_by, table_at}
 use Rattle.imap_talk.specs.Heard.{Heard}
-use Rattle.imap_types.specs.declared.op.Op.TheVariants.{Create}
 use Rattle.link_msg.specs.declared.answer.AnswerBody.{AnswerBody}
 use Rattle.link_msg.specs.declared.answer.AnswerBody.TheVariants as answer
 use Rattle.link_msg.specs.declared.ask.FrontAsk.{FrontAsk}
@@ -37,20 +36,20 @@ use Rattle.mur_config.specs.declared.config.Config.{Config}
 use Rattle.mur_config.specs.Nodes.{AreNodes}
 use Rattle.mur_model.specs.declared.need.Asking.{Asking}
 use Rattle.mur_model.specs.Asking.{asked_for}
-use Rattle.mur_model.specs.Needed.{Make, Work}
+use Rattle.mur_model.specs.Needed.{Delete, IsOfHome, Make, Work}
 use Rattle.node_step.specs.declared.input.NodeInput.TheVariants.{From}
 use Rattle.node_step.specs.declared.node.NodeState.TheVariants as state
 use Rattle.name_flows.specs.Phases.{pointer_in}
 use Rattle.node_record.specs.declared.held.Held.{Held}
 use Rattle.point_links.specs.AtHome.{its_ask}
 use Rattle.point_links.specs.Commands.{ClientCommand}
-use Rattle.point_links.proofs.Works.{of_messages}
+use Rattle.point_links.proofs.Works.{of_messages, who_does}
 use Rattle.schedule_text.specs.declared.event.Event.TheVariants.{Deliver}
 use Rattle.serve_law.proofs.DoneHere.{done_where_open}
 use Rattle.serve_law.specs.DoneHere.{IsDone as IsDoneHere}
 use Rattle.cluster_core.specs.declared.world.World.{World}
 use Rattle.cluster_core.specs.Headline.OpenAt.{IsOpenAt}
-use Rattle.cluster_core.specs.Headline.Routing.{creates, says_done}
+use Rattle.cluster_core.specs.Headline.Routing.{is_of_name, says_done}
 use Rattle.cluster_core.specs.Shown.{held_by}
 use Rattle.cluster_core.specs.World.{deliver_first, home_at, stepped, steps_by, taken_from_link, takes}
 use Rattle.cluster_core.proofs.Connections.KeepsLaw.{KeepsLaw, murder_of}
@@ -93,10 +92,9 @@ outs_of : (from : List ℕ) (ask : FrontAsk) (counts : Counts) (found : Option A
 unfolding answer_outs
 outs_of from ask counts found body e = ap (answer_outs from ask.id counts) e
 
--- a CREATE asks for one
-op_is : (c : ClientCommand) → c.work ≡ Make → (its_ask c).op ≡ Create
-unfolding asked_for
-op_is c makes = ap (λ (a : Asking). a.op) c.asking_is ∙ ap (λ (w : Work). (asked_for c.name w).op) makes
+-- a CREATE and a DELETE ask for such a thing
+op_is : (c : ClientCommand) (work : Work) → c.work ≡ work → (its_ask c).op ≡ (asked_for c.name work).op
+op_is c work is = ap (λ (a : Asking). a.op) c.asking_is ∙ ap (λ (w : Work). (asked_for c.name w).op) is
 
 not_done : (server : Option (List ℕ)) → says_done (elsewhere_by server) ≡ false
 unfolding says_done
@@ -169,7 +167,7 @@ open_phase Ready e = cc
 open_phase (Pointer server) e = cc
 
 module _ (config : Config) (heard : ℕ → Heard) (world : World) (are : AreNodes config.nodes) (law : KeepsLaw config heard world) (from to : List ℕ)
-    (ask : FrontAsk) (rest : List LinkMsg) (first : on_link world.links from to ≡ Ask ask ∷ rest) (makes_none : creates ask.op ≡ false) where
+    (ask : FrontAsk) (rest : List LinkMsg) (first : on_link world.links from to ≡ Ask ask ∷ rest) (for_messages : is_of_name ask.op ≡ false) where
   tells : AskTells config heard world law from to ask
   tells = ask_tells config heard world law from to ask rest first
 
@@ -179,13 +177,22 @@ module _ (config : Config) (heard : ℕ → Heard) (world : World) (are : AreNod
   abbrev home : BackNode
   home = tells.home
 
-  no_make : c.work ≢ Make
-  unfolding creates
-  no_make e = (let no : true ≡ false = sym (ap creates (ap (λ (a : FrontAsk). a.op) tells.ask_is ∙ op_is c e)) ∙ makes_none in cc)
+  no_name : (work : Work) → c.work ≡ work → is_of_name (asked_for c.name work).op ≡ true → ⊥
+  no_name work is of =
+      let no : true ≡ false = sym (ap is_of_name (ap (λ (a : FrontAsk). a.op) tells.ask_is ∙ op_is c work is) ∙ of) ∙ for_messages in cc
+
+  of_home : IsOfHome c.work
+  unfolding is_of_name asked_for
+  of_home = by (who_does c.work)
+    where
+      by : IsOfHome c.work ⊎ ((c.work ≡ Make) ⊎ (c.work ≡ Delete)) → IsOfHome c.work
+      by (inl of) = of
+      by (inr (inl makes)) = absurd (no_name Make makes refl)
+      by (inr (inr deletes)) = absurd (no_name Delete deletes refl)
 
   messages : is_of_messages ask.op ≡ true
   messages =
-      ap (λ (a : FrontAsk). is_of_messages a.op) tells.ask_is ∙ ap (λ (a : Asking). is_of_messages a.op) c.asking_is ∙ of_messages c.name c.work no_make
+      ap (λ (a : FrontAsk). is_of_messages a.op) tells.ask_is ∙ ap (λ (a : Asking). is_of_messages a.op) c.asking_is ∙ of_messages c.name c.work of_home
 
   answers_by : (is_here : Bool) → is_open_here (held_at home.home ask.name) ≡ is_here → AnswersSo home from ask is_here
   answers_by true e =
@@ -262,5 +269,5 @@ module _ (config : Config) (heard : ℕ → Heard) (world : World) (are : AreNod
   }
 
 pub ask_is_served : (config : Config) (heard : ℕ → Heard) (world : World) → AreNodes config.nodes → KeepsLaw config heard world → (from to : List ℕ)
-    (ask : FrontAsk) (rest : List LinkMsg) → on_link world.links from to ≡ Ask ask ∷ rest → creates ask.op ≡ false → IsServed config world from to ask
-ask_is_served config heard world are law from to ask rest first makes_none = served config heard world are law from to ask rest first makes_none
+    (ask : FrontAsk) (rest : List LinkMsg) → on_link world.links from to ≡ Ask ask ∷ rest → is_of_name ask.op ≡ false → IsServed config world from to ask
+ask_is_served config heard world are law from to ask rest first for_messages = served config heard world are law from to ask rest first for_messages

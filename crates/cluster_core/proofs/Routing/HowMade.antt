@@ -4,7 +4,7 @@ use Rattle.std.specs.Prelude.{All}
 use Rattle.std.proofs.lemmas.List.{append-nil}
 use Rattle.std.proofs.lemmas.List.Elements.{All-append, All-nil}
 use Rattle.imap_types.specs.declared.op.Op.{Op}
-use Rattle.imap_types.specs.declared.op.Op.TheVariants.{Create}
+use Rattle.imap_types.specs.declared.op.Op.TheVariants.{Create, Delete}
 use Rattle.cluster_core.specs.Heard.{heard}
 use Rattle.back_node.specs.Takes.{name_kind}
 use Rattle.link_msg.specs.declared.counts.Counts.{Counts}
@@ -29,7 +29,7 @@ use Rattle.master_core.specs.declared.master.Master.{Master}
 use Rattle.cluster_core.specs.declared.world.World.{World}
 use Rattle.cluster_core.specs.Flow.{run_steps}
 use Rattle.cluster_core.specs.Headline.OneNode.{node_of, worker}
-use Rattle.cluster_core.specs.Headline.Routing.{IsAtItsNode, IsStepOf, Taken, creates}
+use Rattle.cluster_core.specs.Headline.Routing.{IsAtItsNode, IsStepOf, Taken, is_of_name}
 use Rattle.cluster_core.specs.Headline.Routing.IsStepOf.{at_home, at_master}
 use Rattle.cluster_core.specs.World.{client_at, node_at, start, steps_by}
 use Rattle.cluster_core.proofs.Runs.OneNodeLaw.{one_more_step}
@@ -57,10 +57,11 @@ pub data IsMadeSo (config : Config) (steps : List Event) (made : Mark) : Type 0 
       → made.step ≡ length taken.before + 1 → IsMadeSo config steps made
   is_told : (how : How) → made.kind ≡ Told how → (how ≡ Here → IsToldAlone config steps made) → IsMadeSo config steps made
 
-no_create : (op : Op) → name_kind op ≡ None → creates op ≡ false
-unfolding creates
-no_create Create e = cc
-no_create op e = refl
+no_name : (op : Op) → name_kind op ≡ None → is_of_name op ≡ false
+unfolding is_of_name
+no_name Create e = cc
+no_name Delete e = cc
+no_name op e = refl
 
 home_there : (found : Option NodeState) (home : BackNode) → found ≡ Some (state.Back home) → as_back found ≡ Some home
 unfolding as_back
@@ -105,7 +106,7 @@ module _ (config : Config) (are : AreNodes config.nodes) (steps : List Event) wh
         → IsMadeSo config steps made
     mark_is made _ (a_message from message rest is first) step (by_home home name ask counts at same none its kind) =
         is_taken counts kind (taken_so from message rest is first)
-        (at_home ask (same_input same) (sym its) (no_create ask.op none)
+        (at_home ask (same_input same) (sym its) (no_name ask.op none)
         (backend_is config (λ conn. heard config conn before) world are law node home
         (home_there (node_at world node) home (there ∙ ap (λ i. Some i) at)))) step
     mark_is made _ (a_message from message rest is first) step (by_master master name line counts at same its kind) =

@@ -40,15 +40,15 @@ use Rattle.mupdate_codec.proofs.WholeLaw.{is_line}
 use Rattle.mur_base.specs.declared.point.AskId.{AskId}
 use Rattle.mur_config.specs.declared.config.Config.{Config}
 use Rattle.mur_model.specs.declared.store.Store.{Store}
-use Rattle.mur_model.specs.Store.{box_at}
+use Rattle.mur_model.specs.Store.{box_at, without_box}
+use Rattle.mur_model.proofs.BoxGone.{box_gone}
 use Rattle.node_step.specs.declared.input.NodeInput.TheVariants.{From}
 use Rattle.node_step.specs.declared.node.NodeState.TheVariants as state
 use Rattle.name_links.specs.Serials.{Given}
 use Rattle.node_record.specs.Table.{MailboxTable, is_mailbox_if, record_at}
 use Rattle.schedule_text.specs.declared.event.Event.TheVariants.{Deliver}
 use Rattle.mur_base.proofs.MapLaws.{names_apart, value_at-with_entry}
-use Rattle.name_flows.proofs.NameMaps.{value_at-without_key-same}
-use Rattle.store_links.specs.TableEntries.{store_with, without_box}
+use Rattle.store_links.specs.TableEntries.{store_with}
 use Rattle.store_links.proofs.BoxesLaw.{each_is_a_box}
 use Rattle.cluster_core.specs.declared.world.World.{World}
 use Rattle.cluster_core.proofs.Connections.KeepsLaw.{KeepsLaw, murder_of}
@@ -224,7 +224,7 @@ module _ (config : Config) (heard : ℕ → Heard) (world : World) (law : KeepsL
   changes_by _ hold (removed id n box is was gives) = inr (record {
     name = n;
     differs = differ (box_before n ∙ ap is_some was)
-        (box_behind n (without_box store n) hold ∙ ap is_some (value_at-without_key-same store.boxes n law.many.shows.boxes_in_order))
+        (box_behind n (without_box store n) hold ∙ ap is_some (box_gone store n))
         (λ e. false_true (sym e));
   })
 

@@ -36,7 +36,7 @@ use Rattle.cluster_core.specs.declared.world.World.{World}
 use Rattle.cluster_core.specs.Flow.{run_steps}
 use Rattle.cluster_core.specs.Headline.OpenAt.{IsOpenAt}
 use Rattle.cluster_core.specs.Headline.Outside.{table_at}
-use Rattle.cluster_core.specs.Headline.Routing.{AnswersAsk, AreRouted, ChangesMailbox, CountsFor, IsItsPoint, IsOnlySeen, IsStepOf, StandsAt, Taken, Does, creates, says_done}
+use Rattle.cluster_core.specs.Headline.Routing.{AnswersAsk, AreRouted, ChangesMailbox, CountsFor, IsItsPoint, IsOnlySeen, IsStepOf, StandsAt, Taken, Does, is_of_name, says_done}
 use Rattle.cluster_core.specs.Headline.Routing.CarriesOut.{of_name, where_open}
 use Rattle.cluster_core.specs.Headline.Routing.Does.{carries_out, only_answers}
 use Rattle.cluster_core.specs.Headline.Routing.IsStepOf.{at_home, at_master}
@@ -202,7 +202,7 @@ module _ (config : Config) (are : AreNodes config.nodes) (steps : List Event)
 
   -- ---- a backend takes an ask
 
-  module _ (taken : Taken config steps) (ask : FrontAsk) (is : taken.message ≡ Ask ask) (none : creates ask.op ≡ false) where
+  module _ (taken : Taken config steps) (ask : FrontAsk) (is : taken.message ≡ Ask ask) (none : is_of_name ask.op ≡ false) where
     abbrev event : Event
     event = Deliver taken.from taken.to
 
@@ -348,7 +348,7 @@ module _ (config : Config) (are : AreNodes config.nodes) (steps : List Event)
         (of_step taken.before (Deliver taken.from taken.to) taken.later taken.parts Deed deeds.new new deeds.each) there step_is in
         by_deed counts kind as_home mine (then_is taken mine) deed
 
-    of_home : (ask : FrontAsk) → taken.message ≡ Ask ask → creates ask.op ≡ false → Does config steps taken what
+    of_home : (ask : FrontAsk) → taken.message ≡ Ask ask → is_of_name ask.op ≡ false → Does config steps taken what
     of_home ask is none =
         let its : made.kind ≡ Home (served taken ask is none).counts =
         All-contains (IfThen taken ask is none) whole.marks made (only_mark taken ask is none) there step_is in

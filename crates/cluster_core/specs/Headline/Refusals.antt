@@ -1,5 +1,5 @@
 -- Why a command is refused with `NO [UNAVAILABLE] mailbox is being moved`: the name that it needs is reserved, as a name is before its mailbox is made
--- (RFC 3656, 4.9), and while that moves (RFC 3656, 4.3).
+-- (RFC 3656, 4.9), before it is deleted, and while it moves (RFC 3656, 4.3).
 use Rattle.std.specs.Prelude.{◌≡◌, ℕ, ◌+◌, true, List, [], ◌∷◌, ◌++◌, length, Some, All, ⊤}
 use Rattle.cluster_core.specs.Heard.{heard}
 use Rattle.cluster_core.specs.LawSetting.{law_setting}

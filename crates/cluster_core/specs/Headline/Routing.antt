@@ -7,7 +7,7 @@ use Rattle.ask_routes.specs.Barrier.{noop_line}
 use Rattle.imap_types.specs.declared.command.Command.TheVariants as command
 use Rattle.imap_types.specs.declared.command.Tag.{Tag}
 use Rattle.imap_types.specs.declared.op.Op.{Op}
-use Rattle.imap_types.specs.declared.op.Op.TheVariants.{Create}
+use Rattle.imap_types.specs.declared.op.Op.TheVariants.{Create, Delete}
 use Rattle.imap_types.specs.declared.request.Request.TheVariants.{Command as a_command}
 use Rattle.link_msg.specs.declared.answer.AnswerBody.{AnswerBody}
 use Rattle.link_msg.specs.declared.answer.AnswerBody.TheVariants.{Done}
@@ -32,9 +32,11 @@ use Rattle.cluster_core.specs.Headline.OneNode.{node_of, worker}
 use Rattle.cluster_core.specs.Headline.OpenAt.{IsOpenAt}
 use Rattle.cluster_core.specs.Headline.Outside.{table_at}
 
-unfoldable pub creates : Op → Bool
-creates Create = true
-creates op = false
+-- a backend turns to the master for it: a mailbox is made or deleted
+unfoldable pub is_of_name : Op → Bool
+is_of_name Create = true
+is_of_name Delete = true
+is_of_name op = false
 
 -- whether an answer says that an ask for messages was carried out, whatever came of it
 unfoldable pub says_done : AnswerBody → Bool
@@ -54,7 +56,7 @@ pub record Taken (config : Config) (steps : List Event) : Type 0 where
 
 -- it works on this command: a backend takes an ask for messages, or the master a line under the command's tag
 pub data IsStepOf (config : Config) (steps : List Event) (id : AskId) (taken : Taken config steps) : Type 0 where
-  at_home : (ask : FrontAsk) → taken.message ≡ Ask ask → ask.id ≡ id → creates ask.op ≡ false → IsBackend config taken.to → IsStepOf config steps id taken
+  at_home : (ask : FrontAsk) → taken.message ≡ Ask ask → ask.id ≡ id → is_of_name ask.op ≡ false → IsBackend config taken.to → IsStepOf config steps id taken
   at_master : (line : List ℕ) → taken.message ≡ Line line → line_ask line ≡ Some id → taken.to ≡ master_of config → IsStepOf config steps id taken
 
 -- the command of this number is a LIST
@@ -141,7 +143,7 @@ pub record CountsFor (talk : Talk) (points : List Point) (step : ℕ) (message :
 
 -- so it is with each ask for messages and with each change of the mailboxes in these steps, and with each point of their history
 pub record AreRouted (config : Config) (talk : Talk) (steps : List Event) (points : List Point) : Type 0 where
-  pub asks : (taken : Taken config steps) (ask : FrontAsk) → taken.message ≡ Ask ask → creates ask.op ≡ false → AnswersAsk config talk steps points taken ask
+  pub asks : (taken : Taken config steps) (ask : FrontAsk) → taken.message ≡ Ask ask → is_of_name ask.op ≡ false → AnswersAsk config talk steps points taken ask
   pub makes : (taken : Taken config steps) (name : List ℕ) → ChangesMailbox config steps taken name
       → CountsFor talk points (length taken.before + 1) taken.message
   -- no other step works on a LIST (RFC 9051, 6.3.9) than one in which the master takes its NOOP

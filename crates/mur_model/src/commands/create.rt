@@ -59,7 +59,7 @@ fn create_meant(
 }
 
 #[tactic(auto, unfolding(crate::specs::Create::is_inbox))]
-fn is_inbox(text: &[u8]) -> bool
+pub fn is_inbox(text: &[u8]) -> bool
     ensures { result ≡ is_inbox text.now }
 {
     text.eq_ignore_ascii_case(b"inbox")

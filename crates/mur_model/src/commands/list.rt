@@ -1,9 +1,7 @@
 // LIST (RFC 9051, 6.3.9).
-ghost use Rattle.std.specs.Prelude.{◌≡◌, ◌≤◌, ◌++◌, ◌∷◌, [], length, All, IfOk, OnOk};
+ghost use Rattle.std.specs.Prelude.{◌≡◌, ℕ, List, IfOk, OnOk};
 ghost use Rattle.std.specs.Map.{keys_of};
-ghost use Rattle.mur_base.specs.Inbox.{shown_name};
-ghost use Rattle.mur_base.specs.declared.limits.TheConstants.{NAME_LIMIT};
-ghost use Rattle.mur_model.specs.Listing.{list, list_reply, listing_by, shown_to, tells};
+ghost use Rattle.mur_model.specs.Listing.{CanBeListed, all_gathered, gathered_of, gathered_with, list, list_reply, listing_by, nothing_gathered};
 ghost use Rattle.mur_model.specs.Need.{begun_of};
 
 use crate::at_once::told_at_once;
@@ -13,8 +11,9 @@ use crate::setting::Setting;
 use crate::store::Store;
 use imap_types::{Attribute, Code, Reply, ReplyLine, Verdict};
 use mur_base::{Bytes, Copied, Items, MailName, Memory, UserName, owns, shown};
-use name_listing::{Pattern, asks_separator, listing, reply_lines};
+use name_listing::{Level, Pattern, asks_separator, listing, reply_lines};
 use std::alloc::Global;
+use std::marker::Model;
 
 /// What a LIST asks for.
 #[derive(Drop)]
@@ -64,37 +63,72 @@ fn listing_by(
     })
 }
 
-impl Listing {
-    // Whether a mailbox of this name is told, where it matches.
-    #[tactic(auto, unfolding(crate::specs::Listing::tells))]
-    fn tells(&self, name: &MailName) -> bool
-        ensures { result ≡ tells self.now name.now }
-    {
-        self.is_admin || owns(&self.user, name)
-    }
+/// Mailboxes that a LIST tells, where they match. Those that are shown under their own names aren't copied.
+#[derive(Drop)]
+pub struct Gathered<'a> {
+    named: Items<Level<'a>>,
+    own: Items<Bytes>,
+}
 
-    // The mailboxes that are told, as they are shown.
-    #[tactic(auto, unfolding(crate::specs::Listing::shown_to))]
-    fn shown(&self, alloc: Global, names: &[MailName]) -> Result<Items<Bytes>, Memory>
-        ensures shown { IfOk result (λ shown. shown ≡ shown_to self.now names.now) }
-        ensures fits { IfOk result (λ shown. All (λ name. length name ≤ NAME_LIMIT) shown) }
+impl<'a> Model for Gathered<'a> {
+    ghost use Rattle.mur_model.specs.Listing.{Gathering, IsShort};
+
+    ghost Value = { Gathering };
+
+    ghost view = { λ gathered. record { named = gathered.named; own = gathered.own } };
+
+    ghost invariant = { λ gathered. IsShort (record { named = gathered.named; own = gathered.own }) };
+}
+
+impl<'a> Gathered<'a> {
+    pub fn new(alloc: Global) -> Gathered<'a>
+        ensures { result ≡ nothing_gathered }
     {
-        let mut list = Items::new(alloc);
-        for name in names {
-            if self.tells(name) {
-                put_shown(alloc, &self.user, name, &mut list)?;
-            }
+        Gathered {
+            named: Items::new(alloc),
+            own: Items::new(alloc),
         }
-        Ok(list)
     }
 
-    /// The reply, where there are mailboxes of these names and no other. Its time grows as the number of their levels.
-    #[tactic(auto, unfolding(crate::specs::Listing::list_reply))]
-    pub fn reply(&self, alloc: Global, names: &[MailName]) -> Result<Reply, Memory>
-        ensures { IfOk result (λ reply. reply ≡ list_reply self.now names.now) }
+    /// Puts in a mailbox, if the user is told of it. For want of memory what was gathered is spent.
+    #[tactic(auto, using(crate::proofs::ShownFit::more_fit, crate::proofs::ShownFit::more_named), unfolding(crate::specs::Listing::gathered_with))]
+    pub fn put(&mut self, alloc: Global, it: &Listing, name: &'a MailName) -> Result<(), Memory>
+        ensures { OnOk result (self.new ≡ gathered_with it.now self.old name.now) }
     {
-        let shown = self.shown(alloc, names)?;
-        let found = listing(alloc, shown.as_slice(), &self.pattern)?;
+        let _ruled = name.len();
+        if owns(&it.user, name) {
+            self.own.push(shown(alloc, &it.user, name)?)?;
+        } else if it.is_admin {
+            self.named.push(Level::of(name.as_bytes()))?;
+        }
+        Ok(())
+    }
+
+    // All names.
+    #[tactic(auto, using(crate::proofs::ShownFit::all_short))]
+    fn all(&self, alloc: Global) -> Result<Items<Level<'_>>, Memory>
+        ensures all { IfOk result (λ names. names ≡ all_gathered self.now) }
+        ensures short { IfOk result (λ names. CanBeListed names) }
+    {
+        let mut names = Items::new(alloc);
+        for text in self.own.as_slice() {
+            names.push(Level::of(text.as_slice()))?;
+        }
+        for level in self.named.as_slice() {
+            names.push(Level::of(level.as_bytes()))?;
+        }
+        Ok(names)
+    }
+}
+
+impl Listing {
+    /// The reply, where these mailboxes were gathered and no other. Its time grows as the number of the names, and of the levels of those that begin as
+    /// the pattern does.
+    pub fn reply(&self, alloc: Global, gathered: &Gathered<'_>) -> Result<Reply, Memory>
+        ensures { (names : List (List ℕ)) → gathered.now ≡ gathered_of self.now names → IfOk result (λ reply. reply ≡ list_reply self.now names) }
+    {
+        let names = gathered.all(alloc)?;
+        let found = listing(alloc, names.as_slice(), &self.pattern)?;
         Ok(Reply {
             lines: reply_lines(alloc, found)?,
             verdict: Verdict::Ok(Code::None, Bytes::from_slice(alloc, b"LIST")?),
@@ -102,30 +136,18 @@ impl Listing {
     }
 }
 
-// Puts the name of a mailbox behind others, as it is shown to a user.
-#[tactic(auto, using(crate::proofs::ShownFit::more_fit))]
-fn put_shown(
+/// What a LIST tells of the mailboxes of a store.
+#[tactic(auto, unfolding(crate::specs::Listing::gathered_of))]
+pub fn gathered_in<'a>(
     alloc: Global,
-    user: &UserName,
-    name: &MailName,
-    list: &mut Items<Bytes>,
-) -> Result<(), Memory>
-    requires { All (λ name. length name ≤ NAME_LIMIT) list.old }
-    ensures put { OnOk result (list.new ≡ list.old ++ shown_name user.now name.now ∷ []) }
-    ensures fits { OnOk result (All (λ name. length name ≤ NAME_LIMIT) list.new) }
+    it: &Listing,
+    store: &'a Store,
+) -> Result<Gathered<'a>, Memory>
+    ensures { IfOk result (λ gathered. gathered ≡ gathered_of it.now (keys_of store.now.boxes)) }
 {
-    let _ruled = name.len();
-    list.push(shown(alloc, user, name)?)?;
-    Ok(())
-}
-
-/// The names of the mailboxes of a store.
-pub fn names_in(alloc: Global, store: &Store) -> Result<Items<MailName>, Memory>
-    ensures { IfOk result (λ names. names ≡ keys_of store.now.boxes) }
-{
-    let mut names = Items::new(alloc);
+    let mut gathered = Gathered::new(alloc);
     for (name, _box) in store.boxes.iter() {
-        names.push(name.copy(alloc)?)?;
+        gathered.put(alloc, it, name)?;
     }
-    Ok(names)
+    Ok(gathered)
 }

@@ -30,10 +30,6 @@ pub returns-clause-uid_move : goal.returns-clause-uid_move
 unfolding computes
 returns-clause-uid_move c = refl
 
-pub returns-clause-delete : goal.returns-clause-delete
-unfolding computes
-returns-clause-delete c = refl
-
 pub returns-clause-transfer : goal.returns-clause-transfer
 unfolding computes
 returns-clause-transfer c = refl
