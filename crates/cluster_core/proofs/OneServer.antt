@@ -14,7 +14,6 @@ pub mod MovingLaw
 pub mod EachStep
 pub mod SerialsRise
 pub mod ToldSoFar
-pub mod RefusalsLaw
 pub mod ClosedLaw
 pub mod AtRestLaw
 pub mod AnyStep

@@ -29,7 +29,6 @@ use Rattle.cluster_core.specs.Headline.OneNode.{GoesOverLinks, OneNodeWorksEach,
 use Rattle.cluster_core.specs.Headline.OneStore.{IsToldByOneStore}
 use Rattle.cluster_core.specs.Headline.Outside.{ServesGuests, is_master}
 use Rattle.cluster_core.specs.Headline.Records.{RecordsStandAtBackends}
-use Rattle.cluster_core.specs.Headline.Refusals.{RefusesForCauseEach}
 use Rattle.cluster_core.specs.Headline.Replicas.{FollowTheTable}
 use Rattle.cluster_core.specs.World.{layout_of, start}
 
@@ -55,4 +54,3 @@ pub record IsOneServer (config : Config) (events : List Event) : Type 0 where
   pub asks : AsksByRecords config events
   pub records : RecordsStandAtBackends config events
   pub one_home : KeepsOneHomeEach config events
-  pub refusals : RefusesForCauseEach config events

@@ -98,7 +98,6 @@ tale_said setting tale later_told conn request serial = record {
   told = later_told;
   course = next_course setting tale.course conn request serial;
   before = with_session tale.before conn (tale.course.sessions conn);
-  moving = tale.moving;
 }
 
 not_next : (talk : Talk) (now conn : ℕ) (kind : MarkKind) (mark : Mark) → is_of mark.ask (next_mark now talk conn kind) ≡ false → conn_of mark ≡ conn
@@ -200,13 +199,13 @@ told_behind_by_last setting now marks tale conn answer said is =
 pub asked_by_last : (setting : Setting) (now : ℕ) (marks : List Mark) (tale : Tale) (requests : ℕ → List Request) → GoesOn tale.talk.requests requests
     → IsToldByLast setting now marks tale → IsToldByLast setting now marks (asking tale requests)
 asked_by_last setting now marks tale requests more is =
-    let longer : Talk = record { requests = requests; answers = tale.talk.answers; serials = tale.talk.serials } in
+    let longer : Talk = talk_asking tale.talk requests in
     record {
       acting = is.acting;
       leaves = is.leaves;
       is_told = told_asked setting now is.acting tale.talk tale.told tale.course requests more is.is_told;
       earlier = is.earlier;
-      from = from_on setting tale.talk longer (record { requests = more; answers = same_lists tale.talk.answers; serials = same_lists tale.talk.serials })
+      from = from_on setting tale.talk longer (record { requests = more; answers = same_lists tale.talk.answers; serials = same_lists tale.talk.serials; moving = refl })
           first_course tale.course first_course.sessions is.earlier is.acting is.from;
       before = is.before;
     }

@@ -21,7 +21,7 @@ pub data IsDeed (setting : Setting) (talk : Talk) (course : Course) (mark : Mark
   carries_it_out : (request : Request) (serial : ℕ) → refused ≡ false → Takes setting talk course (conn_of mark) (command_of mark) request serial
       → done ≡ carried_out setting course (conn_of mark) request serial → IsDeed setting talk course mark refused done
   is_refused : (tag : Tag) (it : Command) → refused ≡ true → mark.kind ≡ Home IfAnswered
-      → IsRefused setting talk course (conn_of mark) (command_of mark) tag it reserved BeingMoved
+      → IsRefused setting talk course mark.step (conn_of mark) (command_of mark) tag it reserved BeingMoved
       → done ≡ refused_out course (conn_of mark) tag it BeingMoved → IsDeed setting talk course mark refused done
 
 -- the step of a mark acts so, which its answer is; one that counts only for an answered command leaves the store as it was
@@ -54,13 +54,29 @@ same_takes setting talk course other conn number request serial store session ta
       (subst (λ s. MayTake setting course.store s request serial) (sym session) takes.free);
 }
 
-pub same_is_refused : (setting : Setting) (talk : Talk) (course other : Course) (conn number : ℕ) (tag : Tag) (it : Command)
-    → other.sessions conn ≡ course.sessions conn → IsRefused setting talk course conn number tag it reserved BeingMoved
-    → IsRefused setting talk other conn number tag it reserved BeingMoved
-same_is_refused setting talk course other conn number tag it session is = record {
+pub same_is_refused : (setting : Setting) (talk : Talk) (course other : Course) (step conn number : ℕ) (tag : Tag) (it : Command)
+    → other.sessions conn ≡ course.sessions conn → IsRefused setting talk course step conn number tag it reserved BeingMoved
+    → IsRefused setting talk other step conn number tag it reserved BeingMoved
+same_is_refused setting talk course other step conn number tag it session is = record {
   asked = is.asked;
-  needs = subst (λ s. NeedsMailbox (need_of setting s it)) (sym session) is.needs;
+  name = is.name;
+  work = is.work;
+  need = ap (λ s. need_of setting s it) session ∙ is.need;
   cause = is.cause;
+  moves = is.moves;
+}
+
+-- of another talk with the same mailboxes being moved, in which it was asked
+pub refused_with : (setting : Setting) (talk other : Talk) (course : Course) (step conn number : ℕ) (tag : Tag) (it : Command)
+    → numbered (other.requests conn) number ≡ Some (a_command tag it) → other.moving ≡ talk.moving
+    → IsRefused setting talk course step conn number tag it reserved BeingMoved → IsRefused setting other course step conn number tag it reserved BeingMoved
+refused_with setting talk other course step conn number tag it asked moving is = record {
+  asked = asked;
+  name = is.name;
+  work = is.work;
+  need = is.need;
+  cause = is.cause;
+  moves = λ what. ap (λ m. m step is.name) moving ∙ is.moves what;
 }
 
 same_deed : (setting : Setting) (talk : Talk) (course other : Course) (mark : Mark) (refused : Bool) (done : Answered) → other.store ≡ course.store
@@ -70,7 +86,7 @@ same_deed setting talk course other mark refused done store session (carries_it_
     carries_it_out request serial plain (same_takes setting talk course other (conn_of mark) (command_of mark) request serial store session takes)
     (is ∙ sym (same_carried setting course other (conn_of mark) request serial store session))
 same_deed setting talk course other mark refused done store session (is_refused tag it refuses kind may is) =
-    is_refused tag it refuses kind (same_is_refused setting talk course other (conn_of mark) (command_of mark) tag it session may)
+    is_refused tag it refuses kind (same_is_refused setting talk course other mark.step (conn_of mark) (command_of mark) tag it session may)
     (is ∙ sym (same_refused course other (conn_of mark) tag it store session))
 
 pub same_step : (setting : Setting) (talk : Talk) (course other : Course) (mark : Mark) (refused : Bool) (done : Answered) → other.store ≡ course.store
@@ -93,13 +109,15 @@ pub record HasItsAct (talk other : Talk) (mark : Mark) : Type 0 where
   pub request : numbered (other.requests (conn_of mark)) (command_of mark) ≡ numbered (talk.requests (conn_of mark)) (command_of mark)
   pub answer : numbered (other.answers (conn_of mark)) (command_of mark) ≡ numbered (talk.answers (conn_of mark)) (command_of mark)
   pub serial : numbered (other.serials (conn_of mark)) (command_of mark) ≡ numbered (talk.serials (conn_of mark)) (command_of mark)
+  pub moving : other.moving ≡ talk.moving
 
 deed_with : (setting : Setting) (talk other : Talk) (course : Course) (mark : Mark) (refused : Bool) (done : Answered) → HasItsAct talk other mark
     → IsDeed setting talk course mark refused done → IsDeed setting other course mark refused done
 deed_with setting talk other course mark refused done has (carries_it_out request serial plain takes is) =
     carries_it_out request serial plain (record { asked = has.request ∙ takes.asked; given = has.serial ∙ takes.given; free = takes.free }) is
 deed_with setting talk other course mark refused done has (is_refused tag it refuses kind may is) =
-    is_refused tag it refuses kind (record { asked = has.request ∙ may.asked; needs = may.needs; cause = may.cause }) is
+    is_refused tag it refuses kind
+    (refused_with setting talk other course mark.step (conn_of mark) (command_of mark) tag it (has.request ∙ may.asked) has.moving may) is
 
 pub step_with : (setting : Setting) (talk other : Talk) (course : Course) (mark : Mark) (refused : Bool) (done : Answered) → HasItsAct talk other mark
     → IsStep setting talk course mark refused done → IsStep setting other course mark refused done
@@ -116,11 +134,8 @@ deed_on setting talk longer on course mark refused done (carries_it_out request 
     carries_it_out request serial plain (takes_on setting talk longer on course (conn_of mark) (command_of mark) request serial takes) is
 deed_on setting talk longer on course mark refused done (is_refused tag it refuses kind may is) =
     is_refused tag it refuses kind
-    (record {
-      asked = numbered_on talk.requests longer.requests on.requests (conn_of mark) (command_of mark) _ may.asked;
-      needs = may.needs;
-      cause = may.cause;
-    }) is
+    (refused_with setting talk longer course mark.step (conn_of mark) (command_of mark) tag it
+    (numbered_on talk.requests longer.requests on.requests (conn_of mark) (command_of mark) _ may.asked) on.moving may) is
 
 pub step_on : (setting : Setting) (talk longer : Talk) → TalkGoesOn talk longer → (course : Course) (mark : Mark) (refused : Bool) (done : Answered)
     → IsStep setting talk course mark refused done → IsStep setting longer course mark refused done

@@ -45,6 +45,19 @@ unfolding last_mark_from next_of
 none_last ask earlier [] none = refl
 none_last ask earlier (mark ∷ marks) none = none_by ask earlier mark marks (is_of ask mark) (none_last ask earlier marks) none
 
+found_by : (ask : AskId) (earlier : Option Mark) (mark : Mark) (marks : List Mark) (last : Mark) (own : Bool)
+    → (last_mark_from ask None marks ≡ Some last → last_mark_from ask earlier marks ≡ Some last)
+    → last_mark_from ask (if own then Some mark else None) marks ≡ Some last → last_mark_from ask (if own then Some mark else earlier) marks ≡ Some last
+found_by ask earlier mark marks last true rest is = is
+found_by ask earlier mark marks last false rest is = rest is
+
+-- one of them is, so earlier ones don't count
+pub found_last : (ask : AskId) (earlier : Option Mark) (marks : List Mark) (last : Mark) → last_mark_from ask None marks ≡ Some last
+    → last_mark_from ask earlier marks ≡ Some last
+unfolding last_mark_from
+found_last ask earlier [] last is = cc
+found_last ask earlier (mark ∷ marks) last is = found_by ask earlier mark marks last (is_of ask mark) (found_last ask earlier marks last) is
+
 its_own : (ask : AskId) → (nat_eq ask.conn ask.conn && nat_eq ask.command ask.command) ≡ true
 its_own ask = grind (arith, nat_tests)
 

@@ -11,13 +11,12 @@ pub mod Without
 pub mod CarriesFrom
 pub mod ByLast
 pub mod TakenBack
+pub mod LastMarks
 pub mod PutIn
 pub mod Refused
 pub mod RefusedByLast
 pub mod MarkLaw
-pub mod RefusalMarks
-pub mod LastMarks
-pub mod MovedLaw
+pub mod Reached
 pub mod EachMark
 pub mod Tellings
 pub mod MomentLaw

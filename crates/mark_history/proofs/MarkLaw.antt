@@ -51,11 +51,10 @@ as_open P now tale conn kind unreplied holds =
 
 abbrev said_so : Setting → Tale → (ℕ → List Answer) → (ℕ → List ℕ) → (ℕ → List Answer) → ℕ → Request → ℕ → Tale
 said_so setting tale answers serials told conn request serial = record {
-  talk = record { requests = tale.talk.requests; answers = answers; serials = serials };
+  talk = record { requests = tale.talk.requests; answers = answers; serials = serials; moving = tale.talk.moving };
   told = told;
   course = next_course setting tale.course conn request serial;
   before = with_session tale.before conn (tale.course.sessions conn);
-  moving = tale.moving;
 }
 
 as_acting : (setting : Setting) (now : ℕ) (marks : List Mark) (tale : Tale) (told : ℕ → List Answer) (conn : ℕ) (request : Request) (serial : ℕ)
@@ -219,11 +218,10 @@ refusing_one tale conn tag it serial so = λ c. ⊎_elim
 
 abbrev refused_so : Tale → (ℕ → List Answer) → (ℕ → List ℕ) → (ℕ → List Answer) → ℕ → Tag → Command → Tale
 refused_so tale answers serials told conn tag it = record {
-  talk = record { requests = tale.talk.requests; answers = answers; serials = serials };
+  talk = record { requests = tale.talk.requests; answers = answers; serials = serials; moving = tale.talk.moving };
   told = told;
   course = course_after tale.course conn (refusal tale conn tag it);
   before = with_session tale.before conn (tale.course.sessions conn);
-  moving = tale.moving;
 }
 
 -- the open command is refused

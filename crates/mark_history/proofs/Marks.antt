@@ -97,7 +97,7 @@ pub record IsTold_of (talk : Talk) (told : ℕ → List Answer) : Type 0 where
   pub parts : (conn : ℕ) → talk.answers conn ≡ told conn ++ rest conn
 
 abbrev pub told_talk : Talk → (ℕ → List Answer) → Talk
-told_talk talk told = record { requests = talk.requests; answers = told; serials = talk.serials }
+told_talk talk told = record { requests = talk.requests; answers = told; serials = talk.serials; moving = talk.moving }
 
 told_takes : (setting : Setting) (talk : Talk) (told : ℕ → List Answer) (course : Course) (conn number : ℕ) (request : Request) (serial : ℕ)
     → Takes setting talk course conn number request serial → Takes setting (told_talk talk told) course conn number request serial

@@ -13,6 +13,8 @@ use Rattle.mark_history.specs.declared.mark.Mark.{Mark}
 use Rattle.mark_history.specs.declared.mark.MarkKind.{MarkKind}
 use Rattle.mark_history.specs.declared.mark.MarkKind.TheVariants.{Home}
 use Rattle.mark_history.specs.History.{is_of, next_of}
+use Rattle.mark_history.specs.Marked.{last_mark, last_mark_from}
+use Rattle.mark_history.proofs.LastMarks.{found_last, none_last}
 use Rattle.mark_history.proofs.LeftOut.{LeavesOut, only_saw}
 use Rattle.mark_history.proofs.LeftOut.LeavesOut.{no_marks, stays, left_out}
 use Rattle.mark_history.proofs.Marks.{MarkedOnce, acting_mark, head_pairs, is_mark, one_next, tail_pairs}
@@ -112,6 +114,7 @@ pub record PutIn (now : ℕ → ℕ) (ask : AskId) (marks acting : List Mark) : 
   pub leaves : LeavesOut now marks more
   pub its_ask : mark.ask ≡ ask
   pub kind : mark.kind ≡ Home IfAnswered
+  pub last : last_mark ask marks ≡ Some mark
 
 rest_by : (ask : AskId) (mark : Mark) (marks : List Mark) (b : Bool) → is_of ask mark ≡ b → (if b then Some mark.kind else next_of ask marks) ≡ None
     → (is_of ask mark ≡ false) × (next_of ask marks ≡ None)
@@ -159,6 +162,7 @@ not_its ask mark other apart its = of_other mark other _ refl (λ c n.
 module _ (said now : ℕ → ℕ) (ask : AskId) (still : StillUnreplied said now ask) where
   stays_in : (mark : Mark) (more rest : List Mark) → is_of ask mark ≡ false → (acts mark.kind ≡ true → next_of mark.ask more ≡ next_of mark.ask rest)
       → PutIn now ask more rest → PutIn now ask (mark ∷ more) (mark ∷ rest)
+  unfolding last_mark_from
   stays_in mark more rest apart next its = record {
     mark = its.mark;
     more = mark ∷ its.more;
@@ -167,6 +171,7 @@ module _ (said now : ℕ → ℕ) (ask : AskId) (still : StillUnreplied said now
         (λ a. next a ∙ sym (next_without mark.ask its.mark its.more rest its.out (not_its ask mark its.mark apart its.its_ask))) its.leaves;
     its_ask = its.its_ask;
     kind = its.kind;
+    last = found_last ask (if is_of ask mark then Some mark else None) more its.mark its.last;
   }
 
   saw_by : (mark : Mark) (more : List Mark) (kind : MarkKind) → next_of ask more ≡ Some kind
@@ -179,6 +184,7 @@ module _ (said now : ℕ → ℕ) (ask : AskId) (still : StillUnreplied said now
       → only_saw (next_of mark.ask more) (nat_le (command_of mark) (said (conn_of mark))) ≡ true → All (λ (m : Mark). is_of ask m ≡ false) acting
       → LeavesOut said more acting → (next_of ask (mark ∷ more) ≡ None → ⊥) → (next : Option MarkKind) → next_of ask more ≡ next
       → ((next_of ask more ≡ None → ⊥) → PutIn now ask more acting) → PutIn now ask (mark ∷ more) acting
+  unfolding last_mark_from
   left_in mark more acting kind saw apart leaves some None next further =
       let id : mark.ask ≡ ask = its_id ask mark (own_last ask mark more next some) in
       record {
@@ -190,6 +196,7 @@ module _ (said now : ℕ → ℕ) (ask : AskId) (still : StillUnreplied said now
             (leaves_still said now ask more acting still next leaves);
         its_ask = id;
         kind = kind;
+        last = ap (λ own. last_mark_from ask (if own then Some mark else None) more) (own_last ask mark more next some) ∙ none_last ask (Some mark) more next;
       }
   left_in mark more acting kind saw apart leaves some (Some its_kind) next further =
       let its = further (λ none. (let both : None ≡ Some its_kind = sym none ∙ next in cc)) in
@@ -200,6 +207,7 @@ module _ (said now : ℕ → ℕ) (ask : AskId) (still : StillUnreplied said now
         leaves = left_out mark more its.more kind (saw_by mark more its_kind next saw (is_of ask mark) refl) its.leaves;
         its_ask = its.its_ask;
         kind = its.kind;
+        last = found_last ask (if is_of ask mark then Some mark else None) more its.mark its.last;
       }
 
   -- the last mark of the command is put in, where no step acts on it

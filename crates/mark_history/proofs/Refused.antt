@@ -50,7 +50,7 @@ next_alone ask marks tell none same =
 
 module _ (setting : Setting) (talk : Talk) (mark tell : Mark) (last : Course) (end : ℕ → Sess) (tag : Tag) (it : Command)
     (kind : mark.kind ≡ Home IfAnswered) (tells : tell.kind ≡ Told Reserved) (acts_not : acts tell.kind ≡ false) (same_ask : tell.ask ≡ mark.ask)
-    (refused : IsRefused setting talk last (conn_of mark) (command_of mark) tag it reserved BeingMoved)
+    (refused : IsRefused setting talk last mark.step (conn_of mark) (command_of mark) tag it reserved BeingMoved)
     (answer : numbered (talk.answers (conn_of mark)) (command_of mark) ≡ Some (refused_out last (conn_of mark) tag it BeingMoved).answer) where
   abbrev conn : ℕ
   conn = conn_of mark
@@ -93,7 +93,7 @@ module _ (setting : Setting) (talk : Talk) (mark tell : Mark) (last : Course) (e
                   (refuses_next _ (next_alone mark.ask less tell
                   (none_of mark.ask less (λ k d h. of_other mark (get_or less k d) _ refl (λ c n. absurd (omega (arith, earlier k d h (sym c), n))))) own
                   ∙ ap {B = Option MarkKind} (λ k. Some k) tells))
-                  kind (same_is_refused setting talk last course conn (command_of mark) tag it (sym kept) refused) refl;
+                  kind (same_is_refused setting talk last course mark.step conn (command_of mark) tag it (sym kept) refused) refl;
               answer = answer ∙ ap {B = Option Answer} (λ s. Some (after_refusal last.store s tag it BeingMoved).answer) kept;
               unless = λ k. refl;
             })

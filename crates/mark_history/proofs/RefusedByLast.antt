@@ -20,15 +20,16 @@ use Rattle.mark_history.specs.declared.mark.Mark.{Mark}
 use Rattle.mark_history.specs.declared.mark.MarkKind.{MarkKind}
 use Rattle.mark_history.specs.declared.mark.MarkKind.TheVariants.{Home, Told}
 use Rattle.mark_history.specs.FirstCourse.{first_course}
-use Rattle.mark_history.specs.History.{is_of}
-use Rattle.mark_history.specs.Marked.{CanRefuse, IsUnreplied, Tale, last_of, mark_now, open_ask, refusal}
+use Rattle.mark_history.specs.History.{is_of, next_of}
+use Rattle.mark_history.specs.Marked.{CanRefuse, IsUnreplied, Tale, last_mark, mark_now, open_ask, refusal}
 use Rattle.mark_history.proofs.ByLast.{IsToldByLast, said_of, still_saw}
 use Rattle.mark_history.proofs.CarriesFrom.{CarriesBeside, carries_of, from_on}
+use Rattle.mark_history.proofs.Deeds.{refused_with}
+use Rattle.mark_history.proofs.LastMarks.{none_last}
 use Rattle.mark_history.proofs.LeftOut.{LeavesOut, leaves_push}
 use Rattle.mark_history.proofs.Marks.{Later, counts_of, marked_once_telling, marks_push, with_session_elsewhere}
 use Rattle.mark_history.proofs.PutIn.{PutIn, StillUnreplied, each_left, each_with, fit_with, once_with, pairs_left, put_in}
 use Rattle.mark_history.proofs.Refused.{from_refused}
-use Rattle.mark_history.proofs.TakenBack.{last_none}
 use Rattle.mark_history.proofs.Tally.{StillFits, acts, command_of, conn_of, fit_push, fits, fits_apart, may_refuse, next_or, of_ask, of_both, of_other}
 use Rattle.mark_history.proofs.Told.{IsToldIn, having_said, said_more}
 use Rattle.mark_history.proofs.Without.{IsBefore, acts_home}
@@ -103,6 +104,14 @@ reserved_acts : acts (Told Reserved) ≡ false
 unfolding acts
 reserved_acts = refl
 
+-- ---- marks that are found
+
+same_mark : {one other : Mark} → Some one ≡ Some other → one ≡ other
+same_mark e = cc
+
+none_some : {mark : Mark} → None ≡ Some mark → ⊥
+none_some e = cc
+
 -- ---- the refusal
 
 abbrev pub refused_tale : Tale → ℕ → Tag → Command → ℕ → Tale
@@ -111,7 +120,6 @@ refused_tale tale conn tag it serial = record {
   told = with_item tale.told conn (refusal tale conn tag it).answer;
   course = course_after tale.course conn (refusal tale conn tag it);
   before = with_session tale.before conn (tale.course.sessions conn);
-  moving = tale.moving;
 }
 
 abbrev now_said : Tale → ℕ → Tag → Command → ℕ → ℕ → ℕ
@@ -119,8 +127,9 @@ now_said tale conn tag it serial c = length ((refused_tale tale conn tag it seri
 
 module _ (setting : Setting) (now : ℕ) (marks : List Mark) (tale : Tale) (tag : Tag) (it : Command) (serial : ℕ)
     (is : IsToldByLast setting now marks tale) (order : IsInOrder now marks tale.told) (ask : AskId)
-    (unreplied : IsUnreplied tale ask.conn) (number : ask.command ≡ length (tale.told ask.conn) + 1)
-    (refused : IsRefused setting tale.talk tale.course ask.conn ask.command tag it reserved BeingMoved) where
+    (unreplied : IsUnreplied tale ask.conn) (number : ask.command ≡ length (tale.told ask.conn) + 1) (step : ℕ)
+    (saw : last_mark ask marks ≡ Some (record { step = step; ask = ask; kind = Home IfAnswered }))
+    (refused : IsRefused setting tale.talk tale.course step ask.conn ask.command tag it reserved BeingMoved) where
   abbrev conn : ℕ
   conn = ask.conn
 
@@ -164,8 +173,8 @@ module _ (setting : Setting) (now : ℕ) (marks : List Mark) (tale : Tale) (tag 
   its_answer = ap (numbered (longer.answers conn)) (number ∙ ap (λ n. n + 1) (sym said))
       ∙ numbered_new tale.talk.answers conn answer (length (tale.talk.answers conn)) refl
 
-  in_longer : IsRefused setting longer tale.course conn ask.command tag it reserved BeingMoved
-  in_longer = record { asked = refused.asked; needs = refused.needs; cause = refused.cause }
+  in_longer : IsRefused setting longer tale.course step conn ask.command tag it reserved BeingMoved
+  in_longer = refused_with setting tale.talk longer tale.course step conn ask.command tag it refused.asked refl refused
 
   now_told : (c : ℕ) → c ≢ conn → with_item tale.told conn answer c ≡ tale.told c
   now_told c ne = with_item-other tale.told conn answer c ne
@@ -177,6 +186,9 @@ module _ (setting : Setting) (now : ℕ) (marks : List Mark) (tale : Tale) (tag 
   module _ (its : PutIn (λ c. length (longer.answers c)) ask marks is.acting) where
     conn_same : conn_of its.mark ≡ conn
     conn_same = ap (λ (a : AskId). a.conn) its.its_ask
+
+    step_same : its.mark.step ≡ step
+    step_same = ap (λ (m : Mark). m.step) (same_mark (sym its.last ∙ saw))
 
     command_same : command_of its.mark ≡ ask.command
     command_same = ap (λ (a : AskId). a.command) its.its_ask
@@ -195,7 +207,8 @@ module _ (setting : Setting) (now : ℕ) (marks : List Mark) (tale : Tale) (tag 
     others = subst (λ c. CarriesBeside setting longer first_course first_course.sessions (its.more ++ tell ∷ [])
         (course_after tale.course c (refusal tale c tag it)) c is.earlier) conn_same
         (from_refused setting longer its.mark tell tale.course is.earlier tag it its.kind refl reserved_acts (sym its.its_ask)
-        (subst (λ (a : AskId). IsRefused setting longer tale.course a.conn a.command tag it reserved BeingMoved) (sym its.its_ask) in_longer)
+        (subst (λ n. IsRefused setting longer tale.course n (conn_of its.mark) (command_of its.mark) tag it reserved BeingMoved) (sym step_same)
+        (subst (λ (a : AskId). IsRefused setting longer tale.course step a.conn a.command tag it reserved BeingMoved) (sym its.its_ask) in_longer))
         (subst (λ (a : AskId). numbered (longer.answers a.conn) a.command ≡ Some (refusal tale a.conn tag it).answer) (sym its.its_ask) its_answer)
         first_course first_course.sessions its.more is.acting its.out
         (from_on setting tale.talk longer (said_more tale.talk conn answer serial) first_course tale.course first_course.sessions is.earlier is.acting is.from)
@@ -282,8 +295,8 @@ module _ (setting : Setting) (now : ℕ) (marks : List Mark) (tale : Tale) (tag 
       refused = λ k d h. λ _. tt;
     }
 
-    refused_with : IsToldByLast setting now (marks ++ tell ∷ []) (refused_tale tale conn tag it serial)
-    refused_with = record {
+    told_with : IsToldByLast setting now (marks ++ tell ∷ []) (refused_tale tale conn tag it serial)
+    told_with = record {
       acting = its.more ++ tell ∷ [];
       leaves = leaves;
       is_told = told_in;
@@ -303,12 +316,14 @@ module _ (setting : Setting) (now : ℕ) (marks : List Mark) (tale : Tale) (tag 
           (cases_eq c conn);
     }
 
-  pub refused_at : last_of ask marks ≡ Some (Home IfAnswered) → IsToldByLast setting now (marks ++ tell ∷ []) (refused_tale tale conn tag it serial)
-  refused_at seen = refused_with (put_in (said_of tale) (λ c. length (longer.answers c)) ask still marks is.acting apart is.leaves
-      (λ none. (let both : None ≡ Some (Home IfAnswered) = sym (last_none ask None marks none) ∙ seen in cc)))
+  pub refused_at : IsToldByLast setting now (marks ++ tell ∷ []) (refused_tale tale conn tag it serial)
+  refused_at = told_with (put_in (said_of tale) (λ c. length (longer.answers c)) ask still marks is.acting apart is.leaves (λ none. some_last none))
+    where
+      some_last : next_of ask marks ≡ None → ⊥
+      some_last none = none_some (sym (none_last ask None marks none) ∙ saw)
 
 pub refused_by_last : (setting : Setting) (now : ℕ) (marks : List Mark) (tale : Tale) (conn : ℕ) (tag : Tag) (it : Command) (serial : ℕ)
     → CanRefuse setting marks tale conn tag it → IsInOrder now marks tale.told → IsToldByLast setting now marks tale
     → IsToldByLast setting now (marks ++ mark_now now tale conn (Told Reserved) ∷ []) (refused_tale tale conn tag it serial)
 refused_by_last setting now marks tale conn tag it serial can order is =
-    refused_at setting now marks tale tag it serial is order (open_ask tale conn) can.unreplied refl can.refused can.seen
+    refused_at setting now marks tale tag it serial is order (open_ask tale conn) can.unreplied refl can.step can.saw can.refused

@@ -213,6 +213,7 @@ module _ (setting : Setting) (now : ℕ) (tale : Tale) (acting less : List Mark)
         (λ (ne : conn_of m ≢ conn).
         ap (λ l. numbered l (command_of m)) (list_elsewhere tale.talk.serials conn (take (length (tale.told conn)) (tale.talk.serials conn)) (conn_of m) ne))
         (cases_eq (conn_of m) conn);
+    moving = refl;
   }
 
   module _ (earlier : ℕ → Sess) (from : CarriesFrom setting tale.talk first_course first_course.sessions acting tale.course earlier)

@@ -49,6 +49,7 @@ having_said talk conn answer serial = record {
   requests = talk.requests;
   answers = with_item talk.answers conn answer;
   serials = with_item talk.serials conn serial;
+  moving = talk.moving;
 }
 
 pub said_more : (talk : Talk) (conn : ℕ) (answer : Answer) (serial : ℕ) → TalkGoesOn talk (having_said talk conn answer serial)
@@ -56,6 +57,7 @@ said_more talk conn answer serial = record {
   requests = same_lists talk.requests;
   answers = item_more talk.answers conn answer;
   serials = item_more talk.serials conn serial;
+  moving = refl;
 }
 
 -- the mark of the next command of a connection
@@ -255,10 +257,10 @@ told_behind_push {may} setting now marks talk told course conn answer said is =
 -- more is asked
 pub told_asked : {may : Type 0} (setting : Setting) (now : ℕ) (marks : List Mark) (talk : Talk) (told : ℕ → List Answer) (course : Course)
     (requests : ℕ → List Request) → GoesOn talk.requests requests → IsToldIn may setting now marks talk told course
-    → IsToldIn may setting now marks (record { requests = requests; answers = talk.answers; serials = talk.serials }) told course
+    → IsToldIn may setting now marks (talk_asking talk requests) told course
 told_asked {may} setting now marks talk told course requests more is = record {
-  carries = carries_on setting talk (record { requests = requests; answers = talk.answers; serials = talk.serials })
-      (record { requests = more; answers = same_lists talk.answers; serials = same_lists talk.serials }) first_course course marks is.carries;
+  carries = carries_on setting talk (talk_asking talk requests)
+      (record { requests = more; answers = same_lists talk.answers; serials = same_lists talk.serials; moving = refl }) first_course course marks is.carries;
   once = is.once;
   later = is.later;
   numbers = is.numbers;

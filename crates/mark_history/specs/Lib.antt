@@ -1,5 +1,5 @@
 pub mod History
 pub mod FirstCourse
 pub mod Marked
-pub mod Refusals
+pub mod Reached
 pub mod Moments

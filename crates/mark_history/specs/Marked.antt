@@ -26,14 +26,13 @@ use Rattle.mark_history.specs.declared.mark.MarkKind.TheVariants.{Home, Told}
 use Rattle.mark_history.specs.FirstCourse.{first_course}
 use Rattle.mark_history.specs.History.{is_of, points_of}
 
--- what marks are of: what the clients asked and were replied, and what they were told of that; the store and all sessions; of each connection the
--- session before its last reply; and behind each step which mailboxes are being moved, which is fixed for all steps of a run
+-- what marks are of: what the clients asked and were replied, and what they were told of that; the store and all sessions; and of each connection the
+-- session before its last reply
 pub record Tale : Type 0 where
   pub talk : Talk
   pub told : ℕ → List Answer
   pub course : Course
   pub before : ℕ → Sess
-  pub moving : ℕ → List ℕ → Bool
 
 -- another list at a connection
 unfoldable pub with_list : {T : Type 0} → (ℕ → List T) → ℕ → List T → ℕ → List T
@@ -41,15 +40,18 @@ with_list lists conn list other = if other == conn then list else lists other
 
 abbrev pub first_tale : (ℕ → List ℕ → Bool) → Tale
 first_tale moving = record {
-  talk = record { requests = λ _. []; answers = λ _. []; serials = λ _. [] };
+  talk = record { requests = λ _. []; answers = λ _. []; serials = λ _. []; moving = moving };
   told = λ _. [];
   course = first_course;
   before = first_course.sessions;
-  moving = moving;
 }
 
+-- more was asked
+abbrev pub talk_asking : Talk → (ℕ → List Request) → Talk
+talk_asking talk requests = record { requests = requests; answers = talk.answers; serials = talk.serials; moving = talk.moving }
+
 abbrev pub asking : Tale → (ℕ → List Request) → Tale
-asking tale requests = record tale { talk = record { requests = requests; answers = tale.talk.answers; serials = tale.talk.serials } }
+asking tale requests = record tale { talk = talk_asking tale.talk requests }
 
 -- the open command of a connection
 abbrev pub open_ask : Tale → ℕ → AskId
@@ -102,11 +104,11 @@ acting setting tale conn request serial = record {
     requests = tale.talk.requests;
     answers = with_list tale.talk.answers conn (tale.told conn ++ (done setting tale conn request serial).answer ∷ []);
     serials = with_list tale.talk.serials conn (tale.talk.serials conn ++ serial ∷ []);
+    moving = tale.talk.moving;
   };
   told = tale.told;
   course = course_after tale.course conn (done setting tale conn request serial);
   before = with_session tale.before conn (tale.course.sessions conn);
-  moving = tale.moving;
 }
 
 -- its client is told
@@ -120,28 +122,19 @@ taking_back tale conn = record {
     requests = tale.talk.requests;
     answers = with_list tale.talk.answers conn (tale.told conn);
     serials = with_list tale.talk.serials conn (take (length (tale.told conn)) (tale.talk.serials conn));
+    moving = tale.talk.moving;
   };
   told = tale.told;
   course = record { store = tale.course.store; sessions = with_session tale.course.sessions conn (tale.before conn) };
   before = tale.before;
-  moving = tale.moving;
 }
 
--- the mailbox that the open command needs was being moved in the step that saw it last
-pub record SawMove (setting : Setting) (marks : List Mark) (tale : Tale) (conn : ℕ) (it : Command) : Type 0 where
-  pub step : ℕ
-  pub saw : last_mark (open_ask tale conn) marks ≡ Some (record { step = step; ask = open_ask tale conn; kind = Home IfAnswered })
-  pub name : List ℕ
-  pub work : Work
-  pub need : need_of setting (tale.course.sessions conn) it ≡ Mailbox name work
-  pub moving : tale.moving step name ≡ true
-
--- the open command was asked and seen, has no reply, and may be refused since its mailbox is being moved: it needs one
+-- the open command was asked and has no reply, and may be refused since its mailbox was being moved in the step that saw it last
 pub record CanRefuse (setting : Setting) (marks : List Mark) (tale : Tale) (conn : ℕ) (tag : Tag) (it : Command) : Type 0 where
   pub unreplied : IsUnreplied tale conn
-  pub refused : IsRefused setting tale.talk tale.course conn (length (tale.told conn) + 1) tag it reserved BeingMoved
-  pub seen : last_of (open_ask tale conn) marks ≡ Some (Home IfAnswered)
-  pub move : SawMove setting marks tale conn it
+  pub step : ℕ
+  pub saw : last_mark (open_ask tale conn) marks ≡ Some (record { step = step; ask = open_ask tale conn; kind = Home IfAnswered })
+  pub refused : IsRefused setting tale.talk tale.course step conn (length (tale.told conn) + 1) tag it reserved BeingMoved
 
 abbrev pub refusal : Tale → ℕ → Tag → Command → Answered
 refusal tale conn tag it = refused_out tale.course conn tag it BeingMoved
@@ -153,11 +146,11 @@ refusing tale conn tag it serial = record {
     requests = tale.talk.requests;
     answers = with_list tale.talk.answers conn (tale.told conn ++ (refusal tale conn tag it).answer ∷ []);
     serials = with_list tale.talk.serials conn (tale.talk.serials conn ++ serial ∷ []);
+    moving = tale.talk.moving;
   };
   told = tale.told;
   course = course_after tale.course conn (refusal tale conn tag it);
   before = with_session tale.before conn (tale.course.sessions conn);
-  moving = tale.moving;
 }
 
 -- up to a step these marks are made, and are of this
@@ -196,7 +189,7 @@ pub data AreMarked (setting : Setting) : ℕ → List Mark → Tale → Type 0 w
 
 -- what the clients asked and were told
 abbrev pub talk_told : Tale → Talk
-talk_told tale = record { requests = tale.talk.requests; answers = tale.told; serials = tale.talk.serials }
+talk_told tale = record { requests = tale.talk.requests; answers = tale.told; serials = tale.talk.serials; moving = tale.talk.moving }
 
 -- the history is legal for what the clients were told, and leads to this store
 pub record IsLegalTo (setting : Setting) (talk : Talk) (points : List Point) (store : Store) : Type 0 where

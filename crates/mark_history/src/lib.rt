@@ -14,5 +14,5 @@ mod laws;
 mod mark;
 
 pub use history::{Points, points_of};
-pub use laws::{a_refusal_has_two_marks, points_stand_in_time, the_last_step_counts};
+pub use laws::{points_stand_in_time, the_last_step_counts};
 pub use mark::{Mark, MarkKind};

@@ -10,7 +10,12 @@ pub same_lists : {T : Type 0} (lists : ℕ → List T) → GoesOn lists lists
 same_lists lists = record { more = λ conn. []; parts = λ conn. sym (append-nil (lists conn)) }
 
 pub same_talk : (talk : Talk) → TalkGoesOn talk talk
-same_talk talk = record { requests = same_lists talk.requests; answers = same_lists talk.answers; serials = same_lists talk.serials }
+same_talk talk = record {
+  requests = same_lists talk.requests;
+  answers = same_lists talk.answers;
+  serials = same_lists talk.serials;
+  moving = refl;
+}
 
 lists_follow : {T : Type 0} (one two three : ℕ → List T) → GoesOn one two → GoesOn two three → GoesOn one three
 lists_follow one two three first second = record {
@@ -27,6 +32,7 @@ talks_follow one two three first second = record {
   requests = lists_follow one.requests two.requests three.requests first.requests second.requests;
   answers = lists_follow one.answers two.answers three.answers first.answers second.answers;
   serials = lists_follow one.serials two.serials three.serials first.serials second.serials;
+  moving = second.moving ∙ first.moving;
 }
 
 -- one item more at one connection

@@ -16,7 +16,8 @@ use Rattle.mur_model.specs.declared.setting.Setting.{Setting}
 use Rattle.mur_model.specs.declared.store.Store.{Store}
 use Rattle.mur_model.specs.Act.{need_of}
 use Rattle.mur_model.specs.Answer.{Answered, answer_of, MayTake}
-use Rattle.mur_model.specs.Relocation.{NeedsMailbox, after_refusal, cause_text}
+use Rattle.mur_model.specs.Needed.{Mailbox, Work}
+use Rattle.mur_model.specs.Relocation.{after_refusal, cause_text}
 
 -- the one store and the sessions of all connections, between two points
 pub record Course : Type 0 where
@@ -24,11 +25,12 @@ pub record Course : Type 0 where
   pub sessions : ℕ → Sess
 
 -- of each connection what its client asked and was answered, and the UIDVALIDITY that each request had for the mailbox that
--- it might make
+-- it might make; and behind each step which mailboxes are being moved
 pub record Talk : Type 0 where
   pub requests : ℕ → List Request
   pub answers : ℕ → List Answer
   pub serials : ℕ → List ℕ
+  pub moving : ℕ → List ℕ → Bool
 
 -- the lists of the one are those of the other and more
 pub record GoesOn {T : Type 0} (lists longer : ℕ → List T) : Type 0 where
@@ -40,6 +42,7 @@ pub record TalkGoesOn (talk longer : Talk) : Type 0 where
   pub requests : GoesOn talk.requests longer.requests
   pub answers : GoesOn talk.answers longer.answers
   pub serials : GoesOn talk.serials longer.serials
+  pub moving : longer.moving ≡ talk.moving
 
 -- the sessions with another one at a connection
 unfoldable pub with_session : (ℕ → Sess) → ℕ → Sess → ℕ → Sess
@@ -68,11 +71,15 @@ pub record Takes (setting : Setting) (talk : Talk) (course : Course) (conn numbe
 abbrev pub refused_out : Course → ℕ → Tag → Command → NoText → Answered
 refused_out course conn tag it why = after_refusal course.store (course.sessions conn) tag it why
 
--- a command by its number, which needs a mailbox, and is refused for the cause that its point tells
-pub record IsRefused (setting : Setting) (talk : Talk) (course : Course) (conn number : ℕ) (tag : Tag) (it : Command) (what : What) (why : NoText) : Type 0 where
+-- a command by its number, which needs a mailbox, and is refused in this step for the cause that its point tells: `reserved` for a mailbox that is being
+-- moved then
+pub record IsRefused (setting : Setting) (talk : Talk) (course : Course) (step conn number : ℕ) (tag : Tag) (it : Command) (what : What) (why : NoText) : Type 0 where
   pub asked : numbered (talk.requests conn) number ≡ Some (a_command tag it)
-  pub needs : NeedsMailbox (need_of setting (course.sessions conn) it)
+  pub name : List ℕ
+  pub work : Work
+  pub need : need_of setting (course.sessions conn) it ≡ Mailbox name work
   pub cause : cause_text what ≡ Some why
+  pub moves : what ≡ reserved → talk.moving step name ≡ true
 
 abbrev pub point_of : ℕ → ℕ → ℕ → What → Point
 point_of step conn number what = record { step = step; ask = record { conn = conn; command = number }; what = what }
@@ -92,7 +99,7 @@ pub data Follows (setting : Setting) (talk : Talk) : Course → List Point → C
       → Follows setting talk (course_after course conn (carried_out setting course conn request serial)) points last
       → Follows setting talk course (point_of step conn number lost ∷ points) last
   a_refusal : (course last : Course) (step conn number : ℕ) (tag : Tag) (it : Command) (what : What) (why : NoText) (points : List Point)
-      → IsRefused setting talk course conn number tag it what why
+      → IsRefused setting talk course step conn number tag it what why
       → numbered (talk.answers conn) number ≡ Some (refused_out course conn tag it why).answer
       → Follows setting talk (course_after course conn (refused_out course conn tag it why)) points last
       → Follows setting talk course (point_of step conn number what ∷ points) last

@@ -1,7 +1,7 @@
 -- The refusal of a command whose mailbox is on its way to another server, or whose server can't be reached (RFC 5530, 3: UNAVAILABLE). Nothing is
 -- carried out: the store stays, the session stays and is told no news; but a SELECT or an EXAMINE leaves no mailbox selected, as where it is refused
 -- for another cause (RFC 9051, 6.3.2).
-use Rattle.std.specs.Prelude.{⊤, [], ◌∷◌, Option, None, Some}
+use Rattle.std.specs.Prelude.{[], ◌∷◌, Option, None, Some}
 use Rattle.mur_base.specs.declared.point.What.{What}
 use Rattle.mur_base.specs.declared.point.What.TheVariants.{Reserved as reserved, Unreached as unreached}
 use Rattle.imap_types.specs.declared.command.Command.{Command}
@@ -20,7 +20,6 @@ use Rattle.mur_model.specs.declared.view.View.{View}
 use Rattle.mur_model.specs.Act.{session_after}
 use Rattle.mur_model.specs.Answer.{Answered}
 use Rattle.mur_model.specs.Left.{replied}
-use Rattle.mur_model.specs.Needed.{Needed, Refusal, Turned, Mailbox, Names}
 
 -- the text, by the cause that the command's point tells
 unfoldable pub cause_text : What → Option NoText
@@ -43,10 +42,3 @@ abbrev pub after_refusal : Store → Sess → Tag → Command → NoText → Ans
 after_refusal store session tag it why =
     let turn = refused_for session it why in
     record { store = store; session = session_after session turn.session; answer = record { tag = tag; reply = turn.reply } }
-
--- only a command that needs a mailbox is refused so: any other is answered, or refused for another cause, whatever becomes of servers
-unfoldable pub NeedsMailbox : Needed → Type 0
-NeedsMailbox (Refusal verdict) = ⊥
-NeedsMailbox (Turned turn) = ⊥
-NeedsMailbox (Mailbox name work) = ⊤
-NeedsMailbox (Names it) = ⊥

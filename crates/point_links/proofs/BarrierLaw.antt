@@ -21,7 +21,7 @@ use Rattle.mur_model.specs.Act.{work_on, worked_at}
 use Rattle.mur_model.specs.Asking.{asked_for}
 use Rattle.mur_model.specs.Left.{store_after}
 use Rattle.mur_model.specs.Needed.{Mailbox, Work, Make}
-use Rattle.mur_model.specs.Relocation.{NeedsMailbox, refused_for}
+use Rattle.mur_model.specs.Relocation.{refused_for}
 use Rattle.mur_model.specs.Store.{box_at, is_full}
 use Rattle.mur_model.proofs.OwnView.{IsOfNeeded, IsOfWork, work_own}
 use Rattle.name_links.specs.Serials.{Given}
@@ -142,11 +142,9 @@ module _ (murder : Murder) (given : Given) (store : Store) (front master first :
   reserved_told is (inr ne) = reserved_by (mailbox_by why.NotNow found_at) (by_mailbox why.NotNow ne) (mailbox_refused found_at is)
 
   reserved : is_reserved found_at ≡ true → IsReserved murder given store front master first c why.NotNow
-  unfolding NeedsMailbox
   reserved is = record {
     taken = taken;
     reserved = is;
-    needs = subst NeedsMailbox (sym c.need) tt;
     told = reserved_told is (is_make c.work);
   }
 

@@ -18,7 +18,7 @@ use Rattle.mur_base.specs.declared.point.AskId.{AskId}
 use Rattle.mur_model.specs.declared.store.Store.{Store}
 use Rattle.mur_model.specs.Act.{need_of}
 use Rattle.mur_model.specs.Needed.{Make}
-use Rattle.mur_model.specs.Relocation.{NeedsMailbox, refused_for}
+use Rattle.mur_model.specs.Relocation.{refused_for}
 use Rattle.mur_model.specs.Store.{box_at}
 use Rattle.name_links.specs.Serials.{Given}
 use Rattle.node_record.specs.Table.{MailboxTable, record_at}
@@ -55,7 +55,6 @@ pub record IsMissing (murder : Murder) (given : Given) (store : Store) (front ma
 pub record IsReserved (murder : Murder) (given : Given) (store : Store) (front master first : List ℕ) (c : ClientCommand) (cause : Why) : Type 0 where
   pub taken : NoopTaken murder given store front c.id
   pub reserved : is_reserved (record_at murder.master.table c.name) ≡ true
-  pub needs : NeedsMailbox (need_of c.setting c.was c.it)
   pub told : decided murder.master.table master first c cause ≡ refused_turn c (refused_for c.was c.it BeingMoved)
 
 -- a server is asked, so this isn't its point

@@ -24,7 +24,6 @@ use Rattle.imap_types.specs.declared.request.Request.TheVariants.{Command as a_c
 use Rattle.link_msg.specs.declared.how.How.{How}
 use Rattle.link_msg.specs.declared.how.How.TheVariants.{Behind, Reserved}
 use Rattle.mark_history.specs.Marked.{CanRefuse, Tale}
-use Rattle.mark_history.proofs.LastMarks.{last_kind}
 use Rattle.master_core.specs.Refusals.{is_reserved}
 use Rattle.node_record.specs.Table.{MailboxTable, record_at}
 use Rattle.cluster_core.proofs.Commands.Moving.{IsSeenBy}
@@ -35,7 +34,7 @@ use Rattle.mur_model.specs.declared.setting.Setting.{Setting}
 use Rattle.mur_model.specs.Act.{need_of, session_after}
 use Rattle.mur_model.specs.History.{numbered}
 use Rattle.mur_model.specs.Needed.{Mailbox}
-use Rattle.mur_model.specs.Relocation.{NeedsMailbox, cause_text, refused_for}
+use Rattle.mur_model.specs.Relocation.{cause_text, refused_for}
 use Rattle.point_links.specs.Commands.{ClientCommand, WaitsOn, refused_turn, told_turn}
 use Rattle.route_links.specs.Answered.{IsNumbered}
 use Rattle.serve_law.specs.AsTheStore.{given_with}
@@ -138,26 +137,29 @@ module _ (fixed : Fixed) (front : List ℕ) (replica : Replica) (conn : ℕ) (in
       ap (λ (s : Setting). need_of s (story.course.sessions conn) c.it) (sym ((heard.waiting).of).setting_is)
       ∙ ap (λ (s : Sess). need_of c.setting s c.it) (sym was) ∙ c.need
 
-  needs_one : c.was ≡ story.course.sessions conn → NeedsMailbox (need_of fixed.setting (story.course.sessions conn) c.it)
-  unfolding NeedsMailbox
-  needs_one was = subst NeedsMailbox (sym (need_so was)) tt
-
   -- the step that saw it last had this table, in which its name is reserved
   can_refuse : story.talk.requests conn ≡ requests_in inputs → story.talk.answers conn ≡ story.told conn → c.was ≡ story.course.sessions conn
-      → (table : MailboxTable) → IsSeenBy story.moving world.marks (next_id conn (story.told conn)) table
+      → (table : MailboxTable) → IsSeenBy story.talk.moving world.marks (next_id conn (story.told conn)) table
       → is_reserved (record_at table c.name) ≡ true → CanRefuse fixed.setting world.marks story conn (heard.waiting).tag c.it
   unfolding cause_text
   can_refuse requests said was table seen moves = record {
     unreplied = said;
-    refused = record { asked = asked_so requests; needs = needs_one was; cause = refl };
-    seen = last_kind (next_id conn (story.told conn)) world.marks _ seen.saw;
-    move = record { step = seen.step; saw = seen.saw; name = c.name; work = c.work; need = need_so was; moving = seen.moves c.name ∙ moves };
+    step = seen.step;
+    saw = seen.saw;
+    refused = record {
+      asked = asked_so requests;
+      name = c.name;
+      work = c.work;
+      need = need_so was;
+      cause = refl;
+      moves = λ what. seen.moves c.name ∙ moves;
+    };
   }
 
   pub refused_stands : InputsCome fixed front replica conn inputs held world story → (next : WentOn)
       → next ≡ refused_turn c (refused_for c.was c.it BeingMoved) → story.talk.requests conn ≡ requests_in inputs
       → story.talk.answers conn ≡ story.told conn → c.was ≡ story.course.sessions conn
-      → (table : MailboxTable) → IsSeenBy story.moving world.marks (next_id conn (story.told conn)) table → is_reserved (record_at table c.name) ≡ true
+      → (table : MailboxTable) → IsSeenBy story.talk.moving world.marks (next_id conn (story.told conn)) table → is_reserved (record_at table c.name) ≡ true
       → StandsSo fixed front replica conn inputs held world story (turned_by next)
   refused_stands come next is requests said was table seen moves =
       let turn : Turn = refused_for c.was c.it BeingMoved in

@@ -96,7 +96,7 @@ module _ (fixed : Fixed) (front : List ℕ) (replica : Replica) (conn : ℕ) (in
 
   module _ (come : InputsCome fixed front replica conn inputs held world story) (may : MaySend fixed front conn world story)
       (requests : story.talk.requests conn ≡ requests_in inputs)
-      (seen : IsSeenBy story.moving world.marks (next_id conn (story.told conn)) table)
+      (seen : IsSeenBy story.talk.moving world.marks (next_id conn (story.told conn)) table)
       (has_all : replica ≡ replica_of table) (backends : ClearsToBackend fixed replica world c) where
     -- what it is by the table is what it is by the replica
     by_table : (cause : Why) → next cause ≡ decided table fixed.master fixed.first c cause

@@ -79,7 +79,7 @@ module _ (fixed : Fixed) (world : World) (story : Tale) (node : List ℕ) (front
       → barrier_answered bytes ≡ Some id → id.conn ≡ conn → (table : MailboxTable)
       → IsInPlaceOf fixed (taken_from_link world fixed.master node) node front.replica (next_id conn (story.told conn)) place.nowhere
       → id ≡ next_id conn (story.told conn) → front.replica ≡ replica_of table
-      → IsSeenBy story.moving world.marks (next_id conn (story.told conn)) table
+      → IsSeenBy story.talk.moving world.marks (next_id conn (story.told conn)) table
       → WaitsThere fixed node conn inputs held connection (story.told conn) (story.talk.answers conn) (story.course.sessions conn)
       (place.is_barred (barrier.answered table))
       → OpenStep fixed world story fixed.master node front conn inputs held connection
@@ -133,5 +133,5 @@ module _ (fixed : Fixed) (world : World) (story : Tale) (node : List ℕ) (front
       (sym (ok_comes_so bytes turned (delivers_ok fixed front conn connection bytes id before.setting_is before.master_is before.first_is (before.at).has own
       reads_so)))
       (ok_by bytes id rest first reads_so own is.table is.over is.own is.has_all
-      (subst (IsMarkedAt story.moving world.marks next) is.here_is standing.marked)
+      (subst (IsMarkedAt story.talk.moving world.marks next) is.here_is standing.marked)
       (stands_there fixed world story fixed.master node front conn inputs held connection before standing here (not_nowhere is.table) is.here_is))

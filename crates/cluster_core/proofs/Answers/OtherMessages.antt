@@ -89,7 +89,6 @@ module _ (config : Config) (heard : ℕ → Heard) (world : World) (law : KeepsL
         };
         more = same_talk (talk_told law.story);
         closed = λ conn shut. refl;
-        moving = refl;
       }
 
   -- its own connections with the new replica, those of others with theirs

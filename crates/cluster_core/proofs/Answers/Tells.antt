@@ -43,8 +43,8 @@ behind_told setting world story conn answer marked untold = record {
       requests = same_lists story.talk.requests;
       answers = list_more story.told conn answer;
       serials = same_lists story.talk.serials;
+      moving = refl;
     };
-    moving = refl;
   };
   store = refl;
   told = list_at story.told conn (story.told conn ++ answer ∷ []);
@@ -76,8 +76,8 @@ refusal_told setting world story conn tag it marked can =
           requests = same_lists story.talk.requests;
           answers = list_more story.told conn answer;
           serials = list_more story.talk.serials conn 0;
+          moving = refl;
         };
-        moving = refl;
       };
       store = refl;
       told = list_at story.told conn (story.told conn ++ answer ∷ []);

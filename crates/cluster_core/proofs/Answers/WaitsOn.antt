@@ -170,7 +170,7 @@ waits_on_stands fixed front replica conn inputs held connection world story here
         client = heard.client;
         here = is.here;
         placed = is.placed;
-        marked = is.no_mark story.moving world.marks (next_id conn (story.told conn));
+        marked = is.no_mark story.talk.moving world.marks (next_id conn (story.told conn));
         stands = waits (record {
           passed = waiting.passed;
           request = waiting.request;

@@ -95,7 +95,6 @@ pub record GoesOnAt (conn : ℕ) (story next : Tale) : Type 0 where
   pub told : (other : ℕ) → other ≢ conn → next.told other ≡ story.told other
   pub sessions : (other : ℕ) → other ≢ conn → next.course.sessions other ≡ story.course.sessions other
   pub more : TalkGoesOn (talk_told story) (talk_told next)
-  pub moving : next.moving ≡ story.moving
 
 pub same_story : (conn : ℕ) (story : Tale) → GoesOnAt conn story story
 same_story conn story = record {
@@ -104,7 +103,6 @@ same_story conn story = record {
   told = λ other ne. refl;
   sessions = λ other ne. refl;
   more = same_talk (talk_told story);
-  moving = refl;
 }
 
 pub stories_follow : (conn : ℕ) (one two three : Tale) → GoesOnAt conn one two → GoesOnAt conn two three → GoesOnAt conn one three
@@ -114,7 +112,6 @@ stories_follow conn one two three first second = record {
   told = λ other ne. second.told other ne ∙ first.told other ne;
   sessions = λ other ne. second.sessions other ne ∙ first.sessions other ne;
   more = talks_follow (talk_told one) (talk_told two) (talk_told three) first.more second.more;
-  moving = second.moving ∙ first.moving;
 }
 
 abbrev pub client_with : List ℕ → List Input → List Answer → Client
@@ -140,7 +137,7 @@ pub record IsStanding (fixed : Fixed) (front : List ℕ) (replica : Replica) (co
   pub client : client_at world conn ≡ Some (client_with front inputs (story.told conn))
   pub here : Place
   pub placed : IsInPlaceOf fixed world front replica (next_id conn (story.told conn)) here
-  pub marked : IsMarkedAt story.moving world.marks (next_id conn (story.told conn)) here
+  pub marked : IsMarkedAt story.talk.moving world.marks (next_id conn (story.told conn)) here
   pub stands : Stands fixed front conn inputs held connection (story.told conn) (story.talk.answers conn) (story.course.sessions conn) here
 
 -- a world and a tale that a step of one connection made of another

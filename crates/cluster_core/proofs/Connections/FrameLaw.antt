@@ -252,7 +252,7 @@ module _ (fixed : Fixed) (front : List ℕ) (replica : Replica) (conn : ℕ) whe
   sent_here : (inputs waiting : List Input) (held : Option (List ℕ)) (connection : Connection) (before : World) (told : Tale) (world : World)
       (request : Request) (stage : Stage) (to : List ℕ) (message : LinkMsg) (its_place : Place)
       (was : ReadsOn fixed front replica conn inputs connection before told world)
-      → IsMarkedAt was.story.moving world.marks (next_id conn (was.story.told conn)) its_place
+      → IsMarkedAt was.story.talk.moving world.marks (next_id conn (was.story.told conn)) its_place
       → SendsSo fixed world (with_sent world front to message) front replica (next_at connection) its_place
       → Stands fixed front conn (inputs ++ Asks request ∷ waiting) held (record connection { waiting = waiting; stage = stage })
       (was.story.told conn) (was.story.talk.answers conn) (was.story.course.sessions conn) its_place
@@ -296,7 +296,7 @@ module _ (fixed : Fixed) (front : List ℕ) (replica : Replica) (conn : ℕ) whe
       → request ≡ a_command tag c.it → FaultsLast waiting held
       → IsCommandOf fixed conn (was.story.told conn) connection.session c → WaitsAt c.waiting.at its_place
       → Undecided fixed.master fixed.first front c its_place
-      → IsMarkedAt was.story.moving world.marks (next_id conn (was.story.told conn)) its_place
+      → IsMarkedAt was.story.talk.moving world.marks (next_id conn (was.story.told conn)) its_place
       → SendsSo fixed world (with_sent world front to message) front replica (next_at connection) its_place
       → StandsOn fixed front replica conn (inputs ++ Asks request ∷ waiting) held
       (record connection { waiting = waiting; stage = Waits tag c.waiting }) before told (carry_all front world (to_node to message ∷ []))

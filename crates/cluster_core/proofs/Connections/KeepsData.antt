@@ -165,7 +165,8 @@ module _ (config : Config) (heard : ℕ → Heard) (world : World) (law : KeepsL
         requests = asked_more config heard conn bytes more connection.reader e (sym reader) law.story.talk.requests law.requests;
         answers = same_lists law.story.told;
         serials = same_lists law.story.talk.serials;
-      }) refl refl refl refl (λ other. refl) (λ other ne. other_heard config conn other more (heard other) ne)
+        moving = refl;
+      }) refl refl refl (λ other. refl) (λ other ne. other_heard config conn other more (heard other) ne)
       (λ shut. absurd (is_not_closed (after conn) (bytes ++ more) (heard_more config conn bytes more (heard conn) e) shut))
       behind.made
       (front_keeps_many config world law.master law.given law.story.course.store law.nodes law.many node front (turned_so front conn kept its_turn.outs) at.at)
@@ -214,9 +215,13 @@ module _ (config : Config) (heard : ℕ → Heard) (world : World) (law : KeepsL
           })
           (heard_more config conn bytes more (heard conn) e) (is_open (bytes ++ more) node front connection at (inl stage) standing);
     };
-    more = record { requests = ended_asked stage standing; answers = same_lists law.story.told; serials = same_lists law.story.talk.serials };
+    more = record {
+      requests = ended_asked stage standing;
+      answers = same_lists law.story.told;
+      serials = same_lists law.story.talk.serials;
+      moving = refl;
+    };
     closed = λ other shut. refl;
-    moving = refl;
   }
     where
       ended_asked : connection.stage ≡ Ended
@@ -240,7 +245,6 @@ module _ (config : Config) (heard : ℕ → Heard) (world : World) (law : KeepsL
         law = put.law;
         more = talks_follow (talk_told law.story) (talk_told on.law.story) (talk_told put.law.story) on.more put.more;
         closed = λ other shut. put.closed other shut ∙ on.closed other shut;
-        moving = put.moving ∙ on.moving;
       })
 
   -- no frame ends in what is sent behind a fault

@@ -141,7 +141,7 @@ pub front_keeps : (config : Config) (heard after : ℕ → Heard) (origin : Worl
     → ((other : ℕ) → other ≢ conn → PlacesStay (fixed_of config) other origin (record origin { links = links }))
     → front_at origin node ≡ Some front → connection_at front conn ≡ Some was
     → TalkGoesOn (talk_told law.story) (talk_told told) → told.told ≡ law.story.told → told.talk.answers ≡ law.story.talk.answers
-    → told.course ≡ law.story.course → told.moving ≡ law.story.moving
+    → told.course ≡ law.story.course
     → ((other : ℕ) → told.talk.requests other ≡ requests_of (setting_of config) (frames_heard (after other)))
     → ((other : ℕ) → other ≢ conn → after other ≡ heard other)
     → (has_closed (after conn) ≡ true → story.told conn ≡ law.story.told conn)
@@ -150,7 +150,7 @@ pub front_keeps : (config : Config) (heard after : ℕ → Heard) (origin : Worl
     → FeedsHold config (world_after (record origin { links = links }) node front conn connection outs) law.master
     → ConnectionIs (fixed_of config) conn (world_after (record origin { links = links }) node front conn connection outs) story (after conn)
     → KeepsOn config law.story after (world_after (record origin { links = links }) node front conn connection outs)
-front_keeps config heard after origin law links conn node front was connection outs told story places at has more same_told same_said same_course same_moving
+front_keeps config heard after origin law links conn node front was connection outs told story places at has more same_told same_said same_course
     requests others no_more made many feeds mine =
     let world : World = record origin { links = links } in
     let later : Front = with_connection front conn connection in
@@ -188,7 +188,7 @@ front_keeps config heard after origin law links conn node front was connection o
               told = made.goes_on.told other ne ∙ ap (λ (t : ℕ → List Answer). t other) same_told;
               said = made.goes_on.said other ne ∙ ap (λ (t : ℕ → List Answer). t other) same_said;
               session = made.goes_on.sessions other ne ∙ ap (λ (c : Course). c.sessions other) same_course;
-              moving = made.goes_on.moving ∙ same_moving;
+              moving = made.goes_on.more.moving ∙ more.moving;
             })) refl mine;
       };
       more = talks_follow (talk_told law.story) (talk_told told) (talk_told story) more made.goes_on.more;
@@ -196,7 +196,6 @@ front_keeps config heard after origin law links conn node front was connection o
           (λ (same : other ≡ conn). subst (λ c. story.told c ≡ law.story.told c) (sym same) (no_more (subst (λ c. has_closed (after c) ≡ true) same shut)))
           (λ (ne : other ≢ conn). made.goes_on.told other ne ∙ ap (λ (t : ℕ → List Answer). t other) same_told)
           (cases_eq other conn);
-      moving = made.goes_on.moving ∙ same_moving;
     }
 
 -- ---- the connection itself
@@ -225,7 +224,7 @@ standing_after fixed world node front conn connection outs all held replica stor
       here = is.here;
       placed = (alike_stay fixed conn carried next (same_homes world node front conn connection outs at nodes)
           (same_links world node front conn connection outs)).in_place node replica _ is.here is.placed;
-      marked = marked_stays story.moving (next_id conn (story.told conn)) carried.marks next.marks
+      marked = marked_stays story.talk.moving (next_id conn (story.told conn)) carried.marks next.marks
           (ap (λ (m : List Mark). last_mark (next_id conn (story.told conn)) m) (same_marks world node front conn connection outs)) is.here is.marked;
       stands = is.stands;
     }

@@ -64,7 +64,7 @@ pub record IsGone (fixed : Fixed) (node : List ℕ) (replica : Replica) (conn : 
   pub client : client_at world conn ≡ Some (client_with node inputs (story.told conn))
   pub here : Place
   pub placed : IsInPlaceOf fixed world node replica (next_id conn (story.told conn)) here
-  pub marked : IsMarkedAt story.moving world.marks (next_id conn (story.told conn)) here
+  pub marked : IsMarkedAt story.talk.moving world.marks (next_id conn (story.told conn)) here
   pub left : IsLeft fixed node conn (requests_in inputs) (story.told conn) (story.talk.answers conn) (story.course.sessions conn) here
 
 pub data ConnectionIs (fixed : Fixed) (conn : ℕ) (world : World) (story : Tale) : Heard → Type 0 where
@@ -169,4 +169,3 @@ pub record KeepsOn (config : Config) (before : Tale) (heard : ℕ → Heard) (wo
   pub law : KeepsLaw config heard world
   pub more : TalkGoesOn (talk_told before) (talk_told law.story)
   pub closed : (conn : ℕ) → has_closed (heard conn) ≡ true → law.story.told conn ≡ before.told conn
-  pub moving : law.story.moving ≡ before.moving

@@ -168,7 +168,6 @@ joined_keeps config heard world node conn law none first =
       };
       more = same_talk (talk_told law.story);
       closed = λ other shut. refl;
-      moving = refl;
     }
 
 elsewhere_keeps : (config : Config) (heard : ℕ → Heard) (world : World) (node : List ℕ) (conn : ℕ) (law : KeepsLaw config heard world) → MasterServes config
@@ -183,7 +182,6 @@ elsewhere_keeps config heard world node conn law serves none first =
       law = then.law;
       more = talks_follow (talk_told law.story) (talk_told joined.law.story) (talk_told then.law.story) joined.more then.more;
       closed = λ other shut. then.closed other shut ∙ joined.closed other shut;
-      moving = then.moving ∙ joined.moving;
     }
 
 -- ---- at a frontend
@@ -291,7 +289,6 @@ front_keeps_open config heard world node conn front law at first =
       };
       more = same_talk (talk_told law.story);
       closed = λ other shut. refl;
-      moving = refl;
     }
 
 -- ---- the event

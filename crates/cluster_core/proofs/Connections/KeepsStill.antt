@@ -109,7 +109,6 @@ still_kept config heard after world next master alike same law nodes many feeds 
   };
   more = same_talk (talk_told law.story);
   closed = λ conn shut. refl;
-  moving = refl;
 }
 
 -- ---- a world in which nothing changed but perhaps the number of its last step

@@ -108,8 +108,8 @@ said_goes_on setting story conn request = record {
     requests = same_lists story.talk.requests;
     answers = list_more story.told conn (done setting story conn request 0).answer;
     serials = list_more story.talk.serials conn 0;
+    moving = refl;
   };
-  moving = refl;
 }
 
 -- the store answers so, and stays as it was

@@ -46,7 +46,7 @@ pub record StaysAt (fixed : Fixed) (conn : ℕ) (world next : World) (story late
   pub told : later.told conn ≡ story.told conn
   pub said : later.talk.answers conn ≡ story.talk.answers conn
   pub session : later.course.sessions conn ≡ story.course.sessions conn
-  pub moving : later.moving ≡ story.moving
+  pub moving : later.talk.moving ≡ story.talk.moving
 
 abbrev pub ReplicasStay : World → World → Type 0
 ReplicasStay world next = (node : List ℕ) (was now : Front) → front_at world node ≡ Some was → front_at next node ≡ Some now → now.replica ≡ was.replica
@@ -106,12 +106,12 @@ IsThere fixed node conn world replica here moving told =
 there_stays : (fixed : Fixed) (conn : ℕ) (world next : World) (story later : Tale) (node : List ℕ) (was now : Front) (here : Place)
     → StaysAt fixed conn world next story later → front_at world node ≡ Some was → front_at next node ≡ Some now
     → IsInPlaceOf fixed world node was.replica (next_id conn (story.told conn)) here
-    → IsMarkedAt story.moving world.marks (next_id conn (story.told conn)) here → IsThere fixed node conn next now.replica here later.moving (later.told conn)
+    → IsMarkedAt story.talk.moving world.marks (next_id conn (story.told conn)) here → IsThere fixed node conn next now.replica here later.talk.moving (later.told conn)
 there_stays fixed conn world next story later node was now here stays at after placed marked =
     subst (λ m. IsThere fixed node conn next now.replica here m (later.told conn)) (sym stays.moving)
-    (subst (IsThere fixed node conn next now.replica here story.moving) (sym stays.told) (
+    (subst (IsThere fixed node conn next now.replica here story.talk.moving) (sym stays.told) (
       stays.in_place node was now at after (length (story.told conn) + 1) here placed,
-      marked_stays story.moving (next_id conn (story.told conn)) world.marks next.marks (stays.marks (length (story.told conn) + 1)) here marked,
+      marked_stays story.talk.moving (next_id conn (story.told conn)) world.marks next.marks (stays.marks (length (story.told conn) + 1)) here marked,
     ))
 
 pub connection_stays : (fixed : Fixed) (conn : ℕ) (world next : World) (story later : Tale) (heard : Heard)

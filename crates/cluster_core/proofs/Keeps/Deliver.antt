@@ -37,7 +37,7 @@ pub record StandsBeside (config : Config) (world : World) : Type 0 where
 
 module _ (config : Config) (heard : ℕ → Heard) (world : World) (law : KeepsLaw config heard world) (beside : StandsBeside config world)
     (fits : NumbersFit heard) (from to : List ℕ) (message : LinkMsg) (rest : List LinkMsg) (first : on_link world.links from to ≡ message ∷ rest)
-    (moves : MovesBy law.story.moving world.steps (table_at (comes (taken_from_link world from to) to (From from message)) (master_of config))) where
+    (moves : MovesBy law.story.talk.moving world.steps (table_at (comes (taken_from_link world from to) to (From from message)) (master_of config))) where
   abbrev Keeps : List ℕ → Type 0
   Keeps node = KeepsOn config law.story heard (comes (taken_from_link world from node) node (From from message))
 
@@ -58,14 +58,14 @@ module _ (config : Config) (heard : ℕ → Heard) (world : World) (law : KeepsL
       let comes_first : on_link world.links from (master_of config) ≡ message ∷ rest = ap (on_link world.links from) (sym its) ∙ first in
       subst Keeps (sym its)
       (to_master_keeps config heard world law from message rest comes_first fits (beside.watchers law.master law.nodes.is_there)
-      (subst (MovesBy law.story.moving world.steps)
+      (subst (MovesBy law.story.talk.moving world.steps)
       (ap (table_at (comes (taken_from_link world from to) to (From from message))) (sym its)
       ∙ master_table (ap (master_at world) its ∙ law.nodes.is_there)) moves)
       (beside.senders from message rest comes_first))
 
 pub delivered_keeps : (config : Config) (heard : ℕ → Heard) (world : World) (law : KeepsLaw config heard world) → StandsBeside config world
     → NumbersFit heard → (from to : List ℕ) (message : LinkMsg) (rest : List LinkMsg) → on_link world.links from to ≡ message ∷ rest
-    → MovesBy law.story.moving world.steps (table_at (comes (taken_from_link world from to) to (From from message)) (master_of config))
+    → MovesBy law.story.talk.moving world.steps (table_at (comes (taken_from_link world from to) to (From from message)) (master_of config))
     → KeepsOn config law.story heard (comes (taken_from_link world from to) to (From from message))
 delivered_keeps config heard world law beside fits from to message rest first moves =
     keeps_by config heard world law beside fits from to message rest first moves (node_at world to) refl

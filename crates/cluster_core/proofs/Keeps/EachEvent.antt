@@ -78,7 +78,7 @@ stepped_beside config world beside = record { watchers = beside.watchers; names 
 
 first_keeps : (config : Config) (heard : ℕ → Heard) (world : World) (law : KeepsLaw config heard world) → StandsBeside config world → NumbersFit heard
     → (from to : List ℕ) (found : List LinkMsg) → on_link world.links from to ≡ found
-    → MovesBy law.story.moving world.steps (table_at (deliver_first world from to found) (master_of config))
+    → MovesBy law.story.talk.moving world.steps (table_at (deliver_first world from to found) (master_of config))
     → KeepsOn config law.story heard (deliver_first world from to found)
 unfolding deliver_first
 first_keeps config heard world law beside fits from to [] first moves = same_kept config heard heard world (λ conn. refl) law
@@ -86,7 +86,7 @@ first_keeps config heard world law beside fits from to (message ∷ rest) first 
     delivered_keeps config heard world law beside fits from to message rest first moves
 
 deliver_keeps : (config : Config) (heard : ℕ → Heard) (world : World) (law : KeepsLaw config heard world) → StandsBeside config world
-    → (from to : List ℕ) → NumbersFit (heard_then config heard (Deliver from to)) → MovesThen config law.story.moving world (Deliver from to)
+    → (from to : List ℕ) → NumbersFit (heard_then config heard (Deliver from to)) → MovesThen config law.story.talk.moving world (Deliver from to)
     → Keeps config heard world law (Deliver from to)
 unfolding takes
 deliver_keeps config heard world law beside from to fits moves =
@@ -94,7 +94,7 @@ deliver_keeps config heard world law beside from to fits moves =
     begins config heard world law (Deliver from to)
     (λ then same_story. subst (λ (h : ℕ → Heard). KeepsOn config then.story h (steps_by world (Deliver from to))) (sym same)
     (first_keeps config heard (stepped world) then (stepped_beside config world beside) (subst NumbersFit same fits) from to
-    (on_link world.links from to) refl (subst (λ (s : Tale). MovesThen config s.moving world (Deliver from to)) (sym same_story) moves)))
+    (on_link world.links from to) refl (subst (λ (s : Tale). MovesThen config s.talk.moving world (Deliver from to)) (sym same_story) moves)))
 
 -- ---- any event
 
@@ -106,7 +106,7 @@ still_keeps config heard world law event none same =
 -- EVERY EVENT KEEPS THE LAW
 abbrev pub EventKeeps : Type 0
 EventKeeps = (config : Config) (heard : ℕ → Heard) (world : World) (event : Event) (law : KeepsLaw config heard world) → StandsBeside config world
-    → NumbersFit (heard_then config heard event) → MovesThen config law.story.moving world event → Keeps config heard world law event
+    → NumbersFit (heard_then config heard event) → MovesThen config law.story.talk.moving world event → Keeps config heard world law event
 
 pub event_keeps : EventKeeps
 unfolding takes

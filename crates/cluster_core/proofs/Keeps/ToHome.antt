@@ -53,7 +53,6 @@ module _ (config : Config) (heard : ℕ → Heard) (world : World) (law : KeepsL
     };
     more = step.more;
     closed = λ conn shut. ap (λ (t : ℕ → List Answer). t conn) step.told;
-    moving = step.moving;
   }
 
   comes_so : KeepsOn config law.story heard (comes took to (From from message))

@@ -33,7 +33,7 @@ IsOne world node = ((front : Front) × (front_at world node ≡ Some front)) ⊎
 module _ (config : Config) (heard : ℕ → Heard) (world : World) (law : KeepsLaw config heard world) (from : List ℕ) (message : LinkMsg)
     (rest : List LinkMsg) (first : on_link world.links from (master_of config) ≡ message ∷ rest) (fits : NumbersFit heard)
     (watchers : WatchersAreIts config world law.master)
-    (moves : MovesBy law.story.moving world.steps (node_says law.master from message).master.table) where
+    (moves : MovesBy law.story.talk.moving world.steps (node_says law.master from message).master.table) where
   abbrev name : List ℕ
   name = master_of config
 
@@ -71,7 +71,6 @@ module _ (config : Config) (heard : ℕ → Heard) (world : World) (law : KeepsL
     };
     more = step.more;
     closed = λ conn shut. ap (λ (t : ℕ → List Answer). t conn) step.told;
-    moving = step.moving;
   }
 
   comes_so : IsOne world from → KeepsOn config law.story heard (comes took name (From from message))
@@ -83,7 +82,7 @@ module _ (config : Config) (heard : ℕ → Heard) (world : World) (law : KeepsL
 abbrev pub ToMasterKeeps : Type 0
 ToMasterKeeps = (config : Config) (heard : ℕ → Heard) (world : World) (law : KeepsLaw config heard world) (from : List ℕ) (message : LinkMsg)
     (rest : List LinkMsg) → on_link world.links from (master_of config) ≡ message ∷ rest → NumbersFit heard → WatchersAreIts config world law.master
-    → MovesBy law.story.moving world.steps (node_says law.master from message).master.table → IsOne world from
+    → MovesBy law.story.talk.moving world.steps (node_says law.master from message).master.table → IsOne world from
     → KeepsOn config law.story heard (comes (taken_from_link world from (master_of config)) (master_of config) (From from message))
 
 pub to_master_keeps : ToMasterKeeps

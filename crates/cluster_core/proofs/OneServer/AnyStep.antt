@@ -23,7 +23,7 @@ use Rattle.cluster_core.specs.Numbers.{NumbersFit, NumbersFitAll}
 abbrev pub AnyStepKeeps : Config → (World → Type 0) → Type 0
 AnyStepKeeps config Holds = (came : ℕ → Heard) (world : World) (event : Event) (law : KeepsLaw config came world) → Holds world
     → NumbersFit (λ conn. hears config conn (came conn) event)
-    → MovesBy law.story.moving (world.steps + 1) (table_at (steps_by world event) (master_of config))
+    → MovesBy law.story.talk.moving (world.steps + 1) (table_at (steps_by world event) (master_of config))
     → KeepsOn config law.story (λ conn. hears config conn (came conn) event) (steps_by world event)
 
 -- it holds behind each step
@@ -75,7 +75,7 @@ each_keeps config steps Holds any starts holds fit = record {
       as_run config before event (λ came w. KeepsOn config law.story came w)
       (any (λ conn. heard config conn before) (run_steps (start config) before) event law (holds before (event ∷ later) e)
       (numbers_next config before event (fit (before ++ event ∷ []) later (e ∙ sym (append_assoc before (event ∷ []) later))))
-      (moves_next config steps before event later law.story.moving e moves));
+      (moves_next config steps before event later law.story.talk.moving e moves));
 }
 
 -- ---- the home law

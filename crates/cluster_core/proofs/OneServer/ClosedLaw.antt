@@ -48,7 +48,7 @@ stays_given config steps before (event ∷ more) later conn each e law moves shu
     heard_next config conn before event ∙ closed_hears config conn (heard config conn before) event shut in
     sym (ap (λ s. given_to (run_steps (start config) s) conn) (append_assoc before (event ∷ []) more))
     ∙ stays_given config steps (before ++ event ∷ []) more later conn each (e ∙ sym (append_assoc before (event ∷ []) (more ++ later))) on.law
-    (on.moving ∙ moves) (ap has_closed same ∙ shut)
+    (on.more.moving ∙ moves) (ap has_closed same ∙ shut)
     ∙ step_gives config (λ c. heard config c before) (λ c. heard config c (before ++ event ∷ [])) (run_steps (start config) before)
     (run_steps (start config) (before ++ event ∷ [])) conn law on same shut
 

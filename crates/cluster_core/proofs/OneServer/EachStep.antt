@@ -19,7 +19,7 @@ LawBehind config steps = KeepsLaw config (λ conn. heard config conn steps) (run
 
 -- its tale has as moving what the master has reserved, behind each step of a run
 abbrev pub TellsMoves : (config : Config) (all before : List Event) → LawBehind config before → Type 0
-TellsMoves config all before law = law.story.moving ≡ moving_of config all
+TellsMoves config all before law = law.story.talk.moving ≡ moving_of config all
 
 -- the law holds at the start, and each of these steps keeps it
 pub record EachKeeps (config : Config) (steps : List Event) : Type 0 where
@@ -68,7 +68,7 @@ kept_from config steps before [] each e law moves = record {
 }
 kept_from config steps before (event ∷ rest) each e law moves =
     let one = each.next before event rest e law moves in
-    let all = kept_from config steps (before ++ event ∷ []) rest each (e ∙ sym (append_assoc before (event ∷ []) rest)) one.law (one.moving ∙ moves) in
+    let all = kept_from config steps (before ++ event ∷ []) rest each (e ∙ sym (append_assoc before (event ∷ []) rest)) one.law (one.more.moving ∙ moves) in
     let more = talks_follow (talk_told law.story) (talk_told one.law.story) all.talk one.more all.more in
     record {
       talk = all.talk;

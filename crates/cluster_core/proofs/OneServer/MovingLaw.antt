@@ -8,6 +8,7 @@ use Rattle.node_record.specs.Table.{record_at}
 use Rattle.schedule_text.specs.declared.event.Event.{Event}
 use Rattle.cluster_core.specs.Flow.{run_steps}
 use Rattle.cluster_core.specs.Headline.Outside.{table_at}
+use Rattle.cluster_core.specs.Headline.Refusals.{AreReserved}
 use Rattle.cluster_core.proofs.Commands.Moving.{MovesBy}
 use Rattle.cluster_core.proofs.Connections.KeepsLaw.{KeepsLaw}
 
@@ -26,7 +27,16 @@ moves_then config steps before event later e name =
     ap (λ n. moving_of config steps n name) number ∙ ap (λ s. moving_of config s (suc (length before)) name) e
     ∙ ap (λ s. is_reserved (record_at (table_at (run_steps (start config) s) (master_of config)) name)) (take_more before event later)
 
+take_front : (before later : List Event) → take (length before) (before ++ later) ≡ before
+take_front [] later = refl
+take_front (first ∷ before) later = ap (λ l. first ∷ l) (take_front before later)
+
+pub moves_behind : (config : Config) (steps : List Event) → AreReserved config steps (moving_of config steps)
+moves_behind config steps before later e name =
+    ap (λ s. moving_of config s (length before) name) e
+    ∙ ap (λ s. is_reserved (record_at (table_at (run_steps (start config) s) (master_of config)) name)) (take_front before later)
+
 -- the law holds before the first step, of a tale to which this is moving
 pub record StartsWith (config : Config) (moving : ℕ → List ℕ → Bool) : Type 0 where
   pub law : KeepsLaw config (λ conn. nobody) (start config)
-  pub moving_is : law.story.moving ≡ moving
+  pub moving_is : law.story.talk.moving ≡ moving

@@ -52,6 +52,8 @@ use Rattle.cluster_core.proofs.OneServer.HistoryLaw.{history_is, stands_in_time}
 use Rattle.cluster_core.proofs.OneServer.MarksGoOn.{run_goes_on, steps_made}
 use Rattle.cluster_core.proofs.Runs.Unrolled.{run_steps-append}
 use Rattle.cluster_core.proofs.OneServer.SaysOf.{IsSilent, SaysOf, says_of}
+use Rattle.cluster_core.proofs.OneServer.MovingLaw.{moves_behind}
+use Rattle.mark_history.proofs.Reached.{all_reached}
 use Rattle.cluster_core.proofs.OneServer.SerialsRise.{serials_are_low}
 use Rattle.cluster_core.proofs.OneServer.ShownHomes.{shows_boxes}
 use Rattle.cluster_core.proofs.OneServer.UidsBelow.{some_below}
@@ -100,6 +102,7 @@ told_so_far config steps talk before later are date_is silent earlier fits now l
       ends_only_last = λ conn. (says conn).lasts;
       last = legal.last;
       legal = legal.legal;
+      reached = all_reached world.marks;
       refusals = have_causes (law_setting config) first_course (talk_told law.story) (history_of world) legal.last legal.legal;
       one_content = subst (λ (s : Store). HasBoxesOf config s world) (sym legal.same_store) (has_boxes config came world law);
       homes_shown = subst (λ (s : Store). ShowsBoxesOf config s world) (sym legal.same_store) (shows_boxes config came world law are);
@@ -148,12 +151,15 @@ told_by_one_store config events are date_is fits each silent =
     let steps : List Event = steps_of_run config events in
     let all = kept_all config steps each in
     let last = (all.at steps [] (sym (append-nil steps))).law in
+    let none = all.at [] steps refl in
     record {
       begins_as_read = begins_as_read (law_setting config);
       examined_stays = reads_what_is_examined (law_setting config);
       speaks_by_numbers = speaks_by_numbers (law_setting config);
       begins_by_login = begins_by_login (law_setting config);
       talk = all.talk;
+      moving = λ before later e name.
+          ap (λ (m : ℕ → List ℕ → Bool). m (length before) name) (none.more.moving ∙ none.moves) ∙ moves_behind config steps before later e name;
       at_each_step = λ before later e. told_at config all.talk steps before later e are date_is (silent before later e)
           all.at fits (all.at before later e) last;
       steps_rise = (history_is config (λ conn. heard config conn steps) (run_steps (start config) steps) last).steps_rise;

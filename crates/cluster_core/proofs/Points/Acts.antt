@@ -116,8 +116,8 @@ acting_goes_on setting conn story request serial = record {
     requests = same_lists story.talk.requests;
     answers = same_lists story.told;
     serials = list_more story.talk.serials conn serial;
+    moving = refl;
   };
-  moving = refl;
 }
 
 module _ (fixed : Fixed) (front : List ℕ) (conn now : ℕ) (marks : List Mark) (story : Tale) (tag : Tag) (c : ClientCommand)

@@ -43,7 +43,6 @@ pub record StepKeeps (config : Config) (heard : ℕ → Heard) (world : World) (
   pub requests : later.talk.requests ≡ law.story.talk.requests
   pub told : later.told ≡ law.story.told
   pub more : TalkGoesOn (talk_told law.story) (talk_told later)
-  pub moving : later.moving ≡ law.story.moving
   pub is_told : AreMarked (setting_of config) next.steps next.marks later
   pub many : ManyHold (murder_of next law.master) law.given later.course.store
   pub connections : (conn : ℕ) → ConnectionIs (fixed_of config) conn next later (heard conn)
@@ -106,7 +105,7 @@ module _ (config : Config) (heard : ℕ → Heard) (world : World) (law : KeepsL
     told = ap (λ t. t other) own.told;
     said = own.goes_on.said other ne;
     session = own.goes_on.sessions other ne;
-    moving = own.goes_on.moving;
+    moving = own.goes_on.more.moving;
   }
 
   of_command : (conn : ℕ) → about message ≡ of_connection conn → StepKeeps config heard world law next
@@ -118,7 +117,6 @@ module _ (config : Config) (heard : ℕ → Heard) (world : World) (law : KeepsL
         requests = step.goes_on.requests;
         told = step.told;
         more = step.goes_on.more;
-        moving = step.goes_on.moving;
         is_told = step.is_told;
         many = step.many;
         connections = λ other. ⊎_elim
@@ -152,7 +150,6 @@ module _ (config : Config) (heard : ℕ → Heard) (world : World) (law : KeepsL
     requests = refl;
     told = refl;
     more = same_talk (talk_told story);
-    moving = refl;
     is_told = subst (λ (s : ℕ). AreMarked (setting_of config) s next.marks story) (sym made.steps)
         (subst (λ (m : List Mark). AreMarked (setting_of config) world.steps m story) (sym (none_marked own)) law.is_told);
     many = many_then own;

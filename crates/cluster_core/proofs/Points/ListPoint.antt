@@ -190,7 +190,7 @@ module _ (config : Config) (heard : ℕ → Heard) (world : World) (law : KeepsL
       (subst (λ p. IsInPlaceOf fixed world fnode front.replica id p) asks placed))))
 
   noop_own : (rest : List LinkMsg) → story.talk.answers conn ≡ story.told conn → waits.was ≡ story.course.sessions conn → here ≡ place.is_barred barrier.asked
-      → on_link world.links fnode name ≡ noop_of id ∷ rest → client_at next conn ≡ client_at world conn → MovesBy story.moving world.steps says.master.table
+      → on_link world.links fnode name ≡ noop_of id ∷ rest → client_at next conn ≡ client_at world conn → MovesBy story.talk.moving world.steps says.master.table
       → OwnStep config conn (heard conn) world story next says.master law.given
   noop_own rest said was_is asks first same moves =
       let done = listed_so fixed conn world.steps world.marks story waits.tag waits.it waits.listing waits.was table law.is_told said was_is waits.need
@@ -212,7 +212,7 @@ module _ (config : Config) (heard : ℕ → Heard) (world : World) (law : KeepsL
           marked = record {
             step = world.steps;
             saw = ap (λ (m : List Mark). last_mark id m) marks_are ∙ own_marked id world.marks mark refl;
-            moves = subst (MovesBy story.moving world.steps) (ap (λ (s : Stepped). s.master.table) (listed.taken).step) moves;
+            moves = subst (MovesBy story.talk.moving world.steps) (ap (λ (s : Stepped). s.master.table) (listed.taken).step) moves;
           };
           knows = done.knows;
         });
@@ -226,7 +226,7 @@ module _ (config : Config) (heard : ℕ → Heard) (world : World) (law : KeepsL
   -- of those that the master takes it is the NOOP
   module _ (from : List ℕ) (message : LinkMsg) (rest : List LinkMsg) (first : on_link world.links from name ≡ message ∷ rest)
       (same : client_at (with_master (taken_from_link world from name) name (node_says law.master from message)) conn ≡ client_at world conn)
-      (moves : MovesBy story.moving world.steps (node_says law.master from message).master.table) where
+      (moves : MovesBy story.talk.moving world.steps (node_says law.master from message).master.table) where
     abbrev Own : List ℕ → LinkMsg → Type 0
     Own f m = OwnStep config conn (heard conn) world story (with_master (taken_from_link world f name) name (node_says law.master f m))
         (node_says law.master f m).master law.given
@@ -241,7 +241,7 @@ module _ (config : Config) (heard : ℕ → Heard) (world : World) (law : KeepsL
         (noop_own rest said was_is is (ap (λ f. on_link world.links f name) e1 ∙ first ∙ ap (λ m. m ∷ rest) (sym e3))
         (ap (λ m. client_at (with_master (taken_from_link world fnode name) name (node_says law.master fnode m)) conn) e3
         ∙ ap (λ f. client_at (with_master (taken_from_link world f name) name (node_says law.master f message)) conn) e1 ∙ same)
-        (subst (MovesBy story.moving world.steps)
+        (subst (MovesBy story.talk.moving world.steps)
         (sym (ap (λ m. (node_says law.master fnode m).master.table) e3 ∙ ap (λ f. (node_says law.master f message).master.table) e1)) moves)))
     by_knows found (is_listed told said was_is is) =
         absurd ((law.nodes.fronts fnode front at).no_master (to_is (subst (IsIn from name message) is found)))

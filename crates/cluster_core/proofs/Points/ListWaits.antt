@@ -43,7 +43,7 @@ pub record IsListThen (fixed : Fixed) (conn : ℕ) (node : List ℕ) (front : Fr
   pub clients : client_at next conn ≡ client_at world conn
   pub told : later.told conn ≡ story.told conn
   pub placed : IsInPlaceOf fixed next node front.replica (next_id conn (later.told conn)) there
-  pub marked : IsMarkedAt later.moving next.marks (next_id conn (later.told conn)) there
+  pub marked : IsMarkedAt later.talk.moving next.marks (next_id conn (later.told conn)) there
   pub knows : NamesOf conn tag listing was later there
 
 -- wherever it is then, its connection goes on so

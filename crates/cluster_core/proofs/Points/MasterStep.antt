@@ -70,7 +70,6 @@ pub record MasterKeeps (config : Config) (heard : ℕ → Heard) (world : World)
   pub requests : later.talk.requests ≡ law.story.talk.requests
   pub told : later.told ≡ law.story.told
   pub more : TalkGoesOn (talk_told law.story) (talk_told later)
-  pub moving : later.moving ≡ law.story.moving
   pub is_told : AreMarked (setting_of config) next.steps next.marks later
   pub many : ManyHold (murder_of next said.master) given later.course.store
   pub connections : (conn : ℕ) → ConnectionIs (fixed_of config) conn next later (heard conn)
@@ -92,7 +91,7 @@ client_front one other e = (let is : one ≡ other = cc in ap (λ (c : Client). 
 
 module _ (config : Config) (heard : ℕ → Heard) (world : World) (law : KeepsLaw config heard world) (from : List ℕ)
     (message : LinkMsg) (rest : List LinkMsg) (fit : AskedFit world law.story)
-    (moves : MovesBy law.story.moving world.steps (node_says law.master from message).master.table)
+    (moves : MovesBy law.story.talk.moving world.steps (node_says law.master from message).master.table)
     (first : on_link world.links from (master_of config) ≡ message ∷ rest) where
   abbrev name : List ℕ
   name = master_of config
@@ -187,7 +186,7 @@ module _ (config : Config) (heard : ℕ → Heard) (world : World) (law : KeepsL
 
   connection_goes : (conn : ℕ) → about message ≢ of_connection conn → ClientThen config world next conn → (later : Tale)
       → MarksStay conn world.marks next.marks → later.told conn ≡ story.told conn → later.talk.answers conn ≡ story.talk.answers conn
-      → later.course.sessions conn ≡ story.course.sessions conn → later.moving ≡ story.moving → ConnectionIs fixed conn next later (heard conn)
+      → later.course.sessions conn ≡ story.course.sessions conn → later.talk.moving ≡ story.talk.moving → ConnectionIs fixed conn next later (heard conn)
   connection_goes conn other (as_before client_is) later marks told said session moving =
       others_go conn other later
       (record { fronts = fronts_stay; client = client_is; marks = marks; told = told; said = said; session = session; moving = moving }) (heard conn)
@@ -216,7 +215,6 @@ module _ (config : Config) (heard : ℕ → Heard) (world : World) (law : KeepsL
           requests = step.goes_on.requests;
           told = step.told;
           more = step.goes_on.more;
-          moving = step.goes_on.moving;
           is_told = step.is_told;
           many = step.many;
           connections = λ other. ⊎_elim
@@ -224,7 +222,7 @@ module _ (config : Config) (heard : ℕ → Heard) (world : World) (law : KeepsL
               (λ (ne : other ≢ conn). connection_goes other
               (λ e. (let both : of_connection conn ≡ of_connection other = sym own ∙ e in let alike : conn ≡ other = cc in ne (sym alike))) (clients other)
               step.later (step.marks other ne) (ap (λ t. t other) step.told) (step.goes_on.said other ne) (step.goes_on.sessions other ne)
-              step.goes_on.moving)
+              step.goes_on.more.moving)
               (cases_eq other conn);
         }
 
@@ -272,7 +270,6 @@ module _ (config : Config) (heard : ℕ → Heard) (world : World) (law : KeepsL
             requests = refl;
             told = refl;
             more = same_talk (talk_told story);
-            moving = refl;
             is_told = subst (λ (s : ℕ). AreMarked (setting_of config) s next.marks story) (sym made.steps)
                 (subst (λ (m : List Mark). AreMarked (setting_of config) world.steps m story) (sym none_marked) law.is_told);
             many = keeps.1;
@@ -287,7 +284,7 @@ module _ (config : Config) (heard : ℕ → Heard) (world : World) (law : KeepsL
 -- THE STEP OF THE MASTER
 abbrev pub MasterStepKeeps : Type 0
 MasterStepKeeps = (config : Config) (heard : ℕ → Heard) (world : World) (law : KeepsLaw config heard world) (from : List ℕ) (message : LinkMsg)
-    (rest : List LinkMsg) → AskedFit world law.story → MovesBy law.story.moving world.steps (node_says law.master from message).master.table
+    (rest : List LinkMsg) → AskedFit world law.story → MovesBy law.story.talk.moving world.steps (node_says law.master from message).master.table
     → on_link world.links from (master_of config) ≡ message ∷ rest
     → ((conn : ℕ) → ClientThen config world
     (with_master (taken_from_link world from (master_of config)) (master_of config) (node_says law.master from message)) conn)

@@ -62,17 +62,17 @@ pub record LeavesElse (conn : ℕ) (world next : World) (story later : Tale) : T
   pub told : later.told conn ≡ story.told conn
   pub said : later.talk.answers conn ≡ story.talk.answers conn
   pub session : later.course.sessions conn ≡ story.course.sessions conn
-  pub moving : later.moving ≡ story.moving
+  pub moving : later.talk.moving ≡ story.talk.moving
 
 module _ (fixed : Fixed) (conn : ℕ) (world next : World) (story later : Tale) (same : LeavesElse conn world next story later) where
   abbrev id : AskId
   id = next_id conn (story.told conn)
 
-  marked_then : (here : Place) → IsMarkedAt story.moving world.marks id here → IsMarkedAt later.moving next.marks (next_id conn (later.told conn)) here
+  marked_then : (here : Place) → IsMarkedAt story.talk.moving world.marks id here → IsMarkedAt later.talk.moving next.marks (next_id conn (later.told conn)) here
   marked_then here marked =
       subst (λ m. IsMarkedAt m next.marks (next_id conn (later.told conn)) here) (sym same.moving)
-      (subst (λ t. IsMarkedAt story.moving next.marks (next_id conn t) here) (sym same.told)
-      (marked_stays story.moving id world.marks next.marks (same.marks (length (story.told conn) + 1)) here marked))
+      (subst (λ t. IsMarkedAt story.talk.moving next.marks (next_id conn t) here) (sym same.told)
+      (marked_stays story.talk.moving id world.marks next.marks (same.marks (length (story.told conn) + 1)) here marked))
 
   placed_then : (node : List ℕ) (replica : Replica) (here : Place) → IsInPlaceOf fixed next node replica id here
       → IsInPlaceOf fixed next node replica (next_id conn (later.told conn)) here
@@ -232,7 +232,7 @@ module _ (config : Config) (heard : ℕ → Heard) (world : World) (law : KeepsL
           clients = same.client;
           told = same.told;
           placed = placed_then fixed conn world next story later same fnode front.replica (moved_to to me move) (moved (front_of fnode waits.tag waits.c ask knows));
-          marked = moved_marked later.moving next.marks (next_id conn (later.told conn)) to me move;
+          marked = moved_marked later.talk.moving next.marks (next_id conn (later.told conn)) to me move;
           whom = subst (λ p. (a : At) → WaitsAt a p → WaitsAt a (moved_to to me move)) (sym waits_there)
               (λ a is. whom_moved to me (name_at.waits ask) move a (law.many.each to node there).talk.each.named is);
           knows = knows_then fixed conn world next story later same fnode waits.tag waits.c (moved_to to me move) moves.knows;

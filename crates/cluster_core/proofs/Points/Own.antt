@@ -102,7 +102,7 @@ module _ (config : Config) (conn : ℕ) (node : List ℕ) (front : Front) (world
       → Outcome (fixed_of config) node conn world.steps world.marks story waits.tag waits.c store counts there
       → ManyHold (murder_of next master) given store
       → IsInPlaceOf (fixed_of config) next node front.replica (next_id conn (story.told conn)) there
-      → IsMarkedAt story.moving (world.marks ++ made_by world.steps waits.c.id counts) (next_id conn (story.told conn)) there
+      → IsMarkedAt story.talk.moving (world.marks ++ made_by world.steps waits.c.id counts) (next_id conn (story.told conn)) there
       → ((at : At) → WaitsAt at here → WaitsAt at there) → OwnStep config conn heard world story next master given
   own_step master given store counts there leaves out many placed marked whom =
       let later : Tale = out.later in
@@ -121,9 +121,9 @@ module _ (config : Config) (conn : ℕ) (node : List ℕ) (front : Front) (world
           clients = leaves.clients;
           told = same;
           placed = subst (λ t. IsInPlaceOf (fixed_of config) next node front.replica (next_id conn t) there) (sym same) placed;
-          marked = subst (λ m. IsMarkedAt m next.marks (next_id conn (later.told conn)) there) (sym out.goes_on.moving)
-              (subst (λ t. IsMarkedAt story.moving next.marks (next_id conn t) there) (sym same)
-              (subst (λ (m : List Mark). IsMarkedAt story.moving m (next_id conn (story.told conn)) there) (sym leaves.marks) marked));
+          marked = subst (λ m. IsMarkedAt m next.marks (next_id conn (later.told conn)) there) (sym out.goes_on.more.moving)
+              (subst (λ t. IsMarkedAt story.talk.moving next.marks (next_id conn t) there) (sym same)
+              (subst (λ (m : List Mark). IsMarkedAt story.talk.moving m (next_id conn (story.told conn)) there) (sym leaves.marks) marked));
           whom = whom;
           knows = out.knows;
         });

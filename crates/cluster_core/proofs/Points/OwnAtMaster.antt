@@ -174,7 +174,7 @@ module _ (config : Config) (heard : ℕ → Heard) (world : World) (law : KeepsL
 
     noop_own : (rest : List LinkMsg) → here ≡ place.is_barred barrier.asked → on_link world.links fnode name ≡ noop_of id ∷ rest
         → client_at (then fnode (noop_of id)) conn ≡ client_at world conn
-        → MovesBy story.moving world.steps (says fnode (noop_of id)).master.table → OwnWith fnode (noop_of id) law.given
+        → MovesBy story.talk.moving world.steps (says fnode (noop_of id)).master.table → OwnWith fnode (noop_of id) law.given
     noop_own rest asks first same moves =
         let opened = opened_at (subst BringsNothing (sym asks) tt) in
         let clears : ClearsIt fixed fnode conn world.steps world.marks story waits.tag c murder law.given =
@@ -190,8 +190,8 @@ module _ (config : Config) (heard : ℕ → Heard) (world : World) (law : KeepsL
         (noop_is_taken murder law.given store fnode front.replica id (takes fnode (noop_of id) rest first) fed
         (in_murder fixed world law.master law.nodes.me fnode front.replica id (place.is_barred barrier.asked)
         (subst (λ p. IsInPlaceOf fixed world fnode front.replica id p) asks placed))))
-        (subst (λ i. IsMarkedAt story.moving (world.marks ++ home_mark world.steps c.id IfAnswered ∷ []) i (cleared_at table)) waits.its
-        (record { step = world.steps; saw = clears.marked; moves = subst (MovesBy story.moving world.steps) (same_table clears.step) moves }))
+        (subst (λ i. IsMarkedAt story.talk.moving (world.marks ++ home_mark world.steps c.id IfAnswered ∷ []) i (cleared_at table)) waits.its
+        (record { step = world.steps; saw = clears.marked; moves = subst (MovesBy story.talk.moving world.steps) (same_table clears.step) moves }))
         (subst (λ p. (a : At) → WaitsAt a p → WaitsAt a (cleared_at table)) (sym asks) (λ a is. whom_barred barrier.asked (barrier.answered table) a is))
 
     -- ---- the line of its flow
@@ -295,7 +295,7 @@ module _ (config : Config) (heard : ℕ → Heard) (world : World) (law : KeepsL
 
     module _ (from : List ℕ) (message : LinkMsg) (rest : List LinkMsg) (first : on_link world.links from name ≡ message ∷ rest)
         (own : about message ≡ of_connection conn) (same : client_at (then from message) conn ≡ client_at world conn)
-        (moves : MovesBy story.moving world.steps (says from message).master.table) where
+        (moves : MovesBy story.talk.moving world.steps (says from message).master.table) where
       no_front : fnode ≡ name → ⊥
       no_front e = its_front.no_master (e ∙ sym law.nodes.me)
 
@@ -309,7 +309,7 @@ module _ (config : Config) (heard : ℕ → Heard) (world : World) (law : KeepsL
             law.given,
             noop_own rest is (ap (λ f. on_link world.links f name) e1 ∙ first ∙ ap (λ m. m ∷ rest) (sym e3))
                 (ap (λ m. client_at (then fnode m) conn) e3 ∙ ap (λ f. client_at (then f message) conn) e1 ∙ same)
-                (subst (MovesBy story.moving world.steps)
+                (subst (MovesBy story.talk.moving world.steps)
                 (sym (ap (λ m. (says fnode m).master.table) e3 ∙ ap (λ f. (says f message).master.table) e1)) moves),
           ))
       by_found _ is (in_line me mailbox flow e1 e2 e3) =
@@ -326,7 +326,7 @@ module _ (config : Config) (heard : ℕ → Heard) (world : World) (law : KeepsL
 abbrev pub MasterStepIsOwn : Type 0
 MasterStepIsOwn = (config : Config) (heard : ℕ → Heard) (world : World) (law : KeepsLaw config heard world) (conn : ℕ) (from : List ℕ)
     (message : LinkMsg) (rest : List LinkMsg) → AskedFit world law.story
-    → MovesBy law.story.moving world.steps (node_says law.master from message).master.table
+    → MovesBy law.story.talk.moving world.steps (node_says law.master from message).master.table
     → on_link world.links from (master_of config) ≡ message ∷ rest → about message ≡ of_connection conn
     → client_at (with_master (taken_from_link world from (master_of config)) (master_of config) (node_says law.master from message)) conn
     ≡ client_at world conn

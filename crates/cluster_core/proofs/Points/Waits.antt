@@ -96,7 +96,7 @@ pub record TellsPlace (fixed : Fixed) (conn : ℕ) (world : World) (story : Tale
   pub here : Place
   pub is_found : its_message fixed.master node (next_id conn (story.told conn)) here ≡ Some (record { from = from; to = to; message = message })
   pub placed : IsInPlaceOf fixed world node front.replica (next_id conn (story.told conn)) here
-  pub marked : IsMarkedAt story.moving world.marks (next_id conn (story.told conn)) here
+  pub marked : IsMarkedAt story.talk.moving world.marks (next_id conn (story.told conn)) here
   pub who : Whose fixed conn node connection world story heard here
 
 abbrev pub FirstTells : Type 0
@@ -180,7 +180,7 @@ pub record IsThen (fixed : Fixed) (conn : ℕ) (node : List ℕ) (front : Front)
   pub clients : client_at next conn ≡ client_at world conn
   pub told : later.told conn ≡ story.told conn
   pub placed : IsInPlaceOf fixed next node front.replica (next_id conn (later.told conn)) there
-  pub marked : IsMarkedAt later.moving next.marks (next_id conn (later.told conn)) there
+  pub marked : IsMarkedAt later.talk.moving next.marks (next_id conn (later.told conn)) there
   pub whom : (at : At) → WaitsAt at here → WaitsAt at there
   pub knows : KnowsOf fixed node conn tag c later there
 

@@ -36,7 +36,6 @@ use Rattle.cluster_core.proofs.OneServer.ClosedLaw.{gives_no_more}
 use Rattle.cluster_core.proofs.OneServer.EachStep.{EachKeeps, kept_all}
 use Rattle.cluster_core.proofs.OneServer.OneStoreLaw.{one_store_tells}
 use Rattle.cluster_core.proofs.OneServer.RecordsLaw.{records_stand_each}
-use Rattle.cluster_core.proofs.OneServer.RefusalsLaw.{refuses_for_cause_each}
 
 -- a frontend's feed by the table of the world
 followed : (master : Master) (table : MailboxTable) (world : World) (name node : List ℕ) (replica : Replica) → table ≡ master.table
@@ -73,7 +72,6 @@ one_mail_server config events are dated fit each =
           (λ before later parts node front at. (((law_at before later parts).nodes).fronts node front at).first_is);
       records = records_stand_each config events are each;
       one_home = keeps_one_home_each config events are each;
-      refusals = refuses_for_cause_each config events are each;
     }
 
 -- THE HEADLINE

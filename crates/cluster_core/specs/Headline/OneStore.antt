@@ -6,6 +6,7 @@ use Rattle.imap_talk.specs.Transcript.{transcript_of, ends}
 use Rattle.imap_talk.specs.TranscriptRead.{IsAllReadAsMeant}
 use Rattle.mail_message.specs.Boxes.{Content, IsRising}
 use Rattle.mark_history.specs.FirstCourse.{first_course}
+use Rattle.mark_history.specs.Reached.{IsReached}
 use Rattle.mur_base.specs.declared.home.Location.{Location}
 use Rattle.name_links.specs.Contents.{content_in}
 use Rattle.node_record.specs.Held.{held_at}
@@ -34,6 +35,7 @@ use Rattle.imap_talk.specs.Heard.{bytes_heard, frames_heard, has_closed}
 use Rattle.cluster_core.specs.History.{history_of}
 use Rattle.cluster_core.specs.Headline.Homes.{ShowsBoxesOf}
 use Rattle.cluster_core.specs.Headline.Outside.{guest_of, is_guest, table_at}
+use Rattle.cluster_core.specs.Headline.Refusals.{AreReserved}
 use Rattle.cluster_core.specs.Headline.Routing.{AreRouted}
 use Rattle.cluster_core.specs.Headline.Serials.{reserves_taken}
 use Rattle.cluster_core.specs.LawSetting.{law_setting}
@@ -99,6 +101,8 @@ pub record IsToldSoFar (config : Config) (talk : Talk) (points : List Point) (st
   pub ends_only_last : (conn : ℕ) → EndsOnlyLast (so_far.answers conn)
   pub last : Course
   pub legal : IsLegal (law_setting config) first_course so_far (history_of world) last
+  -- no link breaks, so no server isn't reached
+  pub reached : All IsReached (history_of world)
   pub refusals : HaveCauses so_far (history_of world)
   pub one_content : HasBoxesOf config last.store world
   pub homes_shown : ShowsBoxesOf config last.store world
@@ -146,6 +150,8 @@ pub record IsToldByOneStore (config : Config) (events : List Event) : Type 0 whe
   -- a session begins by the login of a user of the configuration, and stays this user's
   pub begins_by_login : BeginsByLogin config.users (law_setting config)
   pub talk : Talk
+  -- a mailbox is being moved where the master has its name reserved: only there is a command refused for that
+  pub moving : AreReserved config (steps_of_run config events) talk.moving
   pub at_each_step : (before later : List Event) → steps_of_run config events ≡ before ++ later
       → IsToldSoFar config talk (history_of (run_steps (start config) (steps_of_run config events))) before (run_steps (start config) before)
   pub steps_rise : AllPairs (λ (earlier later : Point). earlier.step ≤ later.step)
