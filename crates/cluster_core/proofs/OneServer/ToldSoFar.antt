@@ -39,14 +39,14 @@ use Rattle.cluster_core.specs.LawSetting.{law_setting}
 use Rattle.cluster_core.specs.declared.world.World.{World}
 use Rattle.cluster_core.specs.Flow.{run_steps, steps_of_run}
 use Rattle.cluster_core.specs.Headline.Homes.{ShowsBoxesOf}
-use Rattle.cluster_core.specs.Headline.OneStore.{HasBoxesOf, IsAnsweredThrough, IsToldByOneStore, IsToldSoFar}
+use Rattle.cluster_core.specs.Headline.OneStore.{HasBoxesOf, HasItsRights, IsAnsweredThrough, IsToldByOneStore, IsToldSoFar}
 use Rattle.cluster_core.specs.Headline.Outside.{guest_of, is_guest}
 use Rattle.cluster_core.specs.Headline.Serials.{reserves_taken}
 use Rattle.cluster_core.specs.History.{history_of}
 use Rattle.cluster_core.specs.Numbers.{NumbersFitAll}
 use Rattle.cluster_core.specs.Shown.{given_to}
 use Rattle.cluster_core.specs.World.{start}
-use Rattle.cluster_core.proofs.OneServer.Boxes.{has_boxes}
+use Rattle.cluster_core.proofs.OneServer.Boxes.{has_boxes, has_rights}
 use Rattle.cluster_core.proofs.OneServer.EachStep.{EachKeeps, IsKeptAt, LawBehind, kept_all}
 use Rattle.cluster_core.proofs.OneServer.HistoryLaw.{history_is, stands_in_time}
 use Rattle.cluster_core.proofs.OneServer.MarksGoOn.{run_goes_on, steps_made}
@@ -105,6 +105,7 @@ told_so_far config steps talk before later are date_is silent earlier fits now l
       reached = all_reached world.marks;
       refusals = have_causes (law_setting config) first_course (talk_told law.story) (history_of world) legal.last legal.legal;
       one_content = subst (λ (s : Store). HasBoxesOf config s world) (sym legal.same_store) (has_boxes config came world law);
+      rights = subst (λ (s : Store). HasItsRights config s world) (sym legal.same_store) (has_rights config came world law);
       homes_shown = subst (λ (s : Store). ShowsBoxesOf config s world) (sym legal.same_store) (shows_boxes config came world law are);
       below_next = below;
       uids_rise = λ name. some_rising (box_at legal.last.store name) (rises name);

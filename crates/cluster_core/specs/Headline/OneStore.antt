@@ -8,7 +8,7 @@ use Rattle.mail_message.specs.Boxes.{Content, IsRising}
 use Rattle.mark_history.specs.FirstCourse.{first_course}
 use Rattle.mark_history.specs.Reached.{IsReached}
 use Rattle.mur_base.specs.declared.home.Location.{Location}
-use Rattle.name_links.specs.Contents.{content_in}
+use Rattle.name_links.specs.Contents.{acl_in, content_in}
 use Rattle.node_record.specs.Held.{held_at}
 use Rattle.node_record.specs.declared.table.Record.{Record}
 use Rattle.node_record.specs.declared.table.State.{State}
@@ -71,6 +71,15 @@ box_of_name config world name = box_by world name (record_at (table_at world (ma
 abbrev pub HasBoxesOf : Config → Store → World → Type 0
 HasBoxesOf config store world = (name : List ℕ) → box_at store name ≡ box_of_name config world name
 
+abbrev pub rights_by : Option Record → Option (List ℕ)
+rights_by None = None
+rights_by (Some it) = acl_in (Some it.state)
+
+-- each mailbox, being made, open or closed, has the access list that the master's record of its name tells (RFC 3656, 4.1)
+abbrev pub HasItsRights : Config → Store → World → Type 0
+HasItsRights config store world = (name : List ℕ) (box : Content) → box_at store name ≡ Some box
+    → rights_by (record_at (table_at world (master_of config)) name) ≡ Some box.acl
+
 -- no message is on its way
 abbrev pub AreEmpty : World → Type 0
 AreEmpty world = (from to : List ℕ) → on_link world.links from to ≡ []
@@ -105,6 +114,7 @@ pub record IsToldSoFar (config : Config) (talk : Talk) (points : List Point) (st
   pub reached : All IsReached (history_of world)
   pub refusals : HaveCauses so_far (history_of world)
   pub one_content : HasBoxesOf config last.store world
+  pub rights : HasItsRights config last.store world
   pub homes_shown : ShowsBoxesOf config last.store world
   -- each message has a UID of its own, below its mailbox's UIDNEXT (RFC 9051, 2.3.1.1), and no command, whoever sends it, loses one or
   -- its flags, but where it is for that
