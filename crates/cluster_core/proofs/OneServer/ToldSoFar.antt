@@ -1,5 +1,5 @@
 -- What is told at every step of a run.
-use Rattle.std.proofs.Common.{◌≡◌, ℕ, ◌≤◌, false, List, [], ◌++◌, refl, sym, ◌∙◌, ap, subst, append_assoc}
+use Rattle.std.proofs.Common.{◌≡◌, ℕ, Bool, ◌≤◌, false, List, [], ◌++◌, length, refl, sym, ◌∙◌, ap, subst, append_assoc}
 use Rattle.std.specs.Prelude.{All, IfSome}
 use Rattle.std.proofs.lemmas.List.{append-nil}
 use Rattle.imap_command.specs.Ruled.{IsDate}
@@ -53,6 +53,7 @@ use Rattle.cluster_core.proofs.OneServer.MarksGoOn.{run_goes_on, steps_made}
 use Rattle.cluster_core.proofs.Runs.Unrolled.{run_steps-append}
 use Rattle.cluster_core.proofs.OneServer.SaysOf.{IsSilent, SaysOf, says_of}
 use Rattle.cluster_core.proofs.OneServer.MovingLaw.{moves_behind}
+use Rattle.mark_history.specs.Reached.{IsReached}
 use Rattle.mark_history.proofs.Reached.{all_reached}
 use Rattle.cluster_core.proofs.OneServer.SerialsRise.{serials_are_low}
 use Rattle.cluster_core.proofs.OneServer.ShownHomes.{shows_boxes}
@@ -66,6 +67,10 @@ OthersAreSilent config steps = (conn : ℕ) → is_guest (guest_of config conn s
 -- the law held behind each front of some steps of a run in which this will have been said
 abbrev KeepsEarlier : Config → List Event → Talk → List Event → Type 0
 KeepsEarlier config all talk steps = (before later : List Event) → steps ≡ before ++ later → IsKeptAt config all talk before
+
+reached_in : (world : World) → All IsReached (history_of world)
+unfolding history_of
+reached_in world = all_reached world.marks
 
 -- behind some steps of a run that ends so
 told_so_far : (config : Config) (steps : List Event) (talk : Talk) (before later : List Event) → AreNodes config.nodes → IsDate config.date
@@ -102,7 +107,7 @@ told_so_far config steps talk before later are date_is silent earlier fits now l
       ends_only_last = λ conn. (says conn).lasts;
       last = legal.last;
       legal = legal.legal;
-      reached = all_reached world.marks;
+      reached = reached_in world;
       refusals = have_causes (law_setting config) first_course (talk_told law.story) (history_of world) legal.last legal.legal;
       one_content = subst (λ (s : Store). HasBoxesOf config s world) (sym legal.same_store) (has_boxes config came world law);
       rights = subst (λ (s : Store). HasItsRights config s world) (sym legal.same_store) (has_rights config came world law);
