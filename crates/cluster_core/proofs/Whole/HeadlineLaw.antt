@@ -27,6 +27,7 @@ use Rattle.cluster_core.proofs.Runs.OnPairs.{goes_over_links, know_by_law}
 use Rattle.cluster_core.proofs.Runs.OwnClientsLaw.{serves_its_own_each}
 use Rattle.cluster_core.proofs.Runs.Unrolled.{by_steps}
 use Rattle.cluster_core.proofs.Asking.AsksLaw.{asks_by_records}
+use Rattle.cluster_core.proofs.Asking.OnceLaw.{asks_once}
 use Rattle.cluster_core.proofs.Connections.KeepsLaw.{KeepsLaw}
 use Rattle.cluster_core.proofs.Guests.GuestsServed.{serves_guests}
 use Rattle.cluster_core.proofs.Keeps.AnyStep.{law_of_run}
@@ -70,6 +71,7 @@ one_mail_server config events are dated fit each =
           replicas_follow config (λ conn. heard config conn before) (run_steps (start config) before) (law_at before later parts);
       asks = asks_by_records config events are
           (λ before later parts node front at. (((law_at before later parts).nodes).fronts node front at).first_is);
+      asks_once = asks_once config events (λ before later parts. (law_at before later parts).whole);
       records = records_stand_each config events are each;
       one_home = keeps_one_home_each config events are each;
     }
