@@ -6,6 +6,7 @@ pub mod OpenAt
 pub mod HomeLaw
 pub mod Homes
 pub mod Routing
+pub mod WaitedFor
 pub mod OneStore
 pub mod Closed
 pub mod OneNode

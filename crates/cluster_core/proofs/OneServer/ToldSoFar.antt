@@ -52,6 +52,7 @@ use Rattle.cluster_core.proofs.OneServer.HistoryLaw.{history_is, stands_in_time}
 use Rattle.cluster_core.proofs.OneServer.MarksGoOn.{run_goes_on, steps_made}
 use Rattle.cluster_core.proofs.Runs.Unrolled.{run_steps-append}
 use Rattle.cluster_core.proofs.OneServer.SaysOf.{IsSilent, SaysOf, says_of}
+use Rattle.cluster_core.proofs.OneServer.WaitsLaw.{next_waits}
 use Rattle.cluster_core.proofs.OneServer.MovingLaw.{moves_behind}
 use Rattle.mark_history.specs.Reached.{IsReached}
 use Rattle.mark_history.proofs.Reached.{all_reached}
@@ -133,6 +134,8 @@ told_so_far config steps talk before later are date_is silent earlier fits now l
       counted = steps_made config before;
       nothing_waits = λ empty conn stays.
           subst (λ r. IsAnsweredThrough r (law.story.told conn)) (sym (law.requests conn)) ((says conn).waits_not empty stays);
+      next_waits = λ conn stays unanswered. next_waits config came world law conn stays
+          (λ through. unanswered (subst (λ r. IsAnsweredThrough r (law.story.told conn)) (sym (law.requests conn)) through));
     }
 
 told_at : (config : Config) (talk : Talk) (steps before later : List Event) → steps ≡ before ++ later → AreNodes config.nodes → IsDate config.date
