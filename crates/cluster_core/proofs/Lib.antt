@@ -13,4 +13,5 @@ pub mod OneServer
 pub mod Guests
 pub mod Keeps
 pub mod Asking
+pub mod Lines
 pub mod Whole

@@ -18,6 +18,7 @@ pub mod Backends
 pub mod Records
 pub mod Asks
 pub mod AsksOnce
+pub mod Lines
 use Rattle.std.specs.Prelude.{◌≡◌, true, List}
 use Rattle.mur_config.specs.declared.config.Config.{Config}
 use Rattle.mur_config.specs.Nodes.{links_of}
@@ -28,6 +29,7 @@ use Rattle.cluster_core.specs.Headline.AsksOnce.{AsksOnceEach}
 use Rattle.cluster_core.specs.Headline.Closed.{GivesNoMore}
 use Rattle.cluster_core.specs.Headline.FlowLaw.{AreStepsOfAll}
 use Rattle.cluster_core.specs.Headline.HomeLaw.{KeepsOneHomeEach}
+use Rattle.cluster_core.specs.Headline.Lines.{BeginsOnlyAsAsked}
 use Rattle.cluster_core.specs.Headline.OneNode.{GoesOverLinks, OneNodeWorksEach, ServesItsOwnEach}
 use Rattle.cluster_core.specs.Headline.OneStore.{IsToldByOneStore}
 use Rattle.cluster_core.specs.Headline.Outside.{ServesGuests, is_master}
@@ -40,8 +42,9 @@ use Rattle.cluster_core.specs.World.{layout_of, start}
 -- more; a client at the master is given the replies to its lines of MUPDATE and, once it asked for that, each change of the table; the replicas of the
 -- frontends follow the master's table, and by its own each asks the server of a mailbox, or for a new one that of the nearest name above, once and in the
 -- very step in which the command comes to wait for its answer, and the master before that only where there is no record, the server can't serve the
--- mailbox at present, or a LIST needs all names; each record of the master's table is at a backend, in its partition; a mailbox has at most one writable
--- home; a command is refused for a move only where its name is reserved.
+-- mailbox at present, or a LIST needs all names; a backend reserves a name only for a CREATE that it was asked for, and deactivates a mailbox only for a
+-- DELETE, once for each ask; each record of the master's table is at a backend, in its partition; a mailbox has at most one writable home; a command is
+-- refused for a move only where its name is reserved.
 pub record IsOneServer (config : Config) (events : List Event) : Type 0 where
   -- the run is that of its single steps, and those are its events, but of a flow as many deliveries as it may make, or until none is left
   pub by_steps : run_of config events ≡ run_steps (start config) (steps_of_run config events)
@@ -57,5 +60,6 @@ pub record IsOneServer (config : Config) (events : List Event) : Type 0 where
   pub replicas : FollowTheTable config events
   pub asks : AsksByRecords config events
   pub asks_once : AsksOnceEach config events
+  pub lines : BeginsOnlyAsAsked config events
   pub records : RecordsStandAtBackends config events
   pub one_home : KeepsOneHomeEach config events

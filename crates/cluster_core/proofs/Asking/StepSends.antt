@@ -46,7 +46,7 @@ put_sends node server links (Close conn) = sym (append-nil (on_link links node s
 put_sends node server links (mark_out ask counts) = sym (append-nil (on_link links node server))
 put_sends node server links (tell ask how) = sym (append-nil (on_link links node server))
 
-all_put : (node server : List ℕ) (links : Links LinkMsg) (outs : List Out)
+pub all_put : (node server : List ℕ) (links : Links LinkMsg) (outs : List Out)
     → on_link (put_all node links outs) node server ≡ on_link links node server ++ all_sent node server outs
 unfolding put_all
 all_put node server links [] = sym (append-nil (on_link links node server))

@@ -56,7 +56,7 @@ nobody_asks (Line bytes) e = refl
 nobody_asks (Ask ask) e = cc
 nobody_asks (Answer answer) e = refl
 
-nobody_fits : (message : LinkMsg) → about message ≡ of_nobody → IsFitting message
+pub nobody_fits : (message : LinkMsg) → about message ≡ of_nobody → IsFitting message
 nobody_fits Up e = tt
 nobody_fits End e = tt
 nobody_fits (Line bytes) e = tt

@@ -265,7 +265,7 @@ before_counting event (Some node) world after works = record {
   sends = works.sends;
 }
 
-one_node_works : (world : World) (event : Event) → OneNodeWorks event world (steps_by world event)
+pub one_node_works : (world : World) (event : Event) → OneNodeWorks event world (steps_by world event)
 one_node_works world event = record {
   counted = (takes_adds (stepped world) event).same_step;
   works = before_counting event (worker world event) world (steps_by world event)

@@ -28,6 +28,7 @@ use Rattle.cluster_core.proofs.Runs.OwnClientsLaw.{serves_its_own_each}
 use Rattle.cluster_core.proofs.Runs.Unrolled.{by_steps}
 use Rattle.cluster_core.proofs.Asking.AsksLaw.{asks_by_records}
 use Rattle.cluster_core.proofs.Asking.OnceLaw.{asks_once}
+use Rattle.cluster_core.proofs.Lines.LinesLaw.{begins_only_as_asked}
 use Rattle.cluster_core.proofs.Connections.KeepsLaw.{KeepsLaw}
 use Rattle.cluster_core.proofs.Guests.GuestsServed.{serves_guests}
 use Rattle.cluster_core.proofs.Keeps.AnyStep.{law_of_run}
@@ -72,6 +73,7 @@ one_mail_server config events are dated fit each =
       asks = asks_by_records config events are
           (λ before later parts node front at. (((law_at before later parts).nodes).fronts node front at).first_is);
       asks_once = asks_once config events (λ before later parts. (law_at before later parts).whole);
+      lines = begins_only_as_asked config events are fit each;
       records = records_stand_each config events are each;
       one_home = keeps_one_home_each config events are each;
     }
