@@ -10,6 +10,7 @@ pub mod Points
 pub mod Runs
 pub mod Routing
 pub mod OneServer
+pub mod Serials
 pub mod Guests
 pub mod Keeps
 pub mod Asking

@@ -35,6 +35,7 @@ use Rattle.cluster_core.specs.Headline.OneStore.{IsToldByOneStore}
 use Rattle.cluster_core.specs.Headline.Outside.{ServesGuests, is_master}
 use Rattle.cluster_core.specs.Headline.Records.{RecordsStandAtBackends}
 use Rattle.cluster_core.specs.Headline.Replicas.{FollowTheTable}
+use Rattle.cluster_core.specs.Headline.Serials.{LeavesSerials}
 use Rattle.cluster_core.specs.World.{layout_of, start}
 
 -- What the mail clients were given is what one mailbox store replies to the printed history, one command at a time, in each session's order; in each single
@@ -44,7 +45,7 @@ use Rattle.cluster_core.specs.World.{layout_of, start}
 -- very step in which the command comes to wait for its answer, and the master before that only where there is no record, the server can't serve the
 -- mailbox at present, or a LIST needs all names; a backend reserves a name only for a CREATE that it was asked for, and deactivates a mailbox only for a
 -- DELETE, once for each ask; each record of the master's table is at a backend, in its partition; a mailbox has at most one writable home; a command is
--- refused for a move only where its name is reserved.
+-- refused for a move only where its name is reserved; and UIDVALIDITYs never run out where clients send fewer than 2^32 bytes.
 pub record IsOneServer (config : Config) (events : List Event) : Type 0 where
   -- the run is that of its single steps, and those are its events, but of a flow as many deliveries as it may make, or until none is left
   pub by_steps : run_of config events ≡ run_steps (start config) (steps_of_run config events)
@@ -63,3 +64,4 @@ pub record IsOneServer (config : Config) (events : List Event) : Type 0 where
   pub lines : BeginsOnlyAsAsked config events
   pub records : RecordsStandAtBackends config events
   pub one_home : KeepsOneHomeEach config events
+  pub serials : LeavesSerials config events

@@ -1,5 +1,5 @@
 -- A frontend answers a request of a connection by itself: the client is given the reply, and it is that of the one store.
-use Rattle.std.proofs.Common.{◌≡◌, ℕ, ◌+◌, List, [], ◌∷◌, ◌++◌, length, Some, refl, sym, ◌∙◌, ap, subst, length-append}
+use Rattle.std.proofs.Common.{◌≡◌, ℕ, ◌+◌, List, [], ◌∷◌, ◌++◌, length, Some, refl, sym, ◌∙◌, ap, subst, arith, length-append}
 use Rattle.std.specs.Ordering.{nat_cmp}
 use Rattle.front_core.specs.declared.connection.Connection.{Connection}
 use Rattle.feed_core.specs.declared.replica.Replica.{Replica}
@@ -101,10 +101,17 @@ marked_keeps fixed conn world ask how its = record {
 abbrev pub said_tale : Setting → Tale → ℕ → Request → Tale
 said_tale setting tale conn request = telling (acting setting tale conn request 0) conn (done setting tale conn request 0).answer
 
-pub said_goes_on : (setting : Setting) (story : Tale) (conn : ℕ) (request : Request) → GoesOnAt conn story (said_tale setting story conn request)
-said_goes_on setting story conn request = record {
+pub said_goes_on : (setting : Setting) (story : Tale) (conn : ℕ) (request : Request) → story.talk.answers conn ≡ story.told conn
+    → GoesOnAt conn story (said_tale setting story conn request)
+said_goes_on setting story conn request unreplied = record {
   requests = refl;
   said = λ other ne. list_elsewhere story.talk.answers conn _ other ne;
+  grows = omega (
+    arith,
+    ap length unreplied,
+    ap length (list_at story.talk.answers conn (story.told conn ++ (done setting story conn request 0).answer ∷ [])),
+    length-append (story.told conn) ((done setting story conn request 0).answer ∷ []),
+  );
   told = λ other ne. list_elsewhere story.told conn _ other ne;
   sessions = λ other ne. session_of_other story.course.sessions conn _ other ne;
   more = record {
@@ -171,7 +178,7 @@ said_made fixed front replica conn inputs connection before told world request t
     record {
       others = keeps_on fixed conn before world after_world was.made.others
           (keeps_on fixed conn world given after_world (given_keeps fixed world conn client text) (marked_keeps fixed conn given ask Here refl));
-      goes_on = stories_follow conn told story now was.made.goes_on (said_goes_on fixed.setting story conn request);
+      goes_on = stories_follow conn told story now was.made.goes_on (said_goes_on fixed.setting story conn request was.reading.said);
       store = ap (λ (a : Answered). a.store) (is story.course.store) ∙ was.made.store;
       is_told = subst (λ n. AreMarked fixed.setting world.steps
           (world.marks ++ (record { step = world.steps; ask = record { conn = conn; command = n + 1 }; kind = Told Here }) ∷ []) now)

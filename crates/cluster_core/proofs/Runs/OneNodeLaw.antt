@@ -239,7 +239,7 @@ deliver_works world from to [] first = takes_nothing from to world first
 deliver_works world from to (message ∷ rest) first =
     comes_works (Deliver from to) to world (taken_from_link world from to) (From from message) (node_at world to) (takes_first from to world)
 
-takes_works : (world : World) (event : Event) → WorksBy event (worker world event) world (takes world event)
+pub takes_works : (world : World) (event : Event) → WorksBy event (worker world event) world (takes world event)
 unfolding takes
 takes_works world (Open node conn) = opens_work world node conn (client_at world conn) refl
 takes_works world (Data conn bytes) =

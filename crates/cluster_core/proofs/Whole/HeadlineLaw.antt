@@ -38,6 +38,7 @@ use Rattle.cluster_core.proofs.OneServer.ClosedLaw.{gives_no_more}
 use Rattle.cluster_core.proofs.OneServer.EachStep.{EachKeeps, kept_all}
 use Rattle.cluster_core.proofs.OneServer.OneStoreLaw.{one_store_tells}
 use Rattle.cluster_core.proofs.OneServer.RecordsLaw.{records_stand_each}
+use Rattle.cluster_core.proofs.Serials.SerialsLeft.{leaves_serials}
 
 -- a frontend's feed by the table of the world
 followed : (master : Master) (table : MailboxTable) (world : World) (name node : List ℕ) (replica : Replica) → table ≡ master.table
@@ -76,6 +77,7 @@ one_mail_server config events are dated fit each =
       lines = begins_only_as_asked config events are fit each;
       records = records_stand_each config events are each;
       one_home = keeps_one_home_each config events are each;
+      serials = leaves_serials config events are fit each;
     }
 
 -- THE HEADLINE
