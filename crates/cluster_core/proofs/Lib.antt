@@ -11,6 +11,7 @@ pub mod Runs
 pub mod Routing
 pub mod OneServer
 pub mod Guests
+pub mod Disks
 pub mod Keeps
 pub mod Asking
 pub mod Whole

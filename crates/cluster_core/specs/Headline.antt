@@ -15,6 +15,7 @@ pub mod Replicas
 pub mod Points
 pub mod Backends
 pub mod Records
+pub mod Disks
 pub mod Asks
 use Rattle.std.specs.Prelude.{◌≡◌, true, List}
 use Rattle.mur_config.specs.declared.config.Config.{Config}
@@ -23,6 +24,7 @@ use Rattle.schedule_text.specs.declared.event.Event.{Event}
 use Rattle.cluster_core.specs.Flow.{run_of, run_steps, steps_of_run}
 use Rattle.cluster_core.specs.Headline.Asks.{AsksByRecords}
 use Rattle.cluster_core.specs.Headline.Closed.{GivesNoMore}
+use Rattle.cluster_core.specs.Headline.Disks.{StandsOnDisks}
 use Rattle.cluster_core.specs.Headline.FlowLaw.{AreStepsOfAll}
 use Rattle.cluster_core.specs.Headline.HomeLaw.{KeepsOneHomeEach}
 use Rattle.cluster_core.specs.Headline.OneNode.{GoesOverLinks, OneNodeWorksEach, ServesItsOwnEach}
@@ -37,7 +39,8 @@ use Rattle.cluster_core.specs.World.{layout_of, start}
 -- more; a client at the master is given the replies to its lines of MUPDATE and, once it asked for that, each change of the table; the replicas of the
 -- frontends follow the master's table, and by its own each asks the server of a mailbox, or for a new one that of the nearest name above, and the master
 -- before that only where there is no record, the server can't serve the mailbox at present, or a LIST needs all names; each record of the master's table
--- is at a backend, in its partition; a mailbox has at most one writable home; a command is refused for a move only where its name is reserved.
+-- is at a backend, in its partition; that table, and the mailboxes of a backend, are what the entries of their disks make; a mailbox has at most one
+-- writable home; a command is refused for a move only where its name is reserved.
 pub record IsOneServer (config : Config) (events : List Event) : Type 0 where
   -- the run is that of its single steps, and those are its events, but of a flow as many deliveries as it may make, or until none is left
   pub by_steps : run_of config events ≡ run_steps (start config) (steps_of_run config events)
@@ -53,4 +56,5 @@ pub record IsOneServer (config : Config) (events : List Event) : Type 0 where
   pub replicas : FollowTheTable config events
   pub asks : AsksByRecords config events
   pub records : RecordsStandAtBackends config events
+  pub disks : StandsOnDisks config events
   pub one_home : KeepsOneHomeEach config events

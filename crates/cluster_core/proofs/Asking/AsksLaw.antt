@@ -34,7 +34,7 @@ use Rattle.cluster_core.specs.declared.world.World.{World}
 use Rattle.cluster_core.specs.Flow.{run_steps, steps_of_run}
 use Rattle.cluster_core.specs.Headline.Asks.{AsksByRecords, AsksRightly, IsFirstBackend, IsRightlySent, taken_by}
 use Rattle.cluster_core.specs.Headline.OneNode.{leaves_on, node_of, worker}
-use Rattle.cluster_core.specs.World.{backends_of, carry, carry_all, client_at, client_does, comes_to, deliver_first, front_at, home_of, node_at, not_lost, opens, or_backend, start, stepped, steps_by, taken_from_link, takes, with_client, with_state}
+use Rattle.cluster_core.specs.World.{backends_of, carry, carry_all, client_at, client_does, comes_to, deliver_first, front_at, home_of, node_at, not_lost, opens, or_backend, start, stepped, steps_by, taken_from_link, takes, with_client, with_acted}
 use Rattle.cluster_core.proofs.Asking.NodeAsks.{KnowsFirst, MovesNobody, node_asks, taken_in}
 use Rattle.cluster_core.proofs.Runs.NeverMoved.{WorldIsQuiet, given_links, never_moved, quiet_moves_none}
 use Rattle.cluster_core.proofs.Runs.NotLost.{let_left}
@@ -106,7 +106,7 @@ module _ (nodes : List Node) where
   acted_at world node was input there =
       let now = (node_takes was input).state in
       ap (λ n. as_front (value_at (slice_cmp nat_cmp) n node))
-      (carry_all_sends node (with_state world node now) (not_lost world.broken node (node_takes was input).outs)).nodes
+      (carry_all_sends node (with_acted world node (node_takes was input)) (not_lost world.broken node (node_takes was input).outs)).nodes
       ∙ ap as_front (value_at-with_value (slice_cmp nat_cmp) names_apart world.nodes node now was there)
 
   comes_rightly : (world : World) (node server : List ℕ) (input : NodeInput) (found : Option NodeState) → node_at world node ≡ found
@@ -118,7 +118,7 @@ module _ (nodes : List Node) where
       let may = IsRightlySent nodes (taken_in input) (as_front (Some (node_takes it input).state)) in
       subst (λ f. HasSent (IsRightlySent nodes (taken_in input) f server) (on_link world.links node server)
       (on_link (comes_to world node input (Some it)).links node server)) (sym (acted_at world node it input there))
-      (carry_all_goes may (MayMark it) node server (with_state world node (node_takes it input).state)
+      (carry_all_goes may (MayMark it) node server (with_acted world node (node_takes it input))
       (not_lost world.broken node (node_takes it input).outs)
       (let_left AnyClient may (MayMark it) world.broken node (node_takes it input).outs (node_asks nodes it input (know node it there) none)))
 

@@ -79,15 +79,14 @@ knows config name =
     ap (pointwise nat_eq (master_of config)) (new_master name (home_of config) (master_of config) (setting_of config)) ∙ same_name (master_of config)
 
 pub front_acts : (config : Config) (name : List ℕ)
-    → up_acted (state.Front (first_front config name)) (master_of config) ≡ record { state = state.Front (first_front config name); outs = asks_once config }
+    → up_acted (state.Front (first_front config name)) (master_of config)
+    ≡ front_acted (record { front = first_front config name; outs = asks_once config })
 unfolding node_takes front_takes deliver
 front_acts config name =
-    ap (λ (s : Stepped). record { state = state.Front s.front; outs = s.outs }) (front_up config name
-    (pointwise nat_eq (master_of config) (first_front config name).master) (knows config name))
+    ap front_acted (front_up config name (pointwise nat_eq (master_of config) (first_front config name).master) (knows config name))
 
 pub home_acts : (config : Config) (node : Node)
-    → up_acted (state.Back (first_home config node)) (master_of config)
-    ≡ record { state = state.Back (told_up (place_of node) (master_of config)).state; outs = (told_up (place_of node) (master_of config)).outs }
+    → up_acted (state.Back (first_home config node)) (master_of config) ≡ back_acted (told_up (place_of node) (master_of config))
 unfolding node_takes back_takes
 home_acts config node = refl
 

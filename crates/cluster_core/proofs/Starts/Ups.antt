@@ -24,11 +24,11 @@ use Rattle.mur_config.proofs.OncePairs.{times}
 use Rattle.node_step.specs.declared.input.NodeInput.TheVariants.{From}
 use Rattle.node_step.specs.declared.node.NodeState.{NodeState}
 use Rattle.node_step.specs.declared.node.NodeState.TheVariants as state
-use Rattle.node_step.specs.NodeStep.{Acted, back_takes, front_takes, idle, master_takes, takes as node_takes}
+use Rattle.node_step.specs.NodeStep.{Acted, back_acted, back_takes, front_acted, front_takes, idle, master_takes, takes as node_takes}
 use Rattle.cluster_core.specs.declared.world.World.{World}
 use Rattle.cluster_core.specs.World.{node_at, told_up, with_ups}
 use Rattle.cluster_core.proofs.Nodes.Carried.{is_made, made}
-use Rattle.cluster_core.proofs.Nodes.Comes.{comes_by, made_here, made_other, none_comes}
+use Rattle.cluster_core.proofs.Nodes.Comes.{comes_by, made_here, made_other, none_comes, wrote}
 
 -- the link is that of the node's master
 abbrev pub takes_up : NodeState → List ℕ → Bool
@@ -55,16 +55,15 @@ passed_acted home = refl
 pub no_up : (it : NodeState) (from : List ℕ) → takes_up it from ≡ false → up_acted it from ≡ idle it
 unfolding node_takes front_takes back_takes master_takes deliver node_says
 no_up (state.Front front) from e =
-    ap (λ (s : Stepped). record { state = state.Front s.front; outs = s.outs }) (up_still front (pointwise nat_eq from front.master) e)
+    ap front_acted (up_still front (pointwise nat_eq from front.master) e)
 no_up (state.Back home) from e =
-    ap (λ (u : UpToEntry). record { state = state.Back (acted u.node u.rest).state; outs = (acted u.node u.rest).outs }) (up_passed home from e)
-    ∙ ap (λ next. record { state = state.Back next.state; outs = next.outs }) (passed_acted home)
+    ap (λ (u : UpToEntry). back_acted (acted u.node u.rest)) (up_passed home from e) ∙ ap back_acted (passed_acted home)
 no_up (state.Master master) from e = refl
 
 -- ---- one link comes up
 
 up_comes : (world : World) (link : Link) (it : NodeState) → world.broken ≡ [] → node_at world link.to ≡ Some it
-    → told_up world link ≡ made world link.to (up_acted it link.from).state (up_acted it link.from).outs
+    → told_up world link ≡ made (wrote world link.to it (From link.from Up)) link.to (up_acted it link.from).state (up_acted it link.from).outs
 up_comes world link it whole at = comes_by world link.to (From link.from Up) it whole at
 
 -- a node and what it sent stay as they were
@@ -92,12 +91,13 @@ idle_leaves : (world : World) (link : Link) (it : NodeState) → world.broken �
     → LeavesNode world (told_up world link) link.to
 unfolding put_all
 idle_leaves world link it whole at ignored =
-    let is : told_up world link ≡ made world link.to it [] =
-    up_comes world link it whole at ∙ ap (λ (a : Acted). made world link.to a.state a.outs) (no_up it link.from ignored) in
+    let put : World = wrote world link.to it (From link.from Up) in
+    let is : told_up world link ≡ made put link.to it [] =
+    up_comes world link it whole at ∙ ap (λ (a : Acted). made put link.to a.state a.outs) (no_up it link.from ignored) in
     record {
-      node = ap (λ w. node_at w link.to) is ∙ made_here world link.to it [] it at ∙ sym at;
+      node = ap (λ w. node_at w link.to) is ∙ made_here put link.to it [] it at ∙ sym at;
       sent = λ other. ap (λ (w : World). on_link w.links link.to other) is
-          ∙ ap (λ (l : Links LinkMsg). on_link l link.to other) (is_made world link.to it []).links;
+          ∙ ap (λ (l : Links LinkMsg). on_link l link.to other) (is_made put link.to it []).links;
     }
 
 told_by : (world : World) (link : Link) (name : List ℕ) (found : Option NodeState) → world.broken ≡ [] → node_at world link.to ≡ found
@@ -106,7 +106,8 @@ told_by world link name None whole at ignores = leaves_same world (told_up world
 told_by world link name (Some it) whole at ignores = ⊎_elim
     (λ (e : name ≡ link.to). subst (LeavesNode world (told_up world link)) (sym e) (idle_leaves world link it whole at (ignores (sym e) it refl)))
     (λ (ne : name ≢ link.to). subst (λ w. LeavesNode world w name) (sym (up_comes world link it whole at))
-    (made_leaves world link.to name (up_acted it link.from).state (up_acted it link.from).outs ne))
+    (leaves_on world (wrote world link.to it (From link.from Up)) _ name (record { node = refl; sent = λ other. refl })
+    (made_leaves (wrote world link.to it (From link.from Up)) link.to name (up_acted it link.from).state (up_acted it link.from).outs ne)))
     (same_or_other (slice_cmp nat_cmp) names_apart name link.to)
 
 told_leaves : (world : World) (link : Link) (name : List ℕ) → world.broken ≡ [] → Ignores (node_at world name) name link
@@ -119,7 +120,7 @@ still_whole : (world : World) (link : Link) (found : Option NodeState) → world
 still_whole world link None whole at = ap (λ (w : World). w.broken) (none_comes world link.to (From link.from Up) at) ∙ whole
 still_whole world link (Some it) whole at =
     ap (λ (w : World). w.broken) (up_comes world link it whole at)
-    ∙ (is_made world link.to (up_acted it link.from).state (up_acted it link.from).outs).broken ∙ whole
+    ∙ (is_made (wrote world link.to it (From link.from Up)) link.to (up_acted it link.from).state (up_acted it link.from).outs).broken ∙ whole
 
 told_whole : (world : World) (link : Link) → world.broken ≡ [] → (told_up world link).broken ≡ []
 told_whole world link whole = still_whole world link (node_at world link.to) whole refl
@@ -170,11 +171,12 @@ up_here : (world : World) (link : Link) (it : NodeState) → world.broken ≡ []
     → IsUpOnce world (told_up world link) link.to link.from it
 up_here world link it whole at =
     let is = up_comes world link it whole at in
+    let put : World = wrote world link.to it (From link.from Up) in
     let next : Acted = up_acted it link.from in
     record {
-      node = ap (λ w. node_at w link.to) is ∙ made_here world link.to next.state next.outs it at;
+      node = ap (λ w. node_at w link.to) is ∙ made_here put link.to next.state next.outs it at;
       sent = λ other. ap (λ (w : World). on_link w.links link.to other) is
-          ∙ ap (λ (l : Links LinkMsg). on_link l link.to other) (is_made world link.to next.state next.outs).links
+          ∙ ap (λ (l : Links LinkMsg). on_link l link.to other) (is_made put link.to next.state next.outs).links
           ∙ puts_own link.to world.links next.outs other;
     }
 

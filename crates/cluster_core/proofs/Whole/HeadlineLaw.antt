@@ -28,6 +28,7 @@ use Rattle.cluster_core.proofs.Runs.OwnClientsLaw.{serves_its_own_each}
 use Rattle.cluster_core.proofs.Runs.Unrolled.{by_steps}
 use Rattle.cluster_core.proofs.Asking.AsksLaw.{asks_by_records}
 use Rattle.cluster_core.proofs.Connections.KeepsLaw.{KeepsLaw}
+use Rattle.cluster_core.proofs.Disks.OnDisks.{stands_on_disks}
 use Rattle.cluster_core.proofs.Guests.GuestsServed.{serves_guests}
 use Rattle.cluster_core.proofs.Keeps.AnyStep.{law_of_run}
 use Rattle.cluster_core.proofs.Starts.Kinds.{master_named}
@@ -71,6 +72,7 @@ one_mail_server config events are dated fit each =
       asks = asks_by_records config events are
           (λ before later parts node front at. (((law_at before later parts).nodes).fronts node front at).first_is);
       records = records_stand_each config events are each;
+      disks = stands_on_disks config events each;
       one_home = keeps_one_home_each config events are each;
     }
 
