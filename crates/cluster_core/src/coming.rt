@@ -50,12 +50,7 @@ fn write(
 }
 
 #[tactic(auto, unfolding(crate::specs::World::written_on))]
-fn write_on(
-    alloc: Global,
-    disks: &mut Disks,
-    node: &NodeName,
-    entry: &[u8],
-) -> Result<(), Memory>
+fn write_on(alloc: Global, disks: &mut Disks, node: &NodeName, entry: &[u8]) -> Result<(), Memory>
     ensures { OnOk result (disks.new ≡ written_on disks.old node.now entry.now (value_at (slice_cmp nat_cmp) disks.old node.now)) }
 {
     match disks.get_mut(node) {

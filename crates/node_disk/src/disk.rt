@@ -34,7 +34,7 @@ impl NodeDisk {
     {
         match format(mem_disk(alloc, Bytes::new(alloc))) {
             Ok(journal) => Ok(NodeDisk { journal }),
-            // A disk in memory refuses a call only for want of memory.
+            // A disk in memory fails for want of memory alone.
             Err(_) => Err(Memory),
         }
     }
@@ -49,7 +49,7 @@ impl NodeDisk {
         }
         match self.journal.append(alloc, entry) {
             Ok(()) => Ok(()),
-            // So here; and whoever was refused once is refused again.
+            // For want of memory, now or at an earlier call.
             Err(_) => Err(Memory),
         }
     }
