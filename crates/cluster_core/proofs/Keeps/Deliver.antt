@@ -45,9 +45,9 @@ module _ (config : Config) (heard : ℕ → Heard) (world : World) (law : KeepsL
   master_table : master_at world to ≡ Some law.master
       → table_at (comes (taken_from_link world from to) to (From from message)) to ≡ (node_says law.master from message).master.table
   master_table at =
+      let put : World = wrote (taken_from_link world from to) to (state.Master law.master) (From from message) in
       ap (λ (w : World). table_at w to) (master_comes (taken_from_link world from to) to (From from message) law.master law.whole at)
-      ∙ ap table_by
-      (master_moved (wrote (taken_from_link world from to) to (state.Master law.master) (From from message)) to law.master (node_says law.master from message) at).own
+      ∙ ap table_by (master_moved put to law.master (node_says law.master from message) at).own
 
   keeps_by : (found : Option NodeState) → node_at world to ≡ found → Keeps to
   keeps_by None there = to_nobody_keeps config heard world law from to message rest there first

@@ -121,7 +121,8 @@ one_carried node world (tell ask how) = record { nodes = refl; disks = refl; cli
 
 pub all_carried : (node : List ℕ) (world : World) (outs : List Out) → IsCarried node world outs (carry_all node world outs)
 unfolding carry_all given_all put_all
-all_carried node world [] = record { nodes = refl; disks = refl; clients = refl; broken = refl; links = refl; marks = sym (append-nil world.marks); steps = refl }
+all_carried node world [] =
+    record { nodes = refl; disks = refl; clients = refl; broken = refl; links = refl; marks = sym (append-nil world.marks); steps = refl }
 all_carried node world (out ∷ outs) =
     let one = one_carried node world out in
     let more = all_carried node (carry node world out) outs in
