@@ -2,3 +2,7 @@
 pub mod Noops
 pub mod NodeAsks
 pub mod AsksLaw
+pub mod StepSends
+pub mod Asked
+pub mod FrontAsked
+pub mod OnceLaw

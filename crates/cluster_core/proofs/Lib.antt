@@ -10,8 +10,10 @@ pub mod Points
 pub mod Runs
 pub mod Routing
 pub mod OneServer
+pub mod Serials
 pub mod Guests
 pub mod Disks
 pub mod Keeps
 pub mod Asking
+pub mod Lines
 pub mod Whole

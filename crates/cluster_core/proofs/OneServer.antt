@@ -9,6 +9,7 @@ pub mod BackendsLaw
 pub mod ShownHomes
 pub mod NoResync
 pub mod SaysOf
+pub mod WaitsLaw
 pub mod UidsBelow
 pub mod MovingLaw
 pub mod EachStep

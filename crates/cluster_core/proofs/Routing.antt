@@ -9,4 +9,5 @@ pub mod HomeAnswers
 pub mod Makes
 pub mod HowMade
 pub mod NamesTaken
+pub mod Alone
 pub mod RoutedLaw

@@ -19,7 +19,7 @@ use Rattle.mark_history.specs.declared.mark.MarkKind.{MarkKind}
 use Rattle.mark_history.specs.declared.mark.MarkKind.TheVariants.{Home}
 use Rattle.mark_history.specs.FirstCourse.{first_course}
 use Rattle.mark_history.specs.History.{is_of, points_of}
-use Rattle.mark_history.specs.Marked.{Tale, asking}
+use Rattle.mark_history.specs.Marked.{Tale, asking, talk_asking}
 use Rattle.mark_history.proofs.CarriesFrom.{CarriesFrom, from_on, from_push, from_told, with_session_at}
 use Rattle.mark_history.proofs.LeftOut.{LeavesOut, StillSaw, leaves_push, leaves_seen, only_saw, same_points}
 use Rattle.mark_history.proofs.Marks.{with_session_elsewhere}

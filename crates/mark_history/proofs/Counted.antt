@@ -21,7 +21,7 @@ use Rattle.mark_history.proofs.LeftOut.{LeavesOut, counts_not}
 use Rattle.mark_history.proofs.LeftOut.LeavesOut.{no_marks, stays, left_out}
 use Rattle.mark_history.proofs.MarkLaw.{holds}
 use Rattle.mark_history.proofs.Marks.{counts_of}
-use Rattle.mark_history.proofs.RefusalMarks.{put_by}
+use Rattle.mark_history.proofs.Reached.{put_by}
 use Rattle.mark_history.proofs.Tally.{Fit, acts, command_of, conn_of, fits, may_refuse}
 
 -- ---- of each point

@@ -4,13 +4,14 @@ use Rattle.link_msg.specs.declared.counts.Counts.TheVariants.{IfAnswered}
 use Rattle.imap_types.specs.declared.command.Command.{Command}
 use Rattle.imap_types.specs.declared.command.Tag.{Tag}
 use Rattle.imap_types.specs.declared.reply.NoText.TheVariants.{BeingMoved}
+use Rattle.imap_types.specs.declared.request.Request.TheVariants.{Command as a_command}
 use Rattle.imap_types.specs.declared.request.Request.{Request}
 use Rattle.mur_base.specs.declared.point.What.TheVariants.{Reserved as reserved}
 use Rattle.mur_model.specs.declared.setting.Setting.{Setting}
 use Rattle.mur_model.specs.Act.{need_of}
 use Rattle.mur_model.specs.Answer.{Answered, answer_of, MayTake}
 use Rattle.mur_model.specs.History.{Course, Talk, TalkGoesOn, IsRefused, Takes, numbered, carried_out, refused_out}
-use Rattle.mur_model.specs.Relocation.{NeedsMailbox, after_refusal}
+use Rattle.mur_model.specs.Relocation.{after_refusal}
 use Rattle.mur_model.proofs.HistoryGrows.{takes_on, numbered_on}
 use Rattle.mark_history.specs.declared.mark.Mark.{Mark}
 use Rattle.mark_history.specs.declared.mark.MarkKind.TheVariants.{Home}

@@ -9,7 +9,7 @@ use Rattle.mur_base.specs.declared.point.What.{What}
 use Rattle.mark_history.specs.declared.mark.Mark.{Mark}
 use Rattle.mark_history.specs.History.{counts_as, next_of, point_as, points_by, points_of}
 use Rattle.mark_history.proofs.Marks.{head_pairs, tail_pairs}
-use Rattle.mark_history.proofs.RefusalMarks.{put_by}
+use Rattle.mark_history.proofs.Reached.{put_by}
 
 pub points_each : (Q : Mark → Type 0) (P : Point → Type 0) → ((mark : Mark) (what : What) → Q mark → P (point_as mark what))
     → (marks : List Mark) → All Q marks → All P (points_of marks)

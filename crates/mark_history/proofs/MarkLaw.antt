@@ -281,7 +281,7 @@ holds setting now marks tale (tells at those its conn answer untold made) =
       law = tells_by_last setting at those its conn answer untold before.law;
       order = order_push at those its conn (Told Behind) _ (telling_more its conn answer) before.order;
     }
-holds setting now marks tale (tells_at_once at those its conn request serial can made) =
+holds setting now marks tale (tells_at_once at those its conn request serial can alone made) =
     let before = holds setting at those its made in
     let answer : Answer = (done setting its conn request serial).answer in
     record {

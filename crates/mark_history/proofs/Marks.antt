@@ -28,7 +28,7 @@ use Rattle.mark_history.specs.declared.mark.Mark.{Mark}
 use Rattle.mark_history.specs.declared.mark.MarkKind.{MarkKind}
 use Rattle.mark_history.specs.declared.mark.MarkKind.TheVariants.{Home, Told}
 use Rattle.mark_history.specs.History.{is_of, next_of, counts_as, point_as, points_by, points_of}
-use Rattle.mark_history.proofs.Deeds.{IsDeed, IsStep, same_step, step_as, step_on}
+use Rattle.mark_history.proofs.Deeds.{IsDeed, IsStep, refused_with, same_step, step_as, step_on}
 use Rattle.mark_history.proofs.Deeds.IsDeed.{carries_it_out, is_refused}
 use Rattle.mark_history.proofs.StepPoints.{loss_point, refusal_point, reply_point}
 use Rattle.mark_history.proofs.EachPoint.{beyond, count_cons, within}
@@ -305,7 +305,7 @@ refused_point setting talk told course last mark done points next (carries_it_ou
     (let both : false ≡ true = sym unrefused ∙ refuses_next next after in cc)
 refused_point setting talk told course last mark done points next (is_refused tag it refusing kind may is) after answer later =
     refusal_point setting (told_talk talk told) course last mark tag it done points
-    (record { asked = may.asked; needs = may.needs; cause = may.cause }) is answer later
+    (refused_with setting talk (told_talk talk told) course mark.step (conn_of mark) (command_of mark) tag it may.asked refl may) is answer later
 
 -- the history that the marks make is followed by the store, of which the clients were told the answers that they were given
 follows_by : (setting : Setting) (talk : Talk) (told : ℕ → List Answer) → IsTold_of talk told

@@ -13,7 +13,7 @@ use Rattle.mark_history.specs.declared.mark.MarkKind.TheVariants.{Home, Told}
 use Rattle.mark_history.specs.History.{counts_as, next_of, point_as, points_by, points_of, refused_as, untold_as}
 use Rattle.mark_history.specs.Reached.{IsReached}
 
-put_by : (P : Point → Type 0) (mark : Mark) (what : Option What) (points : List Point) → ((w : What) → what ≡ Some w → P (point_as mark w)) → All P points
+pub put_by : (P : Point → Type 0) (mark : Mark) (what : Option What) (points : List Point) → ((w : What) → what ≡ Some w → P (point_as mark w)) → All P points
     → All P (points_by mark what ++ points)
 unfolding points_by
 put_by P mark None points own rest = rest

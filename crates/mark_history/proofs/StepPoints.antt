@@ -33,7 +33,8 @@ loss_point setting talk course last mark request serial done points takes is lat
 
 -- its command was refused
 pub refusal_point : (setting : Setting) (talk : Talk) (course last : Course) (mark : Mark) (tag : Tag) (it : Command) (done : Answered) (points : List Point)
-    → IsRefused setting talk course (conn_of mark) (command_of mark) tag it reserved BeingMoved → done ≡ refused_out course (conn_of mark) tag it BeingMoved
+    → IsRefused setting talk course mark.step (conn_of mark) (command_of mark) tag it reserved BeingMoved
+    → done ≡ refused_out course (conn_of mark) tag it BeingMoved
     → numbered (talk.answers (conn_of mark)) (command_of mark) ≡ Some done.answer → Follows setting talk (course_after course (conn_of mark) done) points last
     → Follows setting talk course (point_as mark reserved ∷ points) last
 refusal_point setting talk course last mark tag it done points may is answer later =

@@ -233,7 +233,7 @@ has_tellings setting now marks tale (tells at those its conn answer untold made)
     put_behind at those its (telling its conn answer) conn (Told _) before
     (subst (λ b. TellsBy b its (telling its conn answer) conn) (sym (a_client _)) (tells_one its (telling its conn answer) conn answer refl refl))
     (omega (arith, before.replied conn, ap length untold, length-append (its.told conn) (answer ∷ []))) before.replied
-has_tellings setting now marks tale (tells_at_once at those its conn request serial can made) =
+has_tellings setting now marks tale (tells_at_once at those its conn request serial can alone made) =
     let before = has_tellings setting at those its made in
     let answer : Answer = (done setting its conn request serial).answer in
     let open_asked : length (its.told conn) < length (its.talk.requests conn) =

@@ -20,6 +20,7 @@ use Rattle.mark_history.specs.declared.mark.MarkKind.{MarkKind}
 use Rattle.mark_history.specs.declared.mark.MarkKind.TheVariants.{Home, Told}
 use Rattle.mark_history.specs.FirstCourse.{first_course}
 use Rattle.mark_history.specs.History.{is_of}
+use Rattle.mark_history.specs.Marked.{talk_asking}
 use Rattle.mark_history.proofs.Deeds.{IsStep}
 use Rattle.mark_history.proofs.Deeds.IsDeed.{carries_it_out}
 use Rattle.mark_history.proofs.Marks.{Carries, carries_on, carries_push, carries_telling, MarkedOnce, marked_once_push, marked_once_telling, marks_push}

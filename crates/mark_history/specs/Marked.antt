@@ -1,7 +1,7 @@
 -- How marks come about. Of each connection the first command that its client wasn't told of is open: steps see it, and one may act on it. What a step did
 -- on condition that the client is told may be taken back as long as it isn't; then others see the command, or one acts on it anew. A command that was
 -- only seen may be refused, as its mailbox is being moved; the step that saw it last is then its point.
-use Rattle.std.specs.Prelude.{◌≡◌, ℕ, ◌+◌, ◌≤◌, ◌==◌, Bool, true, if◌then◌else◌, List, [], ◌∷◌, ◌++◌, length, take, Option, None, Some}
+use Rattle.std.specs.Prelude.{◌≡◌, ℕ, ◌+◌, ◌≤◌, ◌==◌, Bool, if◌then◌else◌, List, [], ◌∷◌, ◌++◌, length, take, Option, None, Some}
 use Rattle.imap_types.specs.declared.command.Command.{Command}
 use Rattle.imap_types.specs.declared.command.Tag.{Tag}
 use Rattle.imap_types.specs.declared.reply.NoText.TheVariants.{BeingMoved}
@@ -16,10 +16,8 @@ use Rattle.mur_base.specs.declared.point.What.TheVariants.{Reserved as reserved}
 use Rattle.mur_model.specs.declared.session.Sess.{Sess}
 use Rattle.mur_model.specs.declared.setting.Setting.{Setting}
 use Rattle.mur_model.specs.declared.store.Store.{Store}
-use Rattle.mur_model.specs.Act.{need_of}
-use Rattle.mur_model.specs.Answer.{Answered, MayTake}
+use Rattle.mur_model.specs.Answer.{Answered, MayTake, NeedsNoStore}
 use Rattle.mur_model.specs.History.{Course, Talk, GoesOn, IsLegal, IsRefused, numbered, carried_out, course_after, refused_out, with_session}
-use Rattle.mur_model.specs.Needed.{Mailbox, Work}
 use Rattle.mark_history.specs.declared.mark.Mark.{Mark}
 use Rattle.mark_history.specs.declared.mark.MarkKind.{MarkKind}
 use Rattle.mark_history.specs.declared.mark.MarkKind.TheVariants.{Home, Told}
@@ -172,9 +170,9 @@ pub data AreMarked (setting : Setting) : ℕ → List Mark → Tale → Type 0 w
   tells : (now : ℕ) (marks : List Mark) (tale : Tale) (conn : ℕ) (answer : Answer) → IsUntold tale conn answer
       → AreMarked setting now marks tale
       → AreMarked setting now (marks ++ mark_now now tale conn (Told Behind) ∷ []) (telling tale conn answer)
-  -- a step carries it out and tells the client at once
+  -- a step carries it out and tells the client at once: it needs nothing of the store
   tells_at_once : (now : ℕ) (marks : List Mark) (tale : Tale) (conn : ℕ) (request : Request) (serial : ℕ) → CanAct setting tale conn request serial
-      → AreMarked setting now marks tale
+      → NeedsNoStore setting (tale.course.sessions conn) request → AreMarked setting now marks tale
       → AreMarked setting now (marks ++ mark_now now tale conn (Told Here) ∷ [])
       (telling (acting setting tale conn request serial) conn (done setting tale conn request serial).answer)
   -- the command is refused, and its client is told at once: the step that saw it last is the point

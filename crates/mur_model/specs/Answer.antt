@@ -9,7 +9,8 @@ use Rattle.imap_types.specs.declared.request.Request.TheVariants.{Command as com
 use Rattle.mur_model.specs.declared.session.Sess.{Sess}
 use Rattle.mur_model.specs.declared.store.Store.{Store}
 use Rattle.mur_model.specs.declared.setting.Setting.{Setting}
-use Rattle.mur_model.specs.Act.{act_of, MayGive}
+use Rattle.mur_model.specs.Act.{act_of, need_of, MayGive}
+use Rattle.mur_model.specs.Needed.{NeedsNothing}
 use Rattle.imap_types.specs.Reply.{reply_of}
 
 -- store, session and answer after a request
@@ -33,3 +34,9 @@ unfoldable pub MayTake : Setting → Store → Sess → Request → ℕ → Type
 MayTake setting store session (command tag it) serial = MayGive setting store session it serial
 MayTake setting store session (unknown tag) serial = ⊤
 MayTake setting store session (too_big tag) serial = ⊤
+
+-- the request is answered whatever mailboxes there are
+unfoldable pub NeedsNoStore : Setting → Sess → Request → Type 0
+NeedsNoStore setting session (command tag it) = NeedsNothing (need_of setting session it)
+NeedsNoStore setting session (unknown tag) = ⊤
+NeedsNoStore setting session (too_big tag) = ⊤

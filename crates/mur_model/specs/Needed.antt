@@ -34,6 +34,13 @@ pub data Needed : Type 0 where
   Mailbox : List ℕ → Work → Needed
   Names : Listing → Needed
 
+-- nothing of the store is needed
+unfoldable pub NeedsNothing : Needed → Type 0
+NeedsNothing (Refusal verdict) = ⊤
+NeedsNothing (Turned turn) = ⊤
+NeedsNothing (Mailbox name work) = ⊥
+NeedsNothing (Names it) = ⊥
+
 -- work at the mailbox of a view
 abbrev pub at_mailbox : View → ViewWork → Needed
 at_mailbox view it = Mailbox view.name (Viewed view it)

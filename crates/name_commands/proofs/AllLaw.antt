@@ -50,7 +50,7 @@ use Rattle.name_commands.proofs.Steps.{left_at}
 
 -- ---- flows and lines
 
-on_only : (name : List ℕ) (flow : Flow) (other : List ℕ) (its : Flow) → on_name name flow other ≡ Some its → (name ≡ other) × (flow ≡ its)
+pub on_only : (name : List ℕ) (flow : Flow) (other : List ℕ) (its : Flow) → on_name name flow other ≡ Some its → (name ≡ other) × (flow ≡ its)
 on_only name flow other its e = by (is_eq (slice_cmp nat_cmp name other)) refl e
   where
     by : (same : Bool) → is_eq (slice_cmp nat_cmp name other) ≡ same → cond same (Some flow) None ≡ Some its → (name ≡ other) × (flow ≡ its)

@@ -103,7 +103,7 @@ module _ (whose : Whose) (master : Master) (name : List ℕ) (node : BackNode) (
   abbrev reply : Reply
   reply = flow_reply master.table name me mailbox flow
 
-  first : IsFirst command_message message up talk.ups
+  pub first : IsFirst command_message message up talk.ups
   first = first_of command_message message up talk.ups talk.written.up_is
 
   both_are : message ∷ filter (is_own_message whose) up ≡ flow_message me mailbox flow ∷ []
@@ -130,7 +130,7 @@ module _ (whose : Whose) (master : Master) (name : List ℕ) (node : BackNode) (
   text_is : (command_line exact).text first.it ≡ (command_line exact).text it
   text_is = let both : command_message first.it ≡ command_message it = sym first.is ∙ message_is in cc
 
-  it_is : first.it ≡ it
+  pub it_is : first.it ≡ it
   it_is =
       just first.it it (sym (command_read first.it its.spelled) ∙ ap (λ (b : List ℕ). command_in b) text_is ∙ command_read it spelled)
 

@@ -1,5 +1,5 @@
 -- A LIST tells the mailboxes on which its user has rights.
-use Rattle.std.proofs.Common.{◌≡◌, ℕ, Bool, true, false, ◌&&◌, ◌==◌, arith, length, List, [], ◌∷◌, refl, sym, ◌∙◌, subst}
+use Rattle.std.proofs.Common.{◌≡◌, ◌≢◌, ℕ, Bool, true, false, ◌&&◌, ◌==◌, arith, length, List, [], ◌∷◌, refl, sym, ◌∙◌, subst}
 use Rattle.std.specs.List.{Contains}
 use Rattle.std.specs.Cmp.Lexicographic.{nat_list_cmp_total}
 use Rattle.std.specs.Str.{bytes_eq}
@@ -23,6 +23,7 @@ use Rattle.mur_model.specs.declared.session.Sess.TheVariants.{Off, In, Selected 
 use Rattle.mur_model.specs.declared.setting.Setting.{Setting}
 use Rattle.mur_model.specs.declared.store.Store.{Store}
 use Rattle.mur_model.specs.Act.{act_by, act_of, need_begun, need_in, need_of, need_selected, need_taken}
+use Rattle.mur_model.specs.Needed.{Names}
 use Rattle.mur_model.specs.Listing.{list, list_reply, listing_by, names_in, shown_to, tells}
 use Rattle.mur_model.specs.Rights.{has_rights}
 use Rattle.mur_model.specs.Traits.{is_in, may_be, traits_of}
@@ -73,6 +74,12 @@ module _ (setting : Setting) (store : Store) (user reference mailbox : List ℕ)
 
 other_asks : (byte : ℕ) (mailbox : List ℕ) → (length (byte ∷ mailbox) == 0) ≡ false
 other_asks byte mailbox = grind (arith, nat_tests)
+
+-- with a pattern that isn't empty the names of mailboxes are needed
+pub lists_names : (setting : Setting) (user reference mailbox : List ℕ) → mailbox ≢ [] → (it : Listing) × (list setting user reference mailbox ≡ Names it)
+unfolding list asks_separator
+lists_names setting user reference [] some = absurd (some refl)
+lists_names setting user reference (byte ∷ mailbox) some = rw (other_asks byte mailbox) (_, refl)
 
 list_replies : (setting : Setting) (store : Store) (session : Sess) (user reference mailbox : List ℕ) (serial : ℕ)
     → IsListReply setting store session user reference mailbox (act_by store session serial (list setting user reference mailbox))

@@ -22,7 +22,7 @@ use Rattle.node_step.specs.declared.input.NodeInput.TheVariants.{From}
 use Rattle.cluster_core.specs.declared.world.World.{World}
 use Rattle.cluster_core.proofs.Commands.Place.{Place}
 use Rattle.cluster_core.proofs.Commands.Standing.{Fixed}
-use Rattle.cluster_core.proofs.Connections.ConnectionLaw.{IsInPlaceOf}
+use Rattle.cluster_core.proofs.Connections.ConnectionLaw.{IsInPlaceOf, says_same}
 use Rattle.cluster_core.proofs.Connections.KeepsFront.{fronts_at_other}
 use Rattle.cluster_core.proofs.Connections.KeepsLaw.{FeedsHold, KeepsLaw, KeepsOn, fixed_of, murder_of}
 use Rattle.cluster_core.proofs.Connections.Stays.{StaysInPlace, connection_stays}
@@ -88,6 +88,7 @@ module _ (config : Config) (heard : ℕ → Heard) (world : World) (law : KeepsL
               (law.connections conn);
         };
         more = same_talk (talk_told law.story);
+        grows = says_same law.story;
         closed = λ conn shut. refl;
       }
 

@@ -1,5 +1,5 @@
 -- A client is told the reply of its command: the store's, which it gave in an earlier step, or a refusal.
-use Rattle.std.proofs.Common.{◌≡◌, ℕ, [], ◌∷◌, ◌++◌, refl}
+use Rattle.std.proofs.Common.{◌≡◌, ℕ, [], ◌∷◌, ◌++◌, length, refl, ap, arith, length-append}
 use Rattle.imap_types.specs.declared.command.Command.{Command}
 use Rattle.imap_types.specs.declared.command.Tag.{Tag}
 use Rattle.imap_types.specs.declared.reply.NoText.TheVariants.{BeingMoved}
@@ -37,6 +37,7 @@ behind_told setting world story conn answer marked untold = record {
   goes_on = record {
     requests = refl;
     said = λ other ne. refl;
+    grows = omega arith;
     told = λ other ne. list_elsewhere story.told conn (story.told conn ++ answer ∷ []) other ne;
     sessions = λ other ne. refl;
     more = record {
@@ -70,6 +71,12 @@ refusal_told setting world story conn tag it marked can =
       goes_on = record {
         requests = refl;
         said = λ other ne. list_elsewhere story.talk.answers conn (story.told conn ++ answer ∷ []) other ne;
+        grows = omega (
+          arith,
+          ap length can.unreplied,
+          ap length (list_at story.talk.answers conn (story.told conn ++ answer ∷ [])),
+          length-append (story.told conn) (answer ∷ []),
+        );
         told = λ other ne. list_elsewhere story.told conn (story.told conn ++ answer ∷ []) other ne;
         sessions = λ other ne. session_of_other story.course.sessions conn _ other ne;
         more = record {

@@ -192,24 +192,24 @@ module _ (nodes : List Node) (taken : Option LinkMsg) (found : Option Front) (ot
   any_streams [] = tt
   any_streams (e ∷ streams) = (may_say e.0, any_streams streams)
 
-  back_asks : (home : BackNode) (input : NodeInput) → AreLetOut AnyClient May ⊤ (node_takes (state.Back home) input).outs
+  pub back_asks : (home : BackNode) (input : NodeInput) → AreLetOut AnyClient May ⊤ (node_takes (state.Back home) input).outs
   back_asks home input =
       (takes_lets AnyClient May (state.Back home) input (record { running = λ k d h answer. tt; waiting = λ k d h answer. tt }) (comes_from input)
       (may_say _)).outs
 
-  master_asks : (master : Master) (input : NodeInput) → AreLetOut AnyClient May ⊤ (node_takes (state.Master master) input).outs
+  pub master_asks : (master : Master) (input : NodeInput) → AreLetOut AnyClient May ⊤ (node_takes (state.Master master) input).outs
   master_asks master input =
       (takes_lets AnyClient May (state.Master master) input
       (record { watchers = any_watchers master.watchers; streams = any_streams master.streams }) (comes_from input) tt).outs
 
-back_other : (home : BackNode) (input : NodeInput) → as_front (Some (back_takes home input).state) ≡ None
+pub back_other : (home : BackNode) (input : NodeInput) → as_front (Some (back_takes home input).state) ≡ None
 unfolding as_front back_takes
 back_other home (Opened conn) = refl
 back_other home (Piece conn bytes) = refl
 back_other home (Hung conn) = refl
 back_other home (From name message) = refl
 
-master_other : (master : Master) (input : NodeInput) → as_front (Some (master_takes master input).state) ≡ None
+pub master_other : (master : Master) (input : NodeInput) → as_front (Some (master_takes master input).state) ≡ None
 unfolding as_front master_takes
 master_other master (Opened conn) = refl
 master_other master (Piece conn bytes) = refl

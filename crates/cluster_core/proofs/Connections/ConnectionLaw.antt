@@ -1,6 +1,8 @@
 -- What holds of a connection: what its client was told is a front of what the one store replied, and at most one command waits,
 -- in one place.
-use Rattle.std.proofs.Common.{◌≡◌, ◌≢◌, ℕ, Bool, true, false, nat_eq, List, [], ◌++◌, length, Option, Some, refl, ◌∙◌, arith}
+use Rattle.std.proofs.Common.{◌≡◌, ◌≢◌, ℕ, ◌≤◌, Bool, true, false, nat_eq, List, [], ◌++◌, length, Option, Some, refl, sym, ◌∙◌, ap, subst, arith}
+use Rattle.std.proofs.Math.Logic.{⊎_elim}
+use Rattle.std.proofs.lemmas.Bool.{cases_eq}
 use Rattle.std.proofs.lemmas.Bool.Decides.{nat_tests}
 use Rattle.feed_core.specs.declared.replica.Replica.{Replica}
 use Rattle.front_core.specs.declared.connection.Connection.{Connection}
@@ -92,6 +94,8 @@ keeps_on fixed conn one two three first second = record {
 pub record GoesOnAt (conn : ℕ) (story next : Tale) : Type 0 where
   pub requests : next.talk.requests ≡ story.talk.requests
   pub said : (other : ℕ) → other ≢ conn → next.talk.answers other ≡ story.talk.answers other
+  -- no reply of the one store is taken back
+  pub grows : length (story.talk.answers conn) ≤ length (next.talk.answers conn)
   pub told : (other : ℕ) → other ≢ conn → next.told other ≡ story.told other
   pub sessions : (other : ℕ) → other ≢ conn → next.course.sessions other ≡ story.course.sessions other
   pub more : TalkGoesOn (talk_told story) (talk_told next)
@@ -100,6 +104,7 @@ pub same_story : (conn : ℕ) (story : Tale) → GoesOnAt conn story story
 same_story conn story = record {
   requests = refl;
   said = λ other ne. refl;
+  grows = omega arith;
   told = λ other ne. refl;
   sessions = λ other ne. refl;
   more = same_talk (talk_told story);
@@ -109,10 +114,27 @@ pub stories_follow : (conn : ℕ) (one two three : Tale) → GoesOnAt conn one t
 stories_follow conn one two three first second = record {
   requests = second.requests ∙ first.requests;
   said = λ other ne. second.said other ne ∙ first.said other ne;
+  grows = omega (arith, first.grows, second.grows);
   told = λ other ne. second.told other ne ∙ first.told other ne;
   sessions = λ other ne. second.sessions other ne ∙ first.sessions other ne;
   more = talks_follow (talk_told one) (talk_told two) (talk_told three) first.more second.more;
 }
+
+-- to no connection did the one store reply less
+abbrev pub SaysOn : Tale → Tale → Type 0
+SaysOn story next = (conn : ℕ) → length (story.talk.answers conn) ≤ length (next.talk.answers conn)
+
+pub says_same : (story : Tale) → SaysOn story story
+says_same story conn = omega arith
+
+pub says_then : (one two three : Tale) → SaysOn one two → SaysOn two three → SaysOn one three
+says_then one two three first second conn = omega (arith, first conn, second conn)
+
+pub says_on : (conn : ℕ) (story next : Tale) → GoesOnAt conn story next → SaysOn story next
+says_on conn story next on other = ⊎_elim
+    (λ (same : other ≡ conn). subst (λ c. length (story.talk.answers c) ≤ length (next.talk.answers c)) (sym same) on.grows)
+    (λ (ne : other ≢ conn). omega (arith, ap length (on.said other ne)))
+    (cases_eq other conn)
 
 abbrev pub client_with : List ℕ → List Input → List Answer → Client
 client_with front inputs told = record { at = front; given = greeting ++ replies_to inputs told }

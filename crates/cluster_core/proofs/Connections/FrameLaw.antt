@@ -49,7 +49,7 @@ use Rattle.mark_history.specs.Marked.{Tale}
 use Rattle.mur_base.specs.declared.point.AskId.{AskId}
 use Rattle.mur_base.proofs.MapLaws.{numbers_apart, value_at-with_value}
 use Rattle.mur_model.specs.Act.{need_of}
-use Rattle.mur_model.specs.Answer.{Answered, MayTake}
+use Rattle.mur_model.specs.Answer.{Answered, NeedsNoStore}
 use Rattle.mur_model.specs.Asking.{asked_for}
 use Rattle.mur_model.specs.History.{numbered}
 use Rattle.mur_model.specs.Needed.{Mailbox, Names, Work}
@@ -57,7 +57,6 @@ use Rattle.mur_model.specs.declared.commands.list.Listing.{Listing}
 use Rattle.mur_model.specs.declared.session.Sess.{Sess}
 use Rattle.mur_model.specs.declared.session.Sess.TheVariants.{Ended as session_ended}
 use Rattle.mur_model.specs.declared.setting.Setting.{Setting}
-use Rattle.mur_model.specs.declared.store.Store.{Store}
 use Rattle.point_links.specs.Commands.{ClientCommand}
 use Rattle.route_links.specs.Answered.{IsNumbered, noop_of}
 use Rattle.route_links.specs.Barriers.{Place as barrier}
@@ -95,13 +94,13 @@ module _ (fixed : Fixed) (front : List ℕ) (replica : Replica) (conn : ℕ) whe
       (request : Request) (tag : Tag) (reply : Reply) (session : Sess) (was : ReadsOn fixed front replica conn inputs connection before told world)
       → numbered (was.story.talk.requests conn) (length (was.story.told conn) + 1) ≡ Some request
       → IsAnsweredSo fixed.setting (was.story.course.sessions conn) request tag reply session
-      → ((store : Store) → MayTake fixed.setting store (was.story.course.sessions conn) request 0)
+      → NeedsNoStore fixed.setting (was.story.course.sessions conn) request
       → ends reply ≡ false → has_ended session ≡ false
       → ((answer : Answer) → ends answer.reply ≡ false → Grows inputs next (was.story.told conn) (was.story.told conn ++ answer ∷ []) (answer_text answer))
       → ReadsOn fixed front replica conn next (answers_now conn connection session tag reply).connection before told
       (carry_all front world (answers_now conn connection session tag reply).outs)
   unfolding answers_now
-  answered_here inputs next connection before told world request tag reply session was number is free stays lasts grows =
+  answered_here inputs next connection before told world request tag reply session was number is alone stays lasts grows =
       let story = was.story in
       let answer : Answer = record { tag = tag; reply = reply } in
       let client : Client = client_with front inputs (story.told conn) in
@@ -114,7 +113,7 @@ module _ (fixed : Fixed) (front : List ℕ) (replica : Replica) (conn : ℕ) whe
       subst (λ w. ReadsOn fixed front replica conn next (answers_now conn connection session tag reply).connection before told w) (sym world_is)
       (record {
         story = now;
-        made = said_made fixed front replica conn inputs connection before told world request tag reply session text was number is free;
+        made = said_made fixed front replica conn inputs connection before told world request tag reply session text was number is alone;
         reading = record {
           stage_is = was.reading.stage_is;
           waiting_is = was.reading.waiting_is;
@@ -137,12 +136,12 @@ module _ (fixed : Fixed) (front : List ℕ) (replica : Replica) (conn : ℕ) whe
       (request : Request) (tag : Tag) (reply : Reply) (was : ReadsOn fixed front replica conn inputs connection before told world)
       → numbered (was.story.talk.requests conn) (length (was.story.told conn) + 1) ≡ Some request
       → IsAnsweredSo fixed.setting (was.story.course.sessions conn) request tag reply session_ended
-      → ((store : Store) → MayTake fixed.setting store (was.story.course.sessions conn) request 0)
+      → NeedsNoStore fixed.setting (was.story.course.sessions conn) request
       → ends reply ≡ true
       → StandsOn fixed front replica conn (inputs ++ Asks request ∷ more) held (last_of conn connection tag reply).connection before told
       (carry_all front world (last_of conn connection tag reply).outs)
   unfolding answers_last
-  last_here inputs more held connection before told world request tag reply was number is free is_end =
+  last_here inputs more held connection before told world request tag reply was number is alone is_end =
       let story = was.story in
       let answer : Answer = record { tag = tag; reply = reply } in
       let client : Client = client_with front inputs (story.told conn) in
@@ -154,7 +153,7 @@ module _ (fixed : Fixed) (front : List ℕ) (replica : Replica) (conn : ℕ) whe
       subst (λ w. StandsOn fixed front replica conn next held (last_of conn connection tag reply).connection before told w) (sym world_is)
       (record {
         story = now;
-        made = said_made fixed front replica conn inputs connection before told world request tag reply session_ended text was number is free;
+        made = said_made fixed front replica conn inputs connection before told world request tag reply session_ended text was number is alone;
         standing = record {
           count = ap (λ n. n + 1) was.reading.count ∙ sym (counted_one fixed.setting story conn request tag reply session_ended is);
           client = value_at-with_value nat_cmp numbers_apart world.clients conn (record client { given = client.given ++ text }) client was.reading.client
@@ -542,14 +541,14 @@ module _ (fixed : Fixed) (front : List ℕ) (replica : Replica) (conn : ℕ) whe
       → StandsOn fixed front replica conn (inputs ++ Asks request ∷ new) held (come connection (Asks request ∷ new)).connection before told
       (carry_all front world (come connection (Asks request ∷ new)).outs)
   unfolding input_in requests_in carry_all
-  request_kept inputs new request held connection before told world was sends last all follow (here tag reply session is free stays lasts form) =
+  request_kept inputs new request held connection before told world was sends last all follow (here tag reply session is alone stays lasts form) =
       read_on inputs new (Asks request) held connection before told world (answers_now conn connection session tag reply)
       (reads_input fixed.setting (ways_for fixed replica) conn connection (Asks request) was.reading.stage_is ∙ form connection was.reading.session_is)
       all follow
       (answered_here fixed front replica conn inputs (inputs ++ Asks request ∷ []) connection before told world request tag reply session was
-      (next_of inputs new (Asks request) connection before told world request was all refl) is free stays lasts
+      (next_of inputs new (Asks request) connection before told world request was all refl) is alone stays lasts
       (λ answer on. request_answered inputs (was.story.told conn) request answer was.reading.answered on))
-  request_kept inputs new request held connection before told world was sends last all follow (finishes tag it reply command is free is_end form) =
+  request_kept inputs new request held connection before told world was sends last all follow (finishes tag it reply command is alone is_end form) =
       let turned : Turned = last_of conn connection tag reply in
       came_on (inputs ++ Asks request ∷ new) held connection before told world (Asks request) new turned
       (reads_input fixed.setting (ways_for fixed replica) conn connection (Asks request) was.reading.stage_is ∙ form connection was.reading.session_is)
@@ -557,7 +556,7 @@ module _ (fixed : Fixed) (front : List ℕ) (replica : Replica) (conn : ℕ) whe
       (carry_all front (carry_all front world turned.outs) t.outs))
       (sym (last_turned fixed.setting (ways_for fixed replica) conn (record connection { session = session_ended }) tag reply new))
       (last_here fixed front replica conn inputs new held connection before told world request tag reply was
-      (next_of inputs new (Asks request) connection before told world request was all refl) is free is_end))
+      (next_of inputs new (Asks request) connection before told world request was all refl) is alone is_end))
   request_kept inputs new request held connection before told world was sends last all follow (asked tag it name work is need form) =
       let begun : Begun = begun_at fixed front replica conn connection name work in
       sent_kept inputs new request held connection before told world (Waits tag begun.waiting) (to_node begun.sent.to begun.sent.message ∷ []) was tt

@@ -46,7 +46,7 @@ use Rattle.cluster_core.proofs.Commands.Released.{begun_released, released_count
 use Rattle.cluster_core.proofs.Commands.Standing.{Fixed, HasBegunSo, Stands, next_id}
 use Rattle.cluster_core.proofs.Commands.Standing.Stands.{reads, waits, lists, faulted, finished}
 use Rattle.cluster_core.proofs.Connections.BytesCome.{Behind, after_data, asked_more, asked_tale, closed_heard, elsewhere_heard, heard_more, held_noops, listing_behind, new, nothing_heard, other_heard, reading_behind, reading_noops, still_heard, turned, waiting_behind, ways_same}
-use Rattle.cluster_core.proofs.Connections.ConnectionLaw.{IsInPlaceOf, IsReading, IsStanding}
+use Rattle.cluster_core.proofs.Connections.ConnectionLaw.{IsInPlaceOf, IsReading, IsStanding, says_same, says_then}
 use Rattle.cluster_core.proofs.Connections.KeepsFront.{front_keeps, is_at_after, standing_after, turned_so, with_connection, world_after}
 use Rattle.cluster_core.proofs.Connections.KeepsLaw.{ConnectionIs, FeedsHold, IsAt, KeepsLaw, KeepsOn, fixed_of}
 use Rattle.cluster_core.proofs.Connections.KeepsLaw.ConnectionIs.{is_nobody, is_elsewhere, is_open, is_closed}
@@ -221,6 +221,7 @@ module _ (config : Config) (heard : ℕ → Heard) (world : World) (law : KeepsL
       serials = same_lists law.story.talk.serials;
       moving = refl;
     };
+    grows = says_same law.story;
     closed = λ other shut. refl;
   }
     where
@@ -244,6 +245,7 @@ module _ (config : Config) (heard : ℕ → Heard) (world : World) (law : KeepsL
       (record {
         law = put.law;
         more = talks_follow (talk_told law.story) (talk_told on.law.story) (talk_told put.law.story) on.more put.more;
+        grows = says_then law.story on.law.story put.law.story on.grows put.grows;
         closed = λ other shut. put.closed other shut ∙ on.closed other shut;
       })
 

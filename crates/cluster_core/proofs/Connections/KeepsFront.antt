@@ -1,5 +1,5 @@
 -- A step of one connection at its frontend keeps the law.
-use Rattle.std.proofs.Common.{◌≡◌, ◌≢◌, ℕ, true, List, [], ◌∷◌, Option, None, Some, refl, sym, ◌∙◌, ap, subst}
+use Rattle.std.proofs.Common.{◌≡◌, ◌≢◌, ℕ, ◌≤◌, true, List, [], ◌∷◌, length, Option, None, Some, refl, sym, ◌∙◌, ap, subst}
 use Rattle.std.specs.Ordering.{nat_cmp}
 use Rattle.std.specs.Cmp.Lexicographic.{slice_cmp}
 use Rattle.std.proofs.Math.Logic.{⊎_elim}
@@ -33,7 +33,7 @@ use Rattle.cluster_core.specs.declared.world.Client.{Client}
 use Rattle.cluster_core.specs.declared.world.World.{World}
 use Rattle.std.proofs.lemmas.Option.{same_Some}
 use Rattle.cluster_core.proofs.Commands.Standing.{Fixed, next_id}
-use Rattle.cluster_core.proofs.Connections.ConnectionLaw.{IsMade, IsStanding, MarksStay, PlacesStay}
+use Rattle.cluster_core.proofs.Connections.ConnectionLaw.{IsMade, IsStanding, MarksStay, PlacesStay, says_on}
 use Rattle.cluster_core.proofs.Connections.KeepsLaw.{ConnectionIs, FeedsHold, IsAt, IsGone, KeepsLaw, KeepsOn, fixed_of, murder_of}
 use Rattle.cluster_core.proofs.Connections.Stays.{ReplicasStay, SameFront, fixed_places, marked_stays, same_front, each_stays}
 use Rattle.cluster_core.proofs.Connections.Stays.SameFront.{both}
@@ -192,6 +192,8 @@ front_keeps config heard after origin law links conn node front was connection o
             })) refl mine;
       };
       more = talks_follow (talk_told law.story) (talk_told told) (talk_told story) more made.goes_on.more;
+      grows = subst (λ (a : ℕ → List Answer). (other : ℕ) → length (a other) ≤ length (story.talk.answers other)) same_said
+          (says_on conn told story made.goes_on);
       closed = λ other shut. ⊎_elim
           (λ (same : other ≡ conn). subst (λ c. story.told c ≡ law.story.told c) (sym same) (no_more (subst (λ c. has_closed (after c) ≡ true) same shut)))
           (λ (ne : other ≢ conn). made.goes_on.told other ne ∙ ap (λ (t : ℕ → List Answer). t other) same_told)

@@ -40,7 +40,7 @@ use Rattle.cluster_core.specs.Heard.{is_frontend}
 use Rattle.cluster_core.specs.World.{backends_of, home_of, master_of, setting_of, client_at, front_at, home_at, master_at}
 use Rattle.cluster_core.proofs.Commands.Place.{Place}
 use Rattle.cluster_core.proofs.Commands.Standing.{Fixed, HasBegunSo, IsLeft, next_id}
-use Rattle.cluster_core.proofs.Connections.ConnectionLaw.{IsInNoneOf, IsInPlaceOf, IsMarkedAt, IsStanding, client_with}
+use Rattle.cluster_core.proofs.Connections.ConnectionLaw.{IsInNoneOf, IsInPlaceOf, IsMarkedAt, IsStanding, SaysOn, client_with}
 
 -- ---- connections
 
@@ -164,8 +164,9 @@ pub record KeepsLaw (config : Config) (heard : ℕ → Heard) (world : World) : 
   pub requests : (conn : ℕ) → story.talk.requests conn ≡ requests_of (setting_of config) (frames_heard (heard conn))
   pub connections : (conn : ℕ) → ConnectionIs (fixed_of config) conn world story (heard conn)
 
--- so it does behind a world with this tale; a client that has closed its connection was told no more
+-- so it does behind a world with this tale; the one store took no reply back, and a client that has closed its connection was told no more
 pub record KeepsOn (config : Config) (before : Tale) (heard : ℕ → Heard) (world : World) : Type 0 where
   pub law : KeepsLaw config heard world
   pub more : TalkGoesOn (talk_told before) (talk_told law.story)
+  pub grows : SaysOn before law.story
   pub closed : (conn : ℕ) → has_closed (heard conn) ≡ true → law.story.told conn ≡ before.told conn

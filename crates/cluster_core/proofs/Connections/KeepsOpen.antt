@@ -41,7 +41,7 @@ use Rattle.std.proofs.lemmas.Option.{same_Some}
 use Rattle.cluster_core.proofs.Commands.Place.{Place as place}
 use Rattle.cluster_core.proofs.Commands.Standing.{Fixed}
 use Rattle.cluster_core.proofs.Commands.Standing.Stands.{reads}
-use Rattle.cluster_core.proofs.Connections.ConnectionLaw.{PlacesStay}
+use Rattle.cluster_core.proofs.Connections.ConnectionLaw.{PlacesStay, says_same, says_then}
 use Rattle.cluster_core.proofs.Connections.KeepsFront.{fronts_at_other, replicas_stay}
 use Rattle.cluster_core.proofs.Connections.KeepsLaw.{AreNodesOf, ConnectionIs, IsUntold, KeepsLaw, KeepsOn, fixed_of, murder_of}
 use Rattle.cluster_core.proofs.Connections.KeepsLaw.ConnectionIs.{is_nobody, is_elsewhere, is_open, is_closed}
@@ -167,6 +167,7 @@ joined_keeps config heard world node conn law none first =
             }));
       };
       more = same_talk (talk_told law.story);
+      grows = says_same law.story;
       closed = λ other shut. refl;
     }
 
@@ -181,6 +182,7 @@ elsewhere_keeps config heard world node conn law serves none first =
     record {
       law = then.law;
       more = talks_follow (talk_told law.story) (talk_told joined.law.story) (talk_told then.law.story) joined.more then.more;
+      grows = says_then law.story joined.law.story then.law.story joined.grows then.grows;
       closed = λ other shut. then.closed other shut ∙ joined.closed other shut;
     }
 
@@ -288,6 +290,7 @@ front_keeps_open config heard world node conn front law at first =
             }));
       };
       more = same_talk (talk_told law.story);
+      grows = says_same law.story;
       closed = λ other shut. refl;
     }
 

@@ -1,5 +1,5 @@
 -- A frontend answers a request of a connection by itself: the client is given the reply, and it is that of the one store.
-use Rattle.std.proofs.Common.{◌≡◌, ℕ, ◌+◌, List, [], ◌∷◌, ◌++◌, length, Some, refl, sym, ◌∙◌, ap, subst, length-append}
+use Rattle.std.proofs.Common.{◌≡◌, ℕ, ◌+◌, List, [], ◌∷◌, ◌++◌, length, Some, refl, sym, ◌∙◌, ap, subst, arith, length-append}
 use Rattle.std.specs.Ordering.{nat_cmp}
 use Rattle.front_core.specs.declared.connection.Connection.{Connection}
 use Rattle.feed_core.specs.declared.replica.Replica.{Replica}
@@ -7,6 +7,7 @@ use Rattle.imap_talk.specs.declared.inputs.Input.{Input}
 use Rattle.imap_types.specs.declared.command.Tag.{Tag}
 use Rattle.imap_types.specs.declared.reply.Reply.{Reply}
 use Rattle.imap_types.specs.declared.request.Request.{Request}
+use Rattle.imap_types.specs.declared.request.Request.TheVariants.{Command as a_command, Unknown as unknown, TooBig as too_big}
 use Rattle.link_msg.specs.declared.how.How.{How}
 use Rattle.link_msg.specs.declared.how.How.TheVariants.{Here}
 use Rattle.link_msg.specs.declared.out.Out.{Out}
@@ -18,8 +19,10 @@ use Rattle.mark_history.proofs.TakenBack.{list_at, list_elsewhere}
 use Rattle.mur_base.specs.Map.{with_value}
 use Rattle.mur_base.specs.declared.point.AskId.{AskId}
 use Rattle.mur_base.proofs.MapLaws.{numbers_apart, value_at-with_value-other}
-use Rattle.mur_model.specs.Answer.{Answered, MayTake, answer_of}
+use Rattle.mur_model.specs.Act.{MayAct, need_of}
+use Rattle.mur_model.specs.Answer.{Answered, MayTake, NeedsNoStore, answer_of}
 use Rattle.mur_model.specs.History.{numbered}
+use Rattle.mur_model.specs.Needed.{Mailbox, Names, Needed, NeedsNothing, Refusal, Turned}
 use Rattle.mur_model.specs.declared.session.Sess.{Sess}
 use Rattle.mur_model.specs.declared.setting.Setting.{Setting}
 use Rattle.mur_model.specs.declared.store.Store.{Store}
@@ -98,10 +101,17 @@ marked_keeps fixed conn world ask how its = record {
 abbrev pub said_tale : Setting → Tale → ℕ → Request → Tale
 said_tale setting tale conn request = telling (acting setting tale conn request 0) conn (done setting tale conn request 0).answer
 
-pub said_goes_on : (setting : Setting) (story : Tale) (conn : ℕ) (request : Request) → GoesOnAt conn story (said_tale setting story conn request)
-said_goes_on setting story conn request = record {
+pub said_goes_on : (setting : Setting) (story : Tale) (conn : ℕ) (request : Request) → story.talk.answers conn ≡ story.told conn
+    → GoesOnAt conn story (said_tale setting story conn request)
+said_goes_on setting story conn request unreplied = record {
   requests = refl;
   said = λ other ne. list_elsewhere story.talk.answers conn _ other ne;
+  grows = omega (
+    arith,
+    ap length unreplied,
+    ap length (list_at story.talk.answers conn (story.told conn ++ (done setting story conn request 0).answer ∷ [])),
+    length-append (story.told conn) ((done setting story conn request 0).answer ∷ []),
+  );
   told = λ other ne. list_elsewhere story.told conn _ other ne;
   sessions = λ other ne. session_of_other story.course.sessions conn _ other ne;
   more = record {
@@ -128,31 +138,50 @@ module _ (setting : Setting) (story : Tale) (conn : ℕ) (request : Request) (ta
   pub counted_one : length ((said_tale setting story conn request).told conn) ≡ length (story.told conn) + 1
   counted_one = ap length told_one ∙ length-append (story.told conn) ((record { tag = tag; reply = reply }) ∷ [])
 
+-- what needs nothing of the store may be taken
+may_act : (store : Store) (serial : ℕ) (need : Needed) → NeedsNothing need → MayAct store serial need
+unfolding MayAct NeedsNothing
+may_act store serial (Refusal verdict) alone = tt
+may_act store serial (Turned turn) alone = tt
+may_act store serial (Mailbox name work) alone = absurd alone
+may_act store serial (Names it) alone = absurd alone
+
+may_take : (setting : Setting) (store : Store) (session : Sess) (request : Request) (serial : ℕ) → NeedsNoStore setting session request
+    → MayTake setting store session request serial
+unfolding MayTake NeedsNoStore
+may_take setting store session (a_command tag it) serial alone = may_act store serial (need_of setting session it) alone
+may_take setting store session (unknown tag) serial alone = tt
+may_take setting store session (too_big tag) serial alone = tt
+
 -- one answer more is that of the one store
 pub said_made : (fixed : Fixed) (front : List ℕ) (replica : Replica) (conn : ℕ) (inputs : List Input) (connection : Connection) (before : World)
     (told : Tale) (world : World) (request : Request) (tag : Tag) (reply : Reply) (session : Sess) (text : List ℕ)
     (was : ReadsOn fixed front replica conn inputs connection before told world)
     → numbered (was.story.talk.requests conn) (length (was.story.told conn) + 1) ≡ Some request
     → IsAnsweredSo fixed.setting (was.story.course.sessions conn) request tag reply session
-    → ((store : Store) → MayTake fixed.setting store (was.story.course.sessions conn) request 0)
+    → NeedsNoStore fixed.setting (was.story.course.sessions conn) request
     → IsMade fixed conn before told
     (marked_world (given_world world conn (client_with front inputs (was.story.told conn)) text) (record { conn = conn; command = connection.answered + 1 }) Here)
     (said_tale fixed.setting was.story conn request)
-said_made fixed front replica conn inputs connection before told world request tag reply session text was number is free =
+said_made fixed front replica conn inputs connection before told world request tag reply session text was number is alone =
     let story = was.story in
     let client : Client = client_with front inputs (story.told conn) in
     let given : World = given_world world conn client text in
     let ask : AskId = record { conn = conn; command = connection.answered + 1 } in
     let after_world : World = marked_world given ask Here in
     let now : Tale = said_tale fixed.setting story conn request in
-    let can : CanAct fixed.setting story conn request 0 = record { unreplied = was.reading.said; asked = number; free = free story.course.store } in
+    let can : CanAct fixed.setting story conn request 0 = record {
+      unreplied = was.reading.said;
+      asked = number;
+      free = may_take fixed.setting story.course.store (story.course.sessions conn) request 0 alone;
+    } in
     record {
       others = keeps_on fixed conn before world after_world was.made.others
           (keeps_on fixed conn world given after_world (given_keeps fixed world conn client text) (marked_keeps fixed conn given ask Here refl));
-      goes_on = stories_follow conn told story now was.made.goes_on (said_goes_on fixed.setting story conn request);
+      goes_on = stories_follow conn told story now was.made.goes_on (said_goes_on fixed.setting story conn request was.reading.said);
       store = ap (λ (a : Answered). a.store) (is story.course.store) ∙ was.made.store;
       is_told = subst (λ n. AreMarked fixed.setting world.steps
           (world.marks ++ (record { step = world.steps; ask = record { conn = conn; command = n + 1 }; kind = Told Here }) ∷ []) now)
           (sym was.reading.count)
-          (tells_at_once world.steps world.marks story conn request 0 can was.made.is_told);
+          (tells_at_once world.steps world.marks story conn request 0 can alone was.made.is_told);
     }

@@ -54,6 +54,7 @@ module _ (config : Config) (heard : ℕ → Heard) (world : World) (law : KeepsL
       connections = step.connections;
     };
     more = step.more;
+    grows = step.grows;
     closed = λ conn shut. ap (λ (t : ℕ → List Answer). t conn) step.told;
   }
 

@@ -41,11 +41,11 @@ pub record KeepsAll (config : Config) (steps : List Event) : Type 0 where
   pub at : (before later : List Event) → steps ≡ before ++ later → IsKeptAt config steps talk before
 
 -- what holds behind these steps, and behind each that follows
-at_the_end : (P : List Event → Type 0) (before : List Event) → P before → (front back : List Event) → [] ≡ front ++ back → P (before ++ front)
+pub at_the_end : (P : List Event → Type 0) (before : List Event) → P before → (front back : List Event) → [] ≡ front ++ back → P (before ++ front)
 at_the_end P before is [] back e = subst P (sym (append-nil before)) is
 at_the_end P before is (event ∷ front) back e = cc
 
-at_an_event : (P : List Event → Type 0) (before : List Event) (event : Event) (rest : List Event) → P before
+pub at_an_event : (P : List Event → Type 0) (before : List Event) (event : Event) (rest : List Event) → P before
     → ((front back : List Event) → rest ≡ front ++ back → P ((before ++ event ∷ []) ++ front))
     → (front back : List Event) → event ∷ rest ≡ front ++ back → P (before ++ front)
 at_an_event P before event rest is later [] back e = subst P (sym (append-nil before)) is

@@ -65,7 +65,7 @@ or_true : (one other : Bool) → other ≡ true → (one || other) ≡ true
 or_true true other e = refl
 or_true false other e = e
 
-last_ends : (before : List Answer) (last : Answer) → ends last.reply ≡ true
+pub last_ends : (before : List Answer) (last : Answer) → ends last.reply ≡ true
     → list_any (λ (answer : Answer). ends answer.reply) (before ++ last ∷ []) ≡ true
 last_ends [] last e = ap (λ t. t || false) e
 last_ends (answer ∷ before) last e = or_true (ends answer.reply) _ (last_ends before last e)

@@ -44,7 +44,7 @@ use Rattle.schedule_text.specs.declared.event.Event.{Event}
 use Rattle.schedule_text.specs.declared.event.Event.TheVariants.{Open, Data, Hang, Deliver, Cut, Join, Crash, Arm, Start, Flow, Heal}
 use Rattle.cluster_core.specs.declared.world.World.{World}
 use Rattle.cluster_core.specs.Flow.{run_steps}
-use Rattle.cluster_core.specs.Headline.Serials.{is_reserve, reserves_from, reserves_in, reserves_taken}
+use Rattle.cluster_core.specs.Headline.Serials.{is_reserve, last_serial, reserves_from, reserves_in, reserves_taken}
 use Rattle.cluster_core.proofs.Starts.Ups.{one_if}
 use Rattle.cluster_core.proofs.Guests.AtMaster.{comes_so, happening_by}
 use Rattle.cluster_core.proofs.Guests.TablesStay.{step_tables}
@@ -90,7 +90,7 @@ module _ (table : MailboxTable) where
   reply_rises from tag command.Noop = omega arith
   reply_rises from tag command.Logout = omega arith
 
-settled_entry : (planned : Planned) (from : Sender) (tag : Tag) (step : StreamStep) → (settled planned from tag step).entry ≡ planned.entry
+pub settled_entry : (planned : Planned) (from : Sender) (tag : Tag) (step : StreamStep) → (settled planned from tag step).entry ≡ planned.entry
 unfolding settled
 settled_entry planned from tag stream.Stays = refl
 settled_entry planned from tag stream.Begins = refl
@@ -135,7 +135,7 @@ change_rises master (sends node End) = omega arith
 change_rises master (sends node (Ask ask)) = omega arith
 change_rises master (sends node (Answer answer)) = omega arith
 
-step_rises : (master : Master) (happening : Happening)
+pub step_rises : (master : Master) (happening : Happening)
     → (step_of master happening).master.table.serial ≤ master.table.serial + reserves_in (Some happening)
 step_rises master happening =
     subst (λ (t : MailboxTable). t.serial ≤ master.table.serial + reserves_in (Some happening)) (sym (changes_are_of_the_table master happening))
@@ -143,12 +143,9 @@ step_rises master happening =
 
 -- ---- a step of the world
 
-abbrev serial_of : Config → World → ℕ
-serial_of config world = (table_at world (master_of config)).serial
-
 module _ (config : Config) (here : is_master config (master_of config) ≡ true) where
   abbrev Rises : World → World → Option Happening → Type 0
-  Rises world next happening = serial_of config next ≤ serial_of config world + reserves_in happening
+  Rises world next happening = last_serial config next ≤ last_serial config world + reserves_in happening
 
   same_rises : (world next : World) (happening : Option Happening) → table_at next (master_of config) ≡ table_at world (master_of config)
       → Rises world next happening
@@ -217,7 +214,7 @@ module _ (config : Config) (here : is_master config (master_of config) ≡ true)
   event_rises world Heal whole = omega arith
 
   steps_rise : (world : World) (steps : List Event) → HoldsAlways world
-      → serial_of config (run_steps world steps) ≤ serial_of config world + reserves_from config world steps
+      → last_serial config (run_steps world steps) ≤ last_serial config world + reserves_from config world steps
   unfolding run_steps reserves_from
   steps_rise world [] holds = omega arith
   steps_rise world (event ∷ steps) holds =
@@ -237,7 +234,7 @@ serial_is_low config are steps =
 pub serials_are_low : (config : Config) → AreNodes config.nodes → (steps : List Event) → (law : LawBehind config steps)
     → All (λ (pair : Pair). pair.serial ≤ reserves_taken config steps) law.story.course.store.given
 serials_are_low config are steps law =
-    let is : serial_of config (run_steps (start config) steps) ≡ law.master.table.serial =
+    let is : last_serial config (run_steps (start config) steps) ≡ law.master.table.serial =
     ap (λ (m : Option Master). (table_by m).serial) law.nodes.is_there in
     All-weaker (λ (pair : Pair). pair.serial ≤ law.master.table.serial) (λ (pair : Pair). pair.serial ≤ reserves_taken config steps)
     (λ pair low. omega (arith, low, is, serial_is_low config are steps)) law.story.course.store.given

@@ -1,5 +1,5 @@
 -- What is told at every step of a run.
-use Rattle.std.proofs.Common.{◌≡◌, ℕ, ◌≤◌, false, List, [], ◌++◌, refl, sym, ◌∙◌, ap, subst, append_assoc}
+use Rattle.std.proofs.Common.{◌≡◌, ℕ, Bool, ◌≤◌, false, List, [], ◌++◌, length, refl, sym, ◌∙◌, ap, subst, append_assoc}
 use Rattle.std.specs.Prelude.{All, IfSome}
 use Rattle.std.proofs.lemmas.List.{append-nil}
 use Rattle.imap_command.specs.Ruled.{IsDate}
@@ -52,7 +52,9 @@ use Rattle.cluster_core.proofs.OneServer.HistoryLaw.{history_is, stands_in_time}
 use Rattle.cluster_core.proofs.OneServer.MarksGoOn.{run_goes_on, steps_made}
 use Rattle.cluster_core.proofs.Runs.Unrolled.{run_steps-append}
 use Rattle.cluster_core.proofs.OneServer.SaysOf.{IsSilent, SaysOf, says_of}
+use Rattle.cluster_core.proofs.OneServer.WaitsLaw.{next_waits}
 use Rattle.cluster_core.proofs.OneServer.MovingLaw.{moves_behind}
+use Rattle.mark_history.specs.Reached.{IsReached}
 use Rattle.mark_history.proofs.Reached.{all_reached}
 use Rattle.cluster_core.proofs.OneServer.SerialsRise.{serials_are_low}
 use Rattle.cluster_core.proofs.OneServer.ShownHomes.{shows_boxes}
@@ -66,6 +68,10 @@ OthersAreSilent config steps = (conn : ℕ) → is_guest (guest_of config conn s
 -- the law held behind each front of some steps of a run in which this will have been said
 abbrev KeepsEarlier : Config → List Event → Talk → List Event → Type 0
 KeepsEarlier config all talk steps = (before later : List Event) → steps ≡ before ++ later → IsKeptAt config all talk before
+
+reached_in : (world : World) → All IsReached (history_of world)
+unfolding history_of
+reached_in world = all_reached world.marks
 
 -- behind some steps of a run that ends so
 told_so_far : (config : Config) (steps : List Event) (talk : Talk) (before later : List Event) → AreNodes config.nodes → IsDate config.date
@@ -102,7 +108,7 @@ told_so_far config steps talk before later are date_is silent earlier fits now l
       ends_only_last = λ conn. (says conn).lasts;
       last = legal.last;
       legal = legal.legal;
-      reached = all_reached world.marks;
+      reached = reached_in world;
       refusals = have_causes (law_setting config) first_course (talk_told law.story) (history_of world) legal.last legal.legal;
       one_content = subst (λ (s : Store). HasBoxesOf config s world) (sym legal.same_store) (has_boxes config came world law);
       rights = subst (λ (s : Store). HasItsRights config s world) (sym legal.same_store) (has_rights config came world law);
@@ -128,6 +134,8 @@ told_so_far config steps talk before later are date_is silent earlier fits now l
       counted = steps_made config before;
       nothing_waits = λ empty conn stays.
           subst (λ r. IsAnsweredThrough r (law.story.told conn)) (sym (law.requests conn)) ((says conn).waits_not empty stays);
+      next_waits = λ conn stays unanswered. next_waits config came world law conn stays
+          (λ through. unanswered (subst (λ r. IsAnsweredThrough r (law.story.told conn)) (sym (law.requests conn)) through));
     }
 
 told_at : (config : Config) (talk : Talk) (steps before later : List Event) → steps ≡ before ++ later → AreNodes config.nodes → IsDate config.date

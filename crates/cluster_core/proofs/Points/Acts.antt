@@ -1,5 +1,5 @@
 -- What a step does for a command that has no reply: it carries it out, sees it, or leaves it; and what its new place tells then.
-use Rattle.std.proofs.Common.{◌≡◌, ℕ, ◌+◌, List, [], ◌∷◌, ◌++◌, length, Some, refl, sym, ◌∙◌, ap, subst}
+use Rattle.std.proofs.Common.{◌≡◌, ℕ, ◌+◌, List, [], ◌∷◌, ◌++◌, length, Some, refl, sym, ◌∙◌, ap, subst, arith, length-append}
 use Rattle.imap_talk.proofs.AnswersEnd.{worked_ends}
 use Rattle.imap_types.specs.declared.command.Command.{Command}
 use Rattle.imap_types.specs.declared.command.Tag.{Tag}
@@ -106,10 +106,16 @@ list_more lists conn item = subst (λ (l : ℕ → List ℕ). GoesOn lists l) (m
 
 -- the store replies to the open command of one connection
 pub acting_goes_on : (setting : Setting) (conn : ℕ) (story : Tale) (request : Request) (serial : ℕ)
-    → GoesOnAt conn story (acting setting story conn request serial)
-acting_goes_on setting conn story request serial = record {
+    → story.talk.answers conn ≡ story.told conn → GoesOnAt conn story (acting setting story conn request serial)
+acting_goes_on setting conn story request serial unreplied = record {
   requests = refl;
   said = λ other ne. list_elsewhere story.talk.answers conn (story.told conn ++ (done setting story conn request serial).answer ∷ []) other ne;
+  grows = omega (
+    arith,
+    ap length unreplied,
+    ap length (list_at story.talk.answers conn (story.told conn ++ (done setting story conn request serial).answer ∷ [])),
+    length-append (story.told conn) ((done setting story conn request serial).answer ∷ []),
+  );
   told = λ other ne. refl;
   sessions = λ other ne. session_of_other story.course.sessions conn _ other ne;
   more = record {
@@ -175,7 +181,7 @@ module _ (fixed : Fixed) (front : List ℕ) (conn now : ℕ) (marks : List Mark)
           (λ if_answered. same_store fixed.setting story.course conn tag c.it c.name c.work serial need_is (carries.stays if_answered))
           is_open.is_told);
       store = ap (λ (a : Answered). a.store) out ∙ sym carries.later_is;
-      goes_on = acting_goes_on fixed.setting conn story (a_command tag c.it) serial;
+      goes_on = acting_goes_on fixed.setting conn story (a_command tag c.it) serial is_open.said;
       knows = is_decided turn said_then session_then (worked_ends story.course.store c.name c.work serial) brings;
     }
 

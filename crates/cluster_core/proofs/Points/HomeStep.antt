@@ -26,7 +26,7 @@ use Rattle.mur_model.specs.History.{TalkGoesOn}
 use Rattle.mur_model.proofs.HistoryGrows.{same_talk}
 use Rattle.node_step.specs.declared.node.NodeState.TheVariants as state
 use Rattle.cluster_core.specs.declared.world.World.{World}
-use Rattle.cluster_core.proofs.Connections.ConnectionLaw.{MarksStay}
+use Rattle.cluster_core.proofs.Connections.ConnectionLaw.{MarksStay, SaysOn, says_on, says_same}
 use Rattle.cluster_core.proofs.Connections.KeepsLaw.{ConnectionIs, KeepsLaw, fixed_of, murder_of}
 use Rattle.cluster_core.proofs.Feeds.Many.{home_murder}
 use Rattle.cluster_core.proofs.Nodes.Carried.{IsMade, is_made}
@@ -43,6 +43,7 @@ pub record StepKeeps (config : Config) (heard : ℕ → Heard) (world : World) (
   pub requests : later.talk.requests ≡ law.story.talk.requests
   pub told : later.told ≡ law.story.told
   pub more : TalkGoesOn (talk_told law.story) (talk_told later)
+  pub grows : SaysOn law.story later
   pub is_told : AreMarked (setting_of config) next.steps next.marks later
   pub many : ManyHold (murder_of next law.master) law.given later.course.store
   pub connections : (conn : ℕ) → ConnectionIs (fixed_of config) conn next later (heard conn)
@@ -56,7 +57,7 @@ nobody_asks (Line bytes) e = refl
 nobody_asks (Ask ask) e = cc
 nobody_asks (Answer answer) e = refl
 
-nobody_fits : (message : LinkMsg) → about message ≡ of_nobody → IsFitting message
+pub nobody_fits : (message : LinkMsg) → about message ≡ of_nobody → IsFitting message
 nobody_fits Up e = tt
 nobody_fits End e = tt
 nobody_fits (Line bytes) e = tt
@@ -117,6 +118,7 @@ module _ (config : Config) (heard : ℕ → Heard) (world : World) (law : KeepsL
         requests = step.goes_on.requests;
         told = step.told;
         more = step.goes_on.more;
+        grows = says_on conn story step.later step.goes_on;
         is_told = step.is_told;
         many = step.many;
         connections = λ other. ⊎_elim
@@ -150,6 +152,7 @@ module _ (config : Config) (heard : ℕ → Heard) (world : World) (law : KeepsL
     requests = refl;
     told = refl;
     more = same_talk (talk_told story);
+    grows = says_same story;
     is_told = subst (λ (s : ℕ). AreMarked (setting_of config) s next.marks story) (sym made.steps)
         (subst (λ (m : List Mark). AreMarked (setting_of config) world.steps m story) (sym (none_marked own)) law.is_told);
     many = many_then own;

@@ -199,7 +199,7 @@ module _ (config : Config) (heard : ℕ → Heard) (world : World) (law : KeepsL
       record {
         later = later;
         told = refl;
-        goes_on = acting_goes_on fixed.setting conn story (a_command waits.tag waits.it) 0;
+        goes_on = acting_goes_on fixed.setting conn story (a_command waits.tag waits.it) 0 said;
         is_told = subst (λ (s : ℕ). AreMarked (setting_of config) s next.marks later) (sym made.steps)
             (subst (λ (m : List Mark). AreMarked (setting_of config) world.steps m later) (sym marks_are) done.is_told);
         marks = λ other ne. subst (MarksStay other world.marks) (sym marks_are) (others_marked other world.marks mark (λ e. ne (sym e)));

@@ -43,7 +43,7 @@ use Rattle.cluster_core.specs.declared.world.World.{World}
 use Rattle.cluster_core.proofs.Commands.Moving.{MovesBy}
 use Rattle.cluster_core.proofs.Commands.Place.{Place}
 use Rattle.cluster_core.proofs.Commands.Standing.{Fixed, next_id}
-use Rattle.cluster_core.proofs.Connections.ConnectionLaw.{IsInNoneOf, IsInPlaceOf, MarksStay, client_with}
+use Rattle.cluster_core.proofs.Connections.ConnectionLaw.{IsInNoneOf, IsInPlaceOf, MarksStay, SaysOn, client_with, says_on, says_same}
 use Rattle.cluster_core.proofs.Connections.KeepsLaw.{ConnectionIs, IsAt, KeepsLaw, fixed_of, murder_of}
 use Rattle.cluster_core.proofs.Connections.KeepsLaw.ConnectionIs.{is_nobody, is_elsewhere, is_open, is_closed}
 use Rattle.cluster_core.proofs.Feeds.Many.{master_murder}
@@ -70,6 +70,7 @@ pub record MasterKeeps (config : Config) (heard : ℕ → Heard) (world : World)
   pub requests : later.talk.requests ≡ law.story.talk.requests
   pub told : later.told ≡ law.story.told
   pub more : TalkGoesOn (talk_told law.story) (talk_told later)
+  pub grows : SaysOn law.story later
   pub is_told : AreMarked (setting_of config) next.steps next.marks later
   pub many : ManyHold (murder_of next said.master) given later.course.store
   pub connections : (conn : ℕ) → ConnectionIs (fixed_of config) conn next later (heard conn)
@@ -215,6 +216,7 @@ module _ (config : Config) (heard : ℕ → Heard) (world : World) (law : KeepsL
           requests = step.goes_on.requests;
           told = step.told;
           more = step.goes_on.more;
+          grows = says_on conn story step.later step.goes_on;
           is_told = step.is_told;
           many = step.many;
           connections = λ other. ⊎_elim
@@ -270,6 +272,7 @@ module _ (config : Config) (heard : ℕ → Heard) (world : World) (law : KeepsL
             requests = refl;
             told = refl;
             more = same_talk (talk_told story);
+            grows = says_same story;
             is_told = subst (λ (s : ℕ). AreMarked (setting_of config) s next.marks story) (sym made.steps)
                 (subst (λ (m : List Mark). AreMarked (setting_of config) world.steps m story) (sym none_marked) law.is_told);
             many = keeps.1;

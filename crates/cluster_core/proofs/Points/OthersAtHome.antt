@@ -150,7 +150,7 @@ module _ (config : Config) (heard : ℕ → Heard) (world : World) (law : KeepsL
   after ask flows = tested_move ask (refusal flows node.home.held ask.name ask.kind)
 
   -- the command is where it was, or is tested
-  data StillOrTested (fnode : List ℕ) (front : Front) (here : Place) : Type 0 where
+  pub data StillOrTested (fnode : List ℕ) (front : Front) (here : Place) : Type 0 where
     still : IsInPlaceOf fixed next fnode front.replica its here → StillOrTested fnode front here
     tested : (ask : NameAsk) (flows : Flows) → here ≡ place.is_at me (name_at.waits ask) → flows.up ≡ node.flows.up → from ≡ law.master.me
         → (ask.front ≡ fnode → IsInPlaceOf fixed next fnode front.replica its (moved_to to me (after ask flows))) → StillOrTested fnode front here
@@ -176,7 +176,7 @@ module _ (config : Config) (heard : ℕ → Heard) (world : World) (law : KeepsL
   of_master : from ≡ law.master.me → HomeTakes murder law.given store to node law.master.me message
   of_master e = subst (λ f. HomeTakes murder law.given store to node f message) e takes
 
-  place_of : (fnode : List ℕ) (front : Front) (here : Place) → front_at world fnode ≡ Some front → IsInPlaceOf fixed world fnode front.replica its here
+  pub place_of : (fnode : List ℕ) (front : Front) (here : Place) → front_at world fnode ≡ Some front → IsInPlaceOf fixed world fnode front.replica its here
       → StillOrTested fnode front here
   place_of fnode front here at placed = by from_is
     where

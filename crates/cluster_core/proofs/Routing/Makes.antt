@@ -123,7 +123,7 @@ pub record MasterDeeds (config : Config) (world next : World) : Type 0 where
   pub parts : next.marks ≡ world.marks ++ new
   pub each : All (MasterDeed config world next) new
 
-has_home : (found : Option BackNode) → is_some found ≡ true → (node : BackNode) × (found ≡ Some node)
+pub has_home : (found : Option BackNode) → is_some found ≡ true → (node : BackNode) × (found ≡ Some node)
 has_home None e = cc
 has_home (Some node) e = (node, refl)
 

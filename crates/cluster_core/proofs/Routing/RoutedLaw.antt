@@ -10,6 +10,7 @@ use Rattle.link_msg.specs.declared.ask.FrontAsk.{FrontAsk}
 use Rattle.link_msg.specs.declared.counts.Counts.{Counts}
 use Rattle.link_msg.specs.declared.counts.Counts.TheVariants.{Always, IfAnswered}
 use Rattle.link_msg.specs.declared.how.How.{How}
+use Rattle.link_msg.specs.declared.how.How.TheVariants.{Here}
 use Rattle.link_msg.specs.declared.message.LinkMsg.{LinkMsg}
 use Rattle.link_msg.specs.declared.message.LinkMsg.TheVariants.{Ask}
 use Rattle.link_queue.specs.Links.{on_link}
@@ -26,7 +27,7 @@ use Rattle.mark_history.proofs.Tellings.{has_tellings, tells_client}
 use Rattle.mur_base.specs.declared.point.AskId.{AskId}
 use Rattle.mur_base.specs.declared.point.Point.{Point}
 use Rattle.mur_base.specs.declared.point.What.{What}
-use Rattle.mur_base.specs.declared.point.What.TheVariants.{Lost as lost}
+use Rattle.mur_base.specs.declared.point.What.TheVariants.{Reply as replied, Lost as lost}
 use Rattle.mur_config.specs.declared.config.Config.{Config}
 use Rattle.mur_config.specs.Nodes.{AreNodes}
 use Rattle.mur_model.specs.History.{Talk, TalkGoesOn}
@@ -36,7 +37,7 @@ use Rattle.cluster_core.specs.declared.world.World.{World}
 use Rattle.cluster_core.specs.Flow.{run_steps}
 use Rattle.cluster_core.specs.Headline.OpenAt.{IsOpenAt}
 use Rattle.cluster_core.specs.Headline.Outside.{table_at}
-use Rattle.cluster_core.specs.Headline.Routing.{AnswersAsk, AreRouted, ChangesMailbox, CountsFor, IsItsPoint, IsOnlySeen, IsStepOf, StandsAt, Taken, Does, is_of_name, says_done}
+use Rattle.cluster_core.specs.Headline.Routing.{AnswersAsk, AreRouted, ChangesMailbox, CountsFor, IsAtItsNoop, IsItsPoint, IsList, IsListed, IsOnlySeen, IsStepOf, StandsAt, Taken, TakesNoop, Does, is_of_name, says_done}
 use Rattle.cluster_core.specs.Headline.Routing.CarriesOut.{of_name, where_open}
 use Rattle.cluster_core.specs.Headline.Routing.Does.{carries_out, only_answers}
 use Rattle.cluster_core.specs.Headline.Routing.IsStepOf.{at_home, at_master}
@@ -46,6 +47,7 @@ use Rattle.cluster_core.specs.Numbers.{NumbersFitAll}
 use Rattle.cluster_core.proofs.Runs.OneNodeLaw.{one_more_step}
 use Rattle.cluster_core.proofs.OneServer.EachStep.{LawBehind}
 use Rattle.cluster_core.proofs.OneServer.MarksGoOn.{run_goes_on, run_steps-append, steps_made}
+use Rattle.cluster_core.proofs.Routing.Alone.{none_listed}
 use Rattle.cluster_core.proofs.Routing.Begun.{IsAlone, never_alone}
 use Rattle.cluster_core.proofs.Routing.HomeAnswers.{IsServed, ask_is_served}
 use Rattle.cluster_core.proofs.Routing.HowMade.{IsMadeSo, IsToldAlone, all_made}
@@ -369,6 +371,31 @@ module _ (config : Config) (are : AreNodes config.nodes) (steps : List Event)
   points_stand : All (StandsAt config steps) (points_of whole.marks)
   points_stand = each_counted MadeHere (StandsAt config steps) stands whole.marks (λ k d h. (all k d h, All-contains_itself whole.marks k d h))
 
+  -- a step that works on a LIST takes its NOOP
+  noop_of : (taken : Taken config steps) (id : AskId) → IsList talk id → IsStepOf config steps id taken → TakesNoop config steps taken id
+  noop_of taken id is_list =
+      takes_noop config steps talk all_said more taken (laws taken.before _ taken.parts) (each_more taken.before _ taken.parts)
+      (fit taken.before _ taken.parts) id is_list
+
+  -- a LIST of names that was answered OK stands where the master takes its NOOP
+  abbrev NotAlone : Mark → Type 0
+  NotAlone made = made.kind ≡ Told Here → IsListed talk made.ask → ⊥
+
+  abbrev StandsAtNoop : Point → Type 0
+  StandsAtNoop point = point.what ≡ replied → IsListed talk point.ask → IsAtItsNoop config steps point
+
+  at_noop : (made : Mark) (next : Option MarkKind) (what : What) → IsMadeSo config steps made × NotAlone made → counts_as made.kind next ≡ Some what
+      → StandsAtNoop (point_as made what)
+  at_noop made next what (is_taken counts kind taken works step, alone) e replies listed =
+      record { taken = taken; at = step; takes = noop_of taken made.ask listed.is_list works }
+  at_noop made next what (is_told how kind so, alone) e replies listed =
+      let its = here_replies how next what (ap (λ k. counts_as k next) (sym kind) ∙ e) in absurd (alone (kind ∙ ap Told its.0) listed)
+
+  listed : All StandsAtNoop (points_of whole.marks)
+  listed =
+      each_counted (λ made. IsMadeSo config steps made × NotAlone made) StandsAtNoop at_noop whole.marks
+      (λ k d h. (all k d h, none_listed (setting_of config) whole.steps whole.marks law.story law.is_told k d h))
+
   -- ---- all of it
 
   pub are_routed : AreRouted config talk steps (history_of whole)
@@ -376,7 +403,7 @@ module _ (config : Config) (are : AreNodes config.nodes) (steps : List Event)
   are_routed = record {
     asks = λ taken ask is none. answers taken ask is none;
     makes = made_for;
-    lists = λ taken id is_list. takes_noop config steps talk all_said more taken (laws taken.before _ taken.parts) (each_more taken.before _ taken.parts)
-        (fit taken.before _ taken.parts) id is_list;
+    lists = noop_of;
     points_stand = points_stand;
+    listed = listed;
   }

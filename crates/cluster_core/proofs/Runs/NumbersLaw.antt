@@ -18,86 +18,97 @@ use Rattle.cluster_core.specs.Flow.{Flowing, flow, happens, round, rounds, round
 use Rattle.cluster_core.specs.Heard.{heard, heard_first, heard_from, hears, is_frontend, of_client, opened_at}
 use Rattle.cluster_core.specs.Numbers.{HeardFits, NumbersFitAll}
 
--- ---- some steps
-
--- their connections have numbers of 64 bits, and they bring at most so many bytes of clients
-record Fit (most : ℕ) (steps : List Event) : Type 0 where
-  conns : AllByRecursion HasConnNumber steps
-  bytes : bytes_of_all steps ≤ most
-
-none_fit : Fit 0 []
-unfolding bytes_of_all
-none_fit = record { conns = tt; bytes = omega arith }
+-- ---- what a flow's deliveries bring
 
 bytes_joined : (one other : List Event) → bytes_of_all (one ++ other) ≡ bytes_of_all one + bytes_of_all other
 unfolding bytes_of_all
 bytes_joined [] other = omega arith
 bytes_joined (event ∷ one) other = omega (arith, bytes_joined one other)
 
-conns_joined : (one other : List Event) → AllByRecursion HasConnNumber one → AllByRecursion HasConnNumber other → AllByRecursion HasConnNumber (one ++ other)
-conns_joined [] other all more = more
-conns_joined (event ∷ one) other all more = (all.0, conns_joined one other all.1 more)
+module _ (P : Event → Type 0) where
+  each_joined : (one other : List Event) → AllByRecursion P one → AllByRecursion P other → AllByRecursion P (one ++ other)
+  each_joined [] other all more = more
+  each_joined (event ∷ one) other all more = (all.0, each_joined one other all.1 more)
 
-conns_first : (one other : List Event) → AllByRecursion HasConnNumber (one ++ other) → AllByRecursion HasConnNumber one
-conns_first [] other all = tt
-conns_first (event ∷ one) other all = (all.0, conns_first one other all.1)
+  each_first : (one other : List Event) → AllByRecursion P (one ++ other) → AllByRecursion P one
+  each_first [] other all = tt
+  each_first (event ∷ one) other all = (all.0, each_first one other all.1)
 
-fit_joined : (m n : ℕ) (one other : List Event) → Fit m one → Fit n other → Fit (m + n) (one ++ other)
-fit_joined m n one other first second = record {
-  conns = conns_joined one other first.conns second.conns;
-  bytes = omega (arith, bytes_joined one other, first.bytes, second.bytes);
-}
+  -- so is each of these steps, and they bring at most so many bytes of clients
+  record Fit (most : ℕ) (steps : List Event) : Type 0 where
+    each : AllByRecursion P steps
+    bytes : bytes_of_all steps ≤ most
 
-one_fits : (event : Event) → HasConnNumber event → Fit (bytes_brought event) (event ∷ [])
-unfolding bytes_of_all
-one_fits event number = record { conns = (number, tt); bytes = omega arith }
+  none_fit : Fit 0 []
+  unfolding bytes_of_all
+  none_fit = record { each = tt; bytes = omega arith }
 
--- ---- a flow
+  fit_joined : (m n : ℕ) (one other : List Event) → Fit m one → Fit n other → Fit (m + n) (one ++ other)
+  fit_joined m n one other first second = record {
+    each = each_joined one other first.each second.each;
+    bytes = omega (arith, bytes_joined one other, first.bytes, second.bytes);
+  }
 
-pushed : (made : List Event) (from to : List ℕ) → Fit 0 made → Fit 0 (made ++ Deliver from to ∷ [])
-unfolding bytes_brought
-pushed made from to fit = fit_joined 0 0 made (Deliver from to ∷ []) fit (one_fits (Deliver from to) tt)
+  one_fits : (event : Event) → P event → Fit (bytes_brought event) (event ∷ [])
+  unfolding bytes_of_all
+  one_fits event is = record { each = (is, tt); bytes = omega arith }
 
-turn_fits : (flowing : Flowing) (link : Link) (left : ℕ) (queue : List LinkMsg) → Fit 0 flowing.made → Fit 0 (turn_by flowing link left queue).made
-unfolding turn_by
-turn_fits flowing link zero queue fit = fit
-turn_fits flowing link (suc left) [] fit = fit
-turn_fits flowing link (suc left) (message ∷ queue) fit = pushed flowing.made link.from link.to fit
+  module _ (delivers : (from to : List ℕ) → P (Deliver from to)) where
+    pushed : (made : List Event) (from to : List ℕ) → Fit 0 made → Fit 0 (made ++ Deliver from to ∷ [])
+    unfolding bytes_brought
+    pushed made from to fit = fit_joined 0 0 made (Deliver from to ∷ []) fit (one_fits (Deliver from to) (delivers from to))
 
-round_fits : (links : List Link) (flowing : Flowing) → Fit 0 flowing.made → Fit 0 (round flowing links).made
-unfolding round turn_of_link
-round_fits [] flowing fit = fit
-round_fits (link ∷ links) flowing fit =
-    round_fits links (turn_of_link flowing link)
-    (turn_fits flowing link flowing.left (on_link flowing.world.links link.from link.to) fit)
+    turn_fits : (flowing : Flowing) (link : Link) (left : ℕ) (queue : List LinkMsg) → Fit 0 flowing.made → Fit 0 (turn_by flowing link left queue).made
+    unfolding turn_by
+    turn_fits flowing link zero queue fit = fit
+    turn_fits flowing link (suc left) [] fit = fit
+    turn_fits flowing link (suc left) (message ∷ queue) fit = pushed flowing.made link.from link.to fit
 
-rounds_fit_by : (over : Bool) (next more : Flowing) → Fit 0 next.made → Fit 0 more.made → Fit 0 (rounds_by over next more).made
-unfolding rounds_by
-rounds_fit_by true next more one other = one
-rounds_fit_by false next more one other = other
+    round_fits : (links : List Link) (flowing : Flowing) → Fit 0 flowing.made → Fit 0 (round flowing links).made
+    unfolding round turn_of_link
+    round_fits [] flowing fit = fit
+    round_fits (link ∷ links) flowing fit =
+        round_fits links (turn_of_link flowing link)
+        (turn_fits flowing link flowing.left (on_link flowing.world.links link.from link.to) fit)
 
-rounds_fit : (count : ℕ) (links : List Link) (flowing : Flowing) → Fit 0 flowing.made → Fit 0 (rounds count links flowing).made
-unfolding rounds
-rounds_fit zero links flowing fit = fit
-rounds_fit (suc count) links flowing fit =
-    let next = round flowing links in
-    let fits = round_fits links flowing fit in
-    rounds_fit_by (next.left == flowing.left) next (rounds count links next) fits (rounds_fit count links next fits)
+    rounds_fit_by : (over : Bool) (next more : Flowing) → Fit 0 next.made → Fit 0 more.made → Fit 0 (rounds_by over next more).made
+    unfolding rounds_by
+    rounds_fit_by true next more one other = one
+    rounds_fit_by false next more one other = other
 
--- ---- the steps of events
+    rounds_fit : (count : ℕ) (links : List Link) (flowing : Flowing) → Fit 0 flowing.made → Fit 0 (rounds count links flowing).made
+    unfolding rounds
+    rounds_fit zero links flowing fit = fit
+    rounds_fit (suc count) links flowing fit =
+        let next = round flowing links in
+        let fits = round_fits links flowing fit in
+        rounds_fit_by (next.left == flowing.left) next (rounds count links next) fits (rounds_fit count links next fits)
 
-event_fits : (layout : Layout) (world : World) (event : Event) → HasConnNumber event → Fit (bytes_brought event) (steps_of_event layout world event)
-unfolding steps_of_event flow bytes_brought
-event_fits layout world (Flow count) number = rounds_fit count layout.pairs (record { world = world; made = []; left = count }) none_fit
-event_fits layout world event number = one_fits event number
+    -- the steps of events
 
-unrolled_fit : (layout : Layout) (world : World) (events : List Event) → AllByRecursion HasConnNumber events
-    → Fit (bytes_of_all events) (unrolled layout world events)
-unfolding unrolled bytes_of_all
-unrolled_fit layout world [] all = none_fit
-unrolled_fit layout world (event ∷ events) all =
-    fit_joined (bytes_brought event) (bytes_of_all events) (steps_of_event layout world event) (unrolled layout (happens layout world event) events)
-    (event_fits layout world event all.0) (unrolled_fit layout (happens layout world event) events all.1)
+    event_fits : (layout : Layout) (world : World) (event : Event) → P event → Fit (bytes_brought event) (steps_of_event layout world event)
+    unfolding steps_of_event flow bytes_brought
+    event_fits layout world (Flow count) is = rounds_fit count layout.pairs (record { world = world; made = []; left = count }) none_fit
+    event_fits layout world event is = one_fits event is
+
+    unrolled_fit : (layout : Layout) (world : World) (events : List Event) → AllByRecursion P events
+        → Fit (bytes_of_all events) (unrolled layout world events)
+    unfolding unrolled bytes_of_all
+    unrolled_fit layout world [] all = none_fit
+    unrolled_fit layout world (event ∷ events) all =
+        fit_joined (bytes_brought event) (bytes_of_all events) (steps_of_event layout world event) (unrolled layout (happens layout world event) events)
+        (event_fits layout world event all.0) (unrolled_fit layout (happens layout world event) events all.1)
+
+-- the steps of events bring no more bytes of clients than the events
+any_events : (events : List Event) → AllByRecursion (λ (event : Event). Unit {0}) events
+any_events [] = tt
+any_events (event ∷ events) = (tt, any_events events)
+
+pub bytes_of_steps : (layout : Layout) (world : World) (events before later : List Event) → unrolled layout world events ≡ before ++ later
+    → bytes_of_all before ≤ bytes_of_all events
+bytes_of_steps layout world events before later parts =
+    let fit = unrolled_fit (λ (event : Event). Unit {0}) (λ from to. tt) layout world events (any_events events) in
+    omega (arith, fit.bytes, ap bytes_of_all parts, bytes_joined before later)
 
 -- ---- what is heard
 
@@ -165,14 +176,14 @@ fits_by conn most (client bytes closed) small fit = (fit.0, omega (arith, small,
 
 -- ---- a run
 
-steps_fit : (config : Config) (steps : List Event) (most : ℕ) → Fit most steps → most < 2 ^ 32 → NumbersFitAll config steps
+steps_fit : (config : Config) (steps : List Event) (most : ℕ) → Fit HasConnNumber most steps → most < 2 ^ 32 → NumbersFitAll config steps
 steps_fit config steps most fit small before later parts conn =
-    let all = subst (AllByRecursion HasConnNumber) parts fit.conns in
+    let all = subst (AllByRecursion HasConnNumber) parts fit.each in
     let less : bytes_of_all before ≤ most = omega (arith, fit.bytes, bytes_joined before later, ap bytes_of_all parts) in
     fits_by conn (0 + bytes_of_all before) (heard config conn before) (omega (arith, less, small))
-    (heard_within config conn 0 nobody before (conns_first before later all) tt)
+    (heard_within config conn 0 nobody before (each_first HasConnNumber before later all) tt)
 
 pub numbers_fit : (config : Config) (layout : Layout) (world : World) (events : List Event) → AllByRecursion HasConnNumber events → bytes_of_all events < 2 ^ 32
     → NumbersFitAll config (unrolled layout world events)
 numbers_fit config layout world events all small =
-    steps_fit config (unrolled layout world events) (bytes_of_all events) (unrolled_fit layout world events all) small
+    steps_fit config (unrolled layout world events) (bytes_of_all events) (unrolled_fit HasConnNumber (λ from to. tt) layout world events all) small

@@ -264,7 +264,7 @@ deliver_works world from to [] first = takes_nothing from to world first
 deliver_works world from to (message ∷ rest) first =
     comes_works (Deliver from to) to world (taken_from_link world from to) (From from message) (node_at world to) (takes_first from to world)
 
-takes_works : (world : World) (event : Event) → WorksBy event (worker world event) world (takes world event)
+pub takes_works : (world : World) (event : Event) → WorksBy event (worker world event) world (takes world event)
 unfolding takes
 takes_works world (Open node conn) = opens_work world node conn (client_at world conn) refl
 takes_works world (Data conn bytes) =
@@ -291,7 +291,7 @@ before_counting event (Some node) world after works = record {
   sends = works.sends;
 }
 
-one_node_works : (world : World) (event : Event) → OneNodeWorks event world (steps_by world event)
+pub one_node_works : (world : World) (event : Event) → OneNodeWorks event world (steps_by world event)
 one_node_works world event = record {
   counted = (takes_adds (stepped world) event).same_step;
   works = before_counting event (worker world event) world (steps_by world event)

@@ -21,7 +21,7 @@ use Rattle.cluster_core.proofs.Steps.HomeSteps.{HomeTakes, OthersStay, OthersSta
 use Rattle.cluster_core.proofs.Steps.Outs.{not_about_it}
 use Rattle.cluster_core.proofs.Steps.HomeMoves.{apart, talk, left_so, left_none}
 
-asks_not : (whose : Whose) (message : LinkMsg) → is_own_message whose message ≡ false → asks_for whose message ≡ false
+pub asks_not : (whose : Whose) (message : LinkMsg) → is_own_message whose message ≡ false → asks_for whose message ≡ false
 asks_not whose Up e = refl
 asks_not whose End e = refl
 asks_not whose (Line bytes) e = refl

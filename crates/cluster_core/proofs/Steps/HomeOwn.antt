@@ -25,7 +25,7 @@ use Rattle.mur_base.specs.declared.home.Location.{Location}
 use Rattle.mur_base.specs.declared.point.AskId.{AskId}
 use Rattle.mur_model.specs.declared.store.Store.{Store}
 use Rattle.name_commands.specs.BackSteps.{IsHeard}
-use Rattle.name_commands.specs.Moves.{Move, MovesCommand, asked_move, asked_move_by, heard_move, heard_move_by, reserved_move, tested_move}
+use Rattle.name_commands.specs.Moves.{Move, MovesCommand, asked_move, asked_move_by, ends, heard_move, heard_move_by, reserved_move, tested_move, Move as move}
 use Rattle.name_commands.specs.Places.{TalkShows, NamePlace as name_at}
 use Rattle.name_commands.specs.Whose.{Whose, is_of_connection, is_own_out}
 use Rattle.name_commands.proofs.AnswerSteps.{answer_moves}
@@ -149,29 +149,27 @@ ask_is_moved murder given store name node front replica id ask kind takes is_fro
 
 -- ---- the response to its line
 
--- the answer at a response goes to the frontend of the flow
-module _ (mailbox : List ℕ) (flow : Flow) where
-  abbrev Tells : Move → Type 0
-  Tells it = TellsFront flow.front it
+-- a response ends its flow, or lets it send the next line: what holds of these holds of whatever comes of it
+module _ (mailbox : List ℕ) (flow : Flow) (Is : Move → Type 0) (ended : (body : AnswerBody) → Is (ends flow body))
+    (made : Is (move.is_sent mailbox (record flow { stage = Making }))) (deleted : Is (move.is_sent mailbox (record flow { stage = Deleting }))) where
+  is_it : (one it : Move) → Some one ≡ Some it → Is one → Is it
+  is_it one it e is = let same : one ≡ it = cc in subst Is same is
 
-  tells_it : (one it : Move) → Some one ≡ Some it → Tells one → Tells it
-  tells_it one it e tells = let same : one ≡ it = cc in subst Tells same tells
+  reserved_is : (serial : Option ℕ) → Is (reserved_move mailbox flow serial)
+  reserved_is None = ended _
+  reserved_is (Some serial) = made
 
-  reserved_front : (serial : Option ℕ) → Tells (reserved_move mailbox flow serial)
-  reserved_front None = refl
-  reserved_front (Some serial) = tt
-
-  heard_by : (stage : Stage) (it : MResponse) (to : Move) → heard_move_by mailbox flow stage it ≡ Some to → Tells to
-  heard_by Reserving (response.Ok text) to e = tells_it _ to e (reserved_front _)
-  heard_by Reserving (response.No text) to e = tells_it _ to e refl
-  heard_by Reserving (response.Bad text) to e = tells_it _ to e refl
-  heard_by Making (response.Ok text) to e = tells_it _ to e refl
-  heard_by Making (response.No text) to e = tells_it _ to e refl
-  heard_by Making (response.Bad text) to e = tells_it _ to e refl
-  heard_by Deactivating (response.Ok text) to e = tells_it _ to e tt
+  heard_by : (stage : Stage) (it : MResponse) (to : Move) → heard_move_by mailbox flow stage it ≡ Some to → Is to
+  heard_by Reserving (response.Ok text) to e = is_it _ to e (reserved_is _)
+  heard_by Reserving (response.No text) to e = is_it _ to e (ended _)
+  heard_by Reserving (response.Bad text) to e = is_it _ to e (ended _)
+  heard_by Making (response.Ok text) to e = is_it _ to e (ended _)
+  heard_by Making (response.No text) to e = is_it _ to e (ended _)
+  heard_by Making (response.Bad text) to e = is_it _ to e (ended _)
+  heard_by Deactivating (response.Ok text) to e = is_it _ to e deleted
   heard_by Deactivating (response.No text) to e = cc
   heard_by Deactivating (response.Bad text) to e = cc
-  heard_by Deleting (response.Ok text) to e = tells_it _ to e refl
+  heard_by Deleting (response.Ok text) to e = is_it _ to e (ended _)
   heard_by Deleting (response.No text) to e = cc
   heard_by Deleting (response.Bad text) to e = cc
   heard_by Reserving (response.Mailbox n at acl) to e = cc
@@ -187,8 +185,12 @@ module _ (mailbox : List ℕ) (flow : Flow) where
   heard_by Deleting (response.Reserve n at) to e = cc
   heard_by Deleting (response.Delete n) to e = cc
 
-  pub heard_front : (it : MResponse) (to : Move) → heard_move mailbox flow it ≡ Some to → Tells to
-  heard_front it to e = heard_by flow.stage it to e
+  pub heard_is : (it : MResponse) (to : Move) → heard_move mailbox flow it ≡ Some to → Is to
+  heard_is it to e = heard_by flow.stage it to e
+
+-- the answer at a response goes to the frontend of the flow
+pub heard_front : (mailbox : List ℕ) (flow : Flow) (it : MResponse) (to : Move) → heard_move mailbox flow it ≡ Some to → TellsFront flow.front to
+heard_front mailbox flow it to e = heard_is mailbox flow (TellsFront flow.front) (λ body. refl) tt tt it to e
 
 module _ (murder : Murder) (given : Given) (store : Store) (name : List ℕ) (node : BackNode) (message : LinkMsg) (front : List ℕ) (replica : Replica)
     (id : AskId) (at : Location) (mailbox : List ℕ) (flow : Flow) (it : MResponse) (takes : HomeTakes murder given store name node murder.master.me message)

@@ -42,7 +42,7 @@ pub places_tell : (master : List ℕ) (nodes : Nodes) (links : Links LinkMsg) �
 places_tell master nodes links shown name node there =
     connections_tell node.flows (λ conn. (at_backend name (shown conn).0, ((shown conn).1 name node there).at))
 
-each_shown : (fixed : Fixed) (conn : ℕ) (world : World) (story : Tale) (heard : Heard) → ConnectionIs fixed conn world story heard
+pub each_shown : (fixed : Fixed) (conn : ℕ) (world : World) (story : Tale) (heard : Heard) → ConnectionIs fixed conn world story heard
     → (here : Place) × ShowEach fixed.master (home_at world) world.links conn here
 each_shown fixed conn world story _ (is_nobody none nowhere untold) = (place.nowhere, untold.nothing.shows)
 each_shown fixed conn world story _ (is_elsewhere node given there none untold) = (place.nowhere, untold.nothing.shows)

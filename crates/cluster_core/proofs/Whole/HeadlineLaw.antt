@@ -27,6 +27,8 @@ use Rattle.cluster_core.proofs.Runs.OnPairs.{goes_over_links, know_by_law}
 use Rattle.cluster_core.proofs.Runs.OwnClientsLaw.{serves_its_own_each}
 use Rattle.cluster_core.proofs.Runs.Unrolled.{by_steps}
 use Rattle.cluster_core.proofs.Asking.AsksLaw.{asks_by_records}
+use Rattle.cluster_core.proofs.Asking.OnceLaw.{asks_once}
+use Rattle.cluster_core.proofs.Lines.LinesLaw.{begins_only_as_asked}
 use Rattle.cluster_core.proofs.Connections.KeepsLaw.{KeepsLaw}
 use Rattle.cluster_core.proofs.Disks.OnDisks.{stands_on_disks}
 use Rattle.cluster_core.proofs.Guests.GuestsServed.{serves_guests}
@@ -37,6 +39,7 @@ use Rattle.cluster_core.proofs.OneServer.ClosedLaw.{gives_no_more}
 use Rattle.cluster_core.proofs.OneServer.EachStep.{EachKeeps, kept_all}
 use Rattle.cluster_core.proofs.OneServer.OneStoreLaw.{one_store_tells}
 use Rattle.cluster_core.proofs.OneServer.RecordsLaw.{records_stand_each}
+use Rattle.cluster_core.proofs.Serials.SerialsLeft.{leaves_serials}
 
 -- a frontend's feed by the table of the world
 followed : (master : Master) (table : MailboxTable) (world : World) (name node : List ℕ) (replica : Replica) → table ≡ master.table
@@ -71,9 +74,12 @@ one_mail_server config events are dated fit each =
           replicas_follow config (λ conn. heard config conn before) (run_steps (start config) before) (law_at before later parts);
       asks = asks_by_records config events are
           (λ before later parts node front at. (((law_at before later parts).nodes).fronts node front at).first_is);
+      asks_once = asks_once config events (λ before later parts. (law_at before later parts).whole);
+      lines = begins_only_as_asked config events are fit each;
       records = records_stand_each config events are each;
       disks = stands_on_disks config events each;
       one_home = keeps_one_home_each config events are each;
+      serials = leaves_serials config events are fit each;
     }
 
 -- THE HEADLINE

@@ -1,5 +1,5 @@
 -- The one-store law: what each client was given is what one mailbox store replies to the printed history, at every step.
-use Rattle.std.specs.Prelude.{◌≡◌, ◌⊎◌, ℕ, ◌≤◌, true, false, List, [], ◌++◌, length, Option, None, Some, IfSome, All, AllPairs}
+use Rattle.std.specs.Prelude.{◌≡◌, ◌⊎◌, ℕ, ◌+◌, ◌≤◌, true, false, List, [], ◌++◌, length, Option, None, Some, IfSome, All, AllPairs}
 use Rattle.std.specs.List.{list_any}
 use Rattle.mail_store.specs.Kept.{AreUidsBelowNext}
 use Rattle.imap_talk.specs.Transcript.{transcript_of, ends}
@@ -38,6 +38,7 @@ use Rattle.cluster_core.specs.Headline.Outside.{guest_of, is_guest, table_at}
 use Rattle.cluster_core.specs.Headline.Refusals.{AreReserved}
 use Rattle.cluster_core.specs.Headline.Routing.{AreRouted}
 use Rattle.cluster_core.specs.Headline.Serials.{reserves_taken}
+use Rattle.cluster_core.specs.Headline.WaitedFor.{IsWaitedFor}
 use Rattle.cluster_core.specs.LawSetting.{law_setting}
 use Rattle.link_queue.specs.Links.{on_link}
 use Rattle.store_law.specs.Refusals.{HaveCauses}
@@ -147,6 +148,9 @@ pub record IsToldSoFar (config : Config) (talk : Talk) (points : List Point) (st
   -- answer that ended the connection
   pub nothing_waits : AreEmpty world → (conn : ℕ) → has_closed (heard config conn steps) ≡ false
       → IsAnsweredThrough (so_far.requests conn) (so_far.answers conn)
+  -- and whatever is on its way: of a client that hasn't closed its connection the first whole command that wasn't answered waits
+  pub next_waits : (conn : ℕ) → has_closed (heard config conn steps) ≡ false → (IsAnsweredThrough (so_far.requests conn) (so_far.answers conn) → ⊥)
+      → IsWaitedFor world (record { conn = conn; command = length (so_far.answers conn) + 1 })
 
 -- at every step, each delivery of a flow being one; so a point stands at a step that is not before the one whose bytes
 -- completed its command, and not behind the one that gave its reply: a command that was answered before another one was sent

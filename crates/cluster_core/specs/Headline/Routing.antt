@@ -1,13 +1,16 @@
 -- Which step is the point of a command: one in which a backend takes its ask for a mailbox's messages or the master takes a line under its tag, or one in
--- which its frontend answers it alone. A LIST asks no backend: its point is the step in which the master takes its NOOP; or its frontend's own, as where it
--- asks for the separator or its session may not list. A step that carries it out counts though its client is never told: a backend says so in its answer, and the master
--- makes a mailbox or takes one away.
+-- which its frontend answers it alone. A LIST asks no backend: the point of one that tells names is the step in which the master takes its NOOP; of one that
+-- asks for the separator alone, or whose session may not list, its frontend's own. A step that carries it out counts though its client is never told: a
+-- backend says so in its answer, and the master makes a mailbox or takes one away.
 use Rattle.std.specs.Prelude.{◌≡◌, ◌≢◌, ℕ, ◌+◌, ◌≤◌, ◌<◌, Bool, true, false, List, [], ◌∷◌, ◌++◌, length, All, Contains, Some}
 use Rattle.ask_routes.specs.Barrier.{noop_line}
 use Rattle.imap_types.specs.declared.command.Command.TheVariants as command
 use Rattle.imap_types.specs.declared.command.Tag.{Tag}
 use Rattle.imap_types.specs.declared.op.Op.{Op}
 use Rattle.imap_types.specs.declared.op.Op.TheVariants.{Create, Delete}
+use Rattle.imap_types.specs.declared.reply.Code.{Code}
+use Rattle.imap_types.specs.declared.reply.Verdict.TheVariants.{Ok as ok_reply}
+use Rattle.imap_types.specs.declared.request.Answer.{Answer as ClientAnswer}
 use Rattle.imap_types.specs.declared.request.Request.TheVariants.{Command as a_command}
 use Rattle.link_msg.specs.declared.answer.AnswerBody.{AnswerBody}
 use Rattle.link_msg.specs.declared.answer.AnswerBody.TheVariants.{Done}
@@ -66,10 +69,26 @@ pub record IsList (talk : Talk) (id : AskId) : Type 0 where
   pub mailbox : List ℕ
   pub asked : numbered (talk.requests id.conn) id.command ≡ Some (a_command tag (command.List reference mailbox))
 
+-- it is a LIST of names, since its pattern isn't empty, and was answered OK
+pub record IsListed (talk : Talk) (id : AskId) : Type 0 where
+  pub is_list : IsList talk id
+  pub of_names : is_list.mailbox ≢ []
+  pub answer : ClientAnswer
+  pub answered : numbered (talk.answers id.conn) id.command ≡ Some answer
+  pub code : Code
+  pub name : List ℕ
+  pub ok : answer.reply.verdict ≡ ok_reply code name
+
 -- the master takes the NOOP of this command
 pub record TakesNoop (config : Config) (steps : List Event) (taken : Taken config steps) (id : AskId) : Type 0 where
   pub line : taken.message ≡ Line (noop_line id)
   pub to : taken.to ≡ master_of config
+
+-- and that in the step of this point
+pub record IsAtItsNoop (config : Config) (steps : List Event) (point : Point) : Type 0 where
+  pub taken : Taken config steps
+  pub at : point.step ≡ length taken.before + 1
+  pub takes : TakesNoop config steps taken point.ask
 
 -- in one of these steps the node works at which a client is connected
 pub record IsAtItsNode (config : Config) (steps : List Event) (conn : ℕ) (step : ℕ) : Type 0 where
@@ -149,3 +168,5 @@ pub record AreRouted (config : Config) (talk : Talk) (steps : List Event) (point
   -- no other step works on a LIST (RFC 9051, 6.3.9) than one in which the master takes its NOOP
   pub lists : (taken : Taken config steps) (id : AskId) → IsList talk id → IsStepOf config steps id taken → TakesNoop config steps taken id
   pub points_stand : All (StandsAt config steps) points
+  -- and each LIST of names that was answered OK has its point in such a one
+  pub listed : All (λ (point : Point). point.what ≡ replied → IsListed talk point.ask → IsAtItsNoop config steps point) points

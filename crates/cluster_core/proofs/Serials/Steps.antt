@@ -1,0 +1,251 @@
+-- What a step makes of the RESERVEs that the master has answered OK: each is of a command that the one store has replied to, or of one that waits.
+use Rattle.std.proofs.Common.{◌≡◌, ◌≢◌, ◌⊎◌, inl, ℕ, ◌+◌, ◌≤◌, Bool, true, false, cond, List, [], ◌∷◌, length, Option, None, Some, refl, sym, ◌∙◌, ap, subst}
+use Rattle.std.proofs.Common.{arith}
+use Rattle.std.specs.Ordering.{nat_cmp}
+use Rattle.std.specs.Cmp.Lexicographic.{slice_cmp}
+use Rattle.std.proofs.Math.Logic.{⊎_elim}
+use Rattle.std.proofs.lemmas.Bool.{cases_eq}
+use Rattle.guest_links.specs.Happenings.{sends, step_of}
+use Rattle.imap_talk.specs.Heard.{Heard}
+use Rattle.link_msg.specs.declared.message.LinkMsg.{LinkMsg}
+use Rattle.link_queue.specs.Links.{on_link}
+use Rattle.master_core.specs.declared.master.Master.{Master}
+use Rattle.master_core.specs.Linked.{node_says}
+use Rattle.master_core.specs.Outside.{Stepped}
+use Rattle.mur_base.proofs.MapLaws.{names_apart, same_or_other}
+use Rattle.mur_config.specs.declared.config.Config.{Config}
+use Rattle.node_record.specs.Table.{MailboxTable}
+use Rattle.node_step.specs.declared.input.NodeInput.{NodeInput}
+use Rattle.node_step.specs.declared.input.NodeInput.TheVariants.{Opened, Piece, Hung, From}
+use Rattle.node_step.specs.declared.node.NodeState.{NodeState}
+use Rattle.node_step.specs.declared.node.NodeState.TheVariants as state
+use Rattle.node_step.specs.NodeStep.{as_master}
+use Rattle.schedule_text.specs.declared.event.Event.{Event}
+use Rattle.schedule_text.specs.declared.event.Event.TheVariants.{Open, Data, Hang, Deliver, Cut, Join, Crash, Arm, Start, Flow, Heal}
+use Rattle.cluster_core.specs.declared.world.Client.{Client}
+use Rattle.cluster_core.specs.declared.world.World.{World}
+use Rattle.cluster_core.specs.Headline.OneNode.{node_of, worker}
+use Rattle.cluster_core.specs.Headline.Outside.{table_at, table_by}
+use Rattle.cluster_core.specs.Headline.Serials.{asks_reserve, last_serial}
+use Rattle.cluster_core.specs.Numbers.{NumbersFit}
+use Rattle.cluster_core.specs.World.{client_at, client_does, comes, deliver_first, master_of, opens, stepped, taken_from_link, takes, with_client}
+use Rattle.cluster_core.proofs.Connections.KeepsLaw.{KeepsLaw}
+use Rattle.cluster_core.proofs.Connections.KeepsStill.{disks_law}
+use Rattle.cluster_core.proofs.Guests.TablesStay.{step_tables}
+use Rattle.cluster_core.proofs.Nodes.Comes.{IsOfClient, home_comes, master_comes, master_moved, with_master, wrote}
+use Rattle.cluster_core.proofs.OneServer.SerialsRise.{step_rises}
+use Rattle.cluster_core.proofs.Runs.OneNodeLaw.{takes_works}
+use Rattle.cluster_core.proofs.Serials.AtHome.{home_goes}
+use Rattle.cluster_core.proofs.Serials.AtMaster.{Gives, IsGiven, master_gives}
+use Rattle.cluster_core.proofs.Serials.AtMaster.Gives.{gives_none, gives_one}
+use Rattle.cluster_core.proofs.Serials.Counting.{times, times_else, times_first}
+use Rattle.cluster_core.proofs.Serials.Reserved.{IsReserved, beside, client_leaves, reserved_so}
+
+-- so many are of a connection's commands: the one store has replied to as many, or there is one more, which waits in this world
+pub data IsCounted (master : List ℕ) (told said : ℕ) (world : World) (conn n : ℕ) : Type 0 where
+  replied : n ≤ said → IsCounted master told said world conn n
+  waiting : IsReserved master world conn → n ≤ told + 1 → IsCounted master told said world conn n
+
+module _ (config : Config) (heard : ℕ → Heard) (before : World) (law : KeepsLaw config heard (stepped before)) (fits : NumbersFit heard) where
+  abbrev world : World
+  world = stepped before
+
+  abbrev name : List ℕ
+  name = master_of config
+
+  abbrev told : ℕ → ℕ
+  told conn = length (law.story.told conn)
+
+  abbrev said : ℕ → ℕ
+  said conn = length (law.story.talk.answers conn)
+
+  abbrev next : Event → World
+  next event = takes world event
+
+  -- ---- a command whose RESERVE was answered OK
+
+  abbrev Goes : World → ℕ → Type 0
+  Goes there conn = IsReserved name there conn ⊎ (told conn + 1 ≤ said conn)
+
+  module _ (conn : ℕ) (is : IsReserved name world conn) where
+    -- the backend does what a client wants of it
+    by_client : (input : NodeInput) (node : List ℕ) → IsOfClient input → node ≡ is.server → Goes (comes world node input) conn
+    by_client input node of same =
+        inl (subst (λ n. IsReserved name (comes world n input) conn) (sym same) (client_leaves name world conn is input of law.whole))
+
+    opening : (node : List ℕ) (other : ℕ) (found : Option Client) → node ≡ is.server → Goes (opens world node other found) conn
+    unfolding opens
+    opening node other (Some client) same = inl is
+    opening node other None same =
+        let there : IsReserved name (with_client world node other) conn = record {
+          server = is.server;
+          node = is.node;
+          there = is.there;
+          name = is.name;
+          flow = is.flow;
+          runs = is.runs;
+          own = is.own;
+          reserved = is.reserved;
+        } in
+        inl (subst (λ n. IsReserved name (comes (with_client world node other) n (Opened other)) conn) (sym same)
+        (client_leaves name (with_client world node other) conn there (Opened other) tt law.whole))
+
+    does : (input : NodeInput) (found : Option Client) → IsOfClient input → node_of found ≡ Some is.server → Goes (client_does world input found) conn
+    unfolding client_does
+    does input None of at = inl is
+    does input (Some client) of at = by_client input client.at of (let same : client.at ≡ is.server = cc in same)
+
+    delivered : (from to : List ℕ) (queue : List LinkMsg) → on_link world.links from to ≡ queue → to ≡ is.server → Goes (deliver_first world from to queue) conn
+    unfolding deliver_first
+    delivered from to [] first same = inl is
+    delivered from to (message ∷ rest) first same =
+        let first_there = ap (on_link world.links from) (sym same) ∙ first in
+        let put : World = wrote world is.server (state.Back is.node) (From from message) in
+        subst (λ n. Goes (comes (taken_from_link world from n) n (From from message)) conn) (sym same)
+        (subst (λ w. Goes w conn) (sym (home_comes (taken_from_link world from is.server) is.server (From from message) is.node law.whole is.there))
+        (home_goes config heard put (disks_law config heard world put.disks law) fits is.server is.node is.there conn is.name is.flow is.runs is.own is.reserved
+        from message rest first_there))
+
+    at_itself : (event : Event) → worker world event ≡ Some is.server → Goes (next event) conn
+    unfolding takes
+    at_itself (Open node other) at = opening node other (client_at world other) (let same : node ≡ is.server = cc in same)
+    at_itself (Data other bytes) at = does (Piece other bytes) (client_at world other) tt at
+    at_itself (Hang other) at = does (Hung other) (client_at world other) tt at
+    at_itself (Deliver from to) at = delivered from to (on_link world.links from to) refl (let same : to ≡ is.server = cc in same)
+    at_itself event at = inl is
+
+    some_name : {one other : List ℕ} → Some one ≡ Some other → one ≡ other
+    some_name e = cc
+
+    goes_by : (event : Event) (at : Option (List ℕ)) → worker world event ≡ at → Goes (next event) conn
+    goes_by event None at =
+        inl (beside name world conn is event (next event) (λ some. (let no : None ≡ Some is.server = sym at ∙ some in cc)) (takes_works world event))
+    goes_by event (Some node) at = ⊎_elim
+        (λ (same : node ≡ is.server). at_itself event (at ∙ ap (λ (n : List ℕ). Some n) same))
+        (λ (ne : node ≢ is.server).
+        inl (beside name world conn is event (next event) (λ some. ne (some_name (sym at ∙ some))) (takes_works world event)))
+        (same_or_other (slice_cmp nat_cmp) names_apart node is.server)
+
+    goes : (event : Event) → Goes (next event) conn
+    goes event = goes_by event (worker world event) refl
+
+  abbrev Counted : World → ℕ → ℕ → Type 0
+  Counted there conn n = IsCounted name (told conn) (said conn) there conn n
+
+  counted_on : (event : Event) (conn n : ℕ) → Counted world conn n → Counted (next event) conn n
+  counted_on event conn n (replied few) = replied few
+  counted_on event conn n (waiting is few) = ⊎_elim
+      (λ (on : IsReserved name (next event) conn). waiting on few)
+      (λ (more : told conn + 1 ≤ said conn). replied (omega (arith, few, more)))
+      (goes conn is event)
+
+  -- ---- all of them
+
+  -- the connection of each: there are as many as the master's serial tells
+  pub record Counts (there : World) (reserved : List ℕ) : Type 0 where
+    pub few : last_serial config there ≤ length reserved
+    pub each : (conn : ℕ) → Counted there conn (times conn reserved)
+
+  abbrev pub CountsThen : Event → Type 0
+  CountsThen event = (reserved : List ℕ) × Counts (next event) reserved
+
+  module _ (reserved : List ℕ) (counts : Counts world reserved) where
+    serial_stays : (event : Event) → last_serial config (next event) ≤ last_serial config world → CountsThen event
+    serial_stays event stays = (
+      reserved,
+      record { few = omega (arith, counts.few, stays); each = λ conn. counted_on event conn (times conn reserved) (counts.each conn) },
+    )
+
+    -- ---- the master takes a message
+
+    module _ (from : List ℕ) (message : LinkMsg) (rest : List LinkMsg) (first : on_link world.links from name ≡ message ∷ rest) where
+      abbrev says : Stepped
+      says = node_says law.master from message
+
+      -- the world once its entry is written, in which the law holds too
+      abbrev put : World
+      put = wrote world name (state.Master law.master) (From from message)
+
+      abbrev put_law : KeepsLaw config heard put
+      put_law = disks_law config heard world put.disks law
+
+      takes_it : next (Deliver from name) ≡ with_master (taken_from_link put from name) name says
+      unfolding takes deliver_first
+      takes_it =
+          ap (deliver_first world from name) first
+          ∙ master_comes (taken_from_link world from name) name (From from message) law.master law.whole law.nodes.is_there
+
+      serial_now : last_serial config world ≡ law.master.table.serial
+      serial_now = ap (λ (m : Option Master). (table_by m).serial) law.nodes.is_there
+
+      serial_then : last_serial config (next (Deliver from name)) ≡ says.master.table.serial
+      serial_then =
+          ap (last_serial config) takes_it
+          ∙ ap (λ (m : Option Master). (table_by m).serial) (master_moved (taken_from_link put from name) name law.master says law.nodes.is_there).own
+
+      rises : (asks : Bool) → asks_reserve message ≡ asks → says.master.table.serial ≤ law.master.table.serial + cond asks 1 0
+      unfolding step_of
+      rises asks e = subst (λ b. says.master.table.serial ≤ law.master.table.serial + cond b 1 0) e (step_rises law.master (sends from message))
+
+      module _ (conn : ℕ) (given : IsGiven config heard put put_law fits from message rest first conn) where
+        once : (n : ℕ) → Counted world conn n → n ≤ told conn
+        once n (replied few) = omega (arith, few, ap length given.said)
+        once n (waiting is few) = absurd (given.fresh (reserved_so name world put.disks conn is))
+
+        one_more : (other : ℕ) → Counted (next (Deliver from name)) other (times other (conn ∷ reserved))
+        one_more other = ⊎_elim
+            (λ (same : other ≡ conn).
+            subst (λ c. Counted (next (Deliver from name)) c (times c (conn ∷ reserved))) (sym same)
+            (waiting (subst (λ w. IsReserved name w conn) (sym takes_it) given.reserved)
+            (omega (arith, once (times conn reserved) (counts.each conn), times_first conn reserved))))
+            (λ (ne : other ≢ conn).
+            subst (Counted (next (Deliver from name)) other) (sym (times_else other conn reserved ne))
+            (counted_on (Deliver from name) other (times other reserved) (counts.each other)))
+            (cases_eq other conn)
+
+        reserves_one : says.master.table.serial ≤ law.master.table.serial + 1 → CountsThen (Deliver from name)
+        reserves_one more = (conn ∷ reserved, record { few = omega (arith, counts.few, more, serial_now, serial_then); each = one_more })
+
+      by_gives : asks_reserve message ≡ true → Gives config heard put put_law fits from message rest first → CountsThen (Deliver from name)
+      by_gives asks (gives_none stays) = serial_stays (Deliver from name) (omega (arith, stays, serial_now, serial_then))
+      by_gives asks (gives_one conn given) = reserves_one conn given (rises true asks)
+
+      by_asks : (asks : Bool) → asks_reserve message ≡ asks → CountsThen (Deliver from name)
+      by_asks true e = by_gives e (master_gives config heard put put_law fits from message rest first e)
+      by_asks false e = serial_stays (Deliver from name) (omega (arith, rises false e, serial_now, serial_then))
+
+      pub master_counts : CountsThen (Deliver from name)
+      master_counts = by_asks (asks_reserve message) refl
+
+    -- ---- any event
+
+    same_table : (event : Event) → table_at (next event) name ≡ table_at world name → CountsThen event
+    same_table event same = serial_stays event (omega (arith, ap (λ (t : MailboxTable). t.serial) same))
+
+    to_another : (from to : List ℕ) → name ≢ to → CountsThen (Deliver from to)
+    to_another from to ne =
+        same_table (Deliver from to) (ap (λ (n : Option NodeState). table_by (as_master n)) ((takes_works world (Deliver from to)).nodes name ne))
+
+    to_master : (from : List ℕ) (queue : List LinkMsg) → on_link world.links from name ≡ queue → CountsThen (Deliver from name)
+    unfolding takes deliver_first
+    to_master from [] first =
+        same_table (Deliver from name) (ap (λ (q : List LinkMsg). table_at (deliver_first world from name q) name) first)
+    to_master from (message ∷ rest) first = master_counts from message rest first
+
+    -- A STEP COUNTS ON
+    pub step_counts : (event : Event) → CountsThen event
+    unfolding takes
+    step_counts (Open node conn) = same_table (Open node conn) (step_tables before (Open node conn) law.whole refl name)
+    step_counts (Data conn bytes) = same_table (Data conn bytes) (step_tables before (Data conn bytes) law.whole refl name)
+    step_counts (Hang conn) = same_table (Hang conn) (step_tables before (Hang conn) law.whole refl name)
+    step_counts (Deliver from to) = ⊎_elim
+        (λ (same : name ≡ to). subst (λ n. CountsThen (Deliver from n)) same (to_master from (on_link world.links from name) refl))
+        (λ (ne : name ≢ to). to_another from to ne)
+        (same_or_other (slice_cmp nat_cmp) names_apart name to)
+    step_counts (Cut one other kept left) = same_table (Cut one other kept left) refl
+    step_counts (Join one other) = same_table (Join one other) refl
+    step_counts (Crash node image kept) = same_table (Crash node image kept) refl
+    step_counts (Arm node call image kept) = same_table (Arm node call image kept) refl
+    step_counts (Start node) = same_table (Start node) refl
+    step_counts (Flow n) = same_table (Flow n) refl
+    step_counts Heal = same_table Heal refl
