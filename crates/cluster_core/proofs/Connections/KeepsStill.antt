@@ -164,13 +164,13 @@ stepped_law config heard world law = record { then = (stepped_kept config heard 
 
 -- what stands on the disks is nothing of the law
 module _ (config : Config) (heard : ℕ → Heard) (world : World) (disks : Disks) (law : KeepsLaw config heard world) where
-  abbrev other_disks : World
+  abbrev pub other_disks : World
   other_disks = record world { disks = disks }
 
-  disks_feeds : FeedsHold config other_disks law.master
+  pub disks_feeds : FeedsHold config other_disks law.master
   disks_feeds = feeds_alike config world other_disks law.master (λ node. refl) refl (λ node now there. record { was = now; at = there; same = refl }) law.feeds
 
-  disks_connections : (conn : ℕ) → ConnectionIs (fixed_of config) conn other_disks law.story (heard conn)
+  pub disks_connections : (conn : ℕ) → ConnectionIs (fixed_of config) conn other_disks law.story (heard conn)
   disks_connections conn =
       let alike = alike_but_steps (fixed_of config) world other_disks refl refl refl refl refl (omega arith) in
       alike_stays (fixed_of config) conn world other_disks law.story (heard conn) alike (same_client refl) (law.connections conn)

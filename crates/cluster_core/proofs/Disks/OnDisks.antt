@@ -8,6 +8,7 @@ use Rattle.link_msg.specs.declared.message.LinkMsg.{LinkMsg}
 use Rattle.link_msg.specs.declared.message.LinkMsg.TheVariants.{Up}
 use Rattle.link_queue.specs.Links.{on_link}
 use Rattle.master_core.specs.declared.master.Master.{Master}
+use Rattle.master_core.specs.Boot.{booted}
 use Rattle.mur_base.specs.Map.{value_at}
 use Rattle.mur_base.proofs.MapLaws.{names_apart, same_or_other, value_at-with_entry, value_at-with_entry-other, value_at-with_value, value_at-with_value-other}
 use Rattle.mur_config.specs.declared.config.Config.{Config}
@@ -31,7 +32,7 @@ use Rattle.cluster_core.specs.Headline.Disks.{IsOnDisks, TableStandsOn, StandsOn
 use Rattle.cluster_core.specs.Headline.Outside.{table_by}
 use Rattle.cluster_core.specs.World.{Disks, acts, client_at, client_does, comes_to, deliver_first, disk_at, first_state, master_at, master_of, no_world, node_at}
 use Rattle.cluster_core.specs.World.{not_lost, opens, start, stepped, steps_by, taken_from_link, takes, with_acted, with_client, with_disk, with_node, with_nodes}
-use Rattle.cluster_core.specs.World.{with_ups, written, written_on}
+use Rattle.cluster_core.specs.World.{told_up, with_ups, written, written_on}
 use Rattle.cluster_core.proofs.Disks.NodeWrites.{Disk, StandsOn, disk_with, takes_stands}
 use Rattle.cluster_core.proofs.OneServer.EachStep.{EachKeeps, kept_all}
 use Rattle.cluster_core.proofs.Runs.OneNodeLaw.{carry_all_sends, others_disks}
@@ -118,7 +119,7 @@ step_stands world event stand = stand
 
 first_stands : (config : Config) (world : World) (node : Node) (kind : Kind)
     → StandsOn (first_state config node kind) (value_at (slice_cmp nat_cmp) (with_disk world.disks node.name kind) node.name)
-unfolding first_state with_disk
+unfolding first_state with_disk booted
 first_stands config world node master_kind =
     record { records = []; written = value_at-with_entry (slice_cmp nat_cmp) names_apart world.disks node.name []; made = refl }
 first_stands config world node Frontend = tt
@@ -156,7 +157,7 @@ ups_stand : (world : World) (links : List Link) → StandOnDisks world → Stand
 unfolding with_ups
 ups_stand world [] stand = stand
 ups_stand world (link ∷ links) stand =
-    ups_stand _ links (comes_stand world link.to (From link.from Up) (node_at world link.to) refl stand)
+    ups_stand (told_up world link) links (comes_stand world link.to (From link.from Up) (node_at world link.to) refl stand)
 
 none_stands : StandOnDisks no_world
 none_stands node it there = cc

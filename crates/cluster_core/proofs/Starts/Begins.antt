@@ -34,7 +34,7 @@ use Rattle.mur_config.specs.Nodes.{AreNodes, are_kinds_linked, is_node_of_kind, 
 use Rattle.mur_config.proofs.OncePairs.{pairs_once, times}
 use Rattle.node_step.specs.declared.node.NodeState.{NodeState}
 use Rattle.node_step.specs.declared.node.NodeState.TheVariants as state
-use Rattle.node_step.specs.NodeStep.{Acted, as_back, as_front, as_master, back_takes, front_takes, takes as node_takes}
+use Rattle.node_step.specs.NodeStep.{Acted, as_back, as_front, as_master, back_takes, front_takes, takes as node_takes, front_acted, back_acted}
 use Rattle.mur_model.specs.declared.setting.Setting.{Setting}
 use Rattle.name_flows.specs.Listing.{up_step}
 use Rattle.node_record.specs.Table.{empty_table}
