@@ -15,7 +15,7 @@ use Rattle.feed_links.specs.Lines.{messages_to}
 use Rattle.feed_links.proofs.Names.{other_name, same_name}
 use Rattle.front_core.proofs.OneConnection.Places.{IsPlaced, of_connection}
 use Rattle.front_core.specs.declared.front.Front.{Front}
-use Rattle.front_core.specs.Front.{Stepped, deliver, new_front, up_from}
+use Rattle.front_core.specs.Front.{deliver, new_front, up_from}
 use Rattle.link_msg.specs.declared.message.LinkMsg.TheVariants.{Line}
 use Rattle.link_msg.specs.declared.out.Out.{Out}
 use Rattle.link_msg.specs.declared.out.Out.TheVariants.{Link as to_node}

@@ -10,7 +10,7 @@ use Rattle.back_node.specs.Takes.{taken_up, UpToEntry, passed_over}
 use Rattle.back_node.specs.Acted.{acted}
 use Rattle.feed_links.specs.Lines.{messages_to}
 use Rattle.front_core.specs.declared.front.Front.{Front}
-use Rattle.front_core.specs.Front.{Stepped, deliver, up_from}
+use Rattle.front_core.specs.Front.{deliver, up_from}
 use Rattle.link_msg.specs.declared.message.LinkMsg.{LinkMsg}
 use Rattle.link_msg.specs.declared.message.LinkMsg.TheVariants.{Up}
 use Rattle.link_msg.specs.declared.out.Out.{Out}
