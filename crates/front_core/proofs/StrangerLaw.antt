@@ -1,8 +1,16 @@
--- What another node than the one that was asked says changes nothing.
-use Rattle.std.proofs.Common.{◌≡◌, ◌≢◌, Bool, true, false, nat_eq, List, ℕ, refl, sym, ap, ◌∙◌}
+-- What another node than the one that was asked says changes nothing, but whether its link is up.
+use Rattle.std.proofs.Common.{◌≡◌, ◌≢◌, Bool, true, false, nat_eq, List, [], ◌∷◌, ℕ, Option, None, Some, refl, sym, ap, ◌∙◌}
+use Rattle.std.specs.Map.{keys_of}
 use Rattle.std.specs.Cmp.Lexicographic.{pointwise, same_text}
 use Rattle.front_core.specs.declared.front.Front.{Front}
-use Rattle.front_core.specs.Front.{WaitsForNone, answer_from, connection_at, deliver, line_from, still, up_from, waits_for}
+use Rattle.asking_core.specs.declared.waiting.At.{At}
+use Rattle.asking_core.specs.declared.waiting.At.TheVariants.{Home, Barrier}
+use Rattle.front_core.specs.declared.connection.Connection.{Connection}
+use Rattle.front_core.specs.declared.connection.Stage.{Stage}
+use Rattle.front_core.specs.declared.connection.Stage.TheVariants.{Reading, Waits, Lists, Ended}
+use Rattle.front_core.specs.Front.{WaitsForNone, all_end, answer_from, awaited, behind_them, connection_at, deliver, end_from, end_if, line_from, noting, still}
+use Rattle.front_core.specs.Front.{up_from, waits_for, with_up, without_up}
+use Rattle.front_core.specs.Stages.{asks_at, awaits, has_asked, waits_at}
 use Rattle.link_msg.specs.declared.answer.BackAnswer.{BackAnswer}
 use Rattle.link_msg.specs.declared.message.LinkMsg.{LinkMsg}
 use Rattle.link_msg.specs.declared.message.LinkMsg.TheVariants.{Up, End, Line, Ask, Answer}
@@ -35,10 +43,42 @@ pub line_stranger : (front : Front) (from bytes : List ℕ) → from ≢ front.m
 line_stranger front from bytes ne =
     ap (λ same. line_from same front bytes) (another from front.master (pointwise nat_eq from front.master) refl ne) ∙ no_line front bytes
 
-pub strangers : (front : Front) (from : List ℕ) (message : LinkMsg) → WaitsForNone front from → from ≢ front.master → deliver front from message ≡ still front
-unfolding deliver
+-- ---- its link ends
+
+nothing_there : (front : Front) (node : List ℕ) (at : At) → asks_at at node ≡ false → node ≢ front.master → waits_at front.master at node ≡ false
+nothing_there front node (Home server) none ne = none
+nothing_there front node (Barrier why) none ne = another front.master node (pointwise nat_eq front.master node) refl (λ e. ne (sym e))
+
+nothing_by : (front : Front) (node : List ℕ) (stage : Stage) → has_asked stage node ≡ false → node ≢ front.master → awaits front.master stage node ≡ false
+unfolding has_asked awaits
+nothing_by front node Reading none ne = refl
+nothing_by front node (Waits tag it) none ne = nothing_there front node it.at none ne
+nothing_by front node (Lists tag it) none ne = another front.master node (pointwise nat_eq front.master node) refl (λ e. ne (sym e))
+nothing_by front node Ended none ne = refl
+
+not_awaited : (front : Front) (node : List ℕ) (found : Option Connection) → waits_for found node ≡ false → node ≢ front.master
+    → awaited front.master found node ≡ false
+unfolding waits_for awaited
+not_awaited front node None none ne = refl
+not_awaited front node (Some connection) none ne = nothing_by front node connection.stage none ne
+
+none_end : (front : Front) (node : List ℕ) (conns : List ℕ) → WaitsForNone front node → node ≢ front.master → all_end front node conns ≡ still front
+unfolding all_end
+none_end front node [] none ne = refl
+none_end front node (conn ∷ conns) none ne =
+    ap (λ waits. behind_them (end_if waits front conn).outs (all_end (end_if waits front conn).front node conns))
+    (not_awaited front node (connection_at front conn) (none conn) ne)
+    ∙ none_end front node conns none ne
+
+pub end_stranger : (front : Front) (node : List ℕ) → WaitsForNone front node → node ≢ front.master
+    → end_from (without_up front node) node ≡ still (without_up front node)
+end_stranger front node none ne = none_end (without_up front node) node (keys_of front.connections) none ne
+
+pub strangers : (front : Front) (from : List ℕ) (message : LinkMsg) → WaitsForNone front from → from ≢ front.master
+    → deliver front from message ≡ still (noting front from message)
+unfolding deliver noting
 strangers front from (Answer answer) none no_master = no_answer front from answer none
-strangers front from Up none no_master = up_stranger front from no_master
-strangers front from End none no_master = refl
+strangers front from Up none no_master = up_stranger (with_up front from) from no_master
+strangers front from End none no_master = end_stranger front from none no_master
 strangers front from (Line bytes) none no_master = line_stranger front from bytes no_master
 strangers front from (Ask ask) none no_master = refl

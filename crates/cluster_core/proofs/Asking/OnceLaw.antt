@@ -15,7 +15,7 @@ use Rattle.link_msg.specs.declared.out.Out.{Out}
 use Rattle.link_msg.specs.declared.out.Out.TheVariants.{Client, Close, Link, Mark, Told}
 use Rattle.link_queue.specs.Links.{on_link, same_link}
 use Rattle.link_queue.proofs.Wires.{same_itself, same_names}
-use Rattle.mark_history.proofs.EachPoint.{count_cons}
+use Rattle.mark_history.proofs.Numbers.{count_cons}
 use Rattle.mark_history.proofs.Marks.{count_both}
 use Rattle.mur_base.specs.declared.point.AskId.{AskId}
 use Rattle.mur_config.specs.declared.config.Config.{Config}
