@@ -80,7 +80,7 @@ module _ (fixed : Fixed) (front : List ℕ) (replica : Replica) (conn : ℕ) (in
 
   -- what comes of the command does this to its connection
   abbrev pub turned_by : WentOn → Turned
-  turned_by next = goes_on_by fixed.setting (ways_for fixed replica) conn connection (heard.waiting).tag next
+  turned_by next = goes_on_by fixed.setting (ways_for fixed front replica) conn connection (heard.waiting).tag next
 
   abbrev now : Sess → Connection
   now session = record connection { session = session }
@@ -97,7 +97,7 @@ module _ (fixed : Fixed) (front : List ℕ) (replica : Replica) (conn : ℕ) (in
       → IsTold fixed.setting world story conn how (record { tag = (heard.waiting).tag; reply = reply }) session
       → InputsCome fixed front replica conn inputs held world story
       → StandsSo fixed front replica conn inputs held world story
-      (need_behind fixed.setting (ways_for fixed replica) conn (now session) (heard.waiting).tag how (given_with reply session))
+      (need_behind fixed.setting (ways_for fixed front replica) conn (now session) (heard.waiting).tag how (given_with reply session))
   unfolding given_with
   given_stands how reply Off same told come =
       read_stands fixed front replica conn inputs held connection world story (heard.waiting).tag c.it its_heard how reply Off told refl (sym same) come
@@ -177,5 +177,5 @@ module _ (fixed : Fixed) (front : List ℕ) (replica : Replica) (conn : ℕ) (in
       → StandsSo fixed front replica conn inputs held world story (turned_by next)
   on_stands may next on backend said was =
       subst (λ (t : Then). StandsSo fixed front replica conn inputs held world story
-      (by_then fixed.setting (ways_for fixed replica) conn (now next.session) (heard.waiting).tag next.waiting t)) (sym on.sends)
+      (by_then fixed.setting (ways_for fixed front replica) conn (now next.session) (heard.waiting).tag next.waiting t)) (sym on.sends)
       (waits_on_stands fixed front replica conn inputs held connection world story here heard may.frontend may.is_numbered said was next on backend)

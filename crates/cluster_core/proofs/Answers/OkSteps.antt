@@ -47,7 +47,7 @@ module _ (fixed : Fixed) (front : Front) (conn : ℕ) (connection : Connection) 
     (master_is : front.master ≡ fixed.master) (first_is : front.first ≡ fixed.first) (has : connection_at front conn ≡ Some connection)
     (own : id.conn ≡ conn) (reads_so : barrier_answered bytes ≡ Some id) where
   pub delivers_ok : deliver front fixed.master (Line bytes)
-      ≡ with_turned front conn (ok_comes fixed.setting (ways_for fixed front.replica) conn connection id)
+      ≡ with_turned front conn (ok_comes fixed.setting (ways_for fixed node front.replica) conn connection id)
   unfolding deliver line_from ok_at
   delivers_ok =
       let from_master : pointwise nat_eq fixed.master front.master ≡ true =
@@ -84,8 +84,8 @@ module _ (fixed : Fixed) (world : World) (story : Tale) (node : List ℕ) (front
       (place.is_barred (barrier.answered table))
       → OpenStep fixed world story fixed.master node front conn inputs held connection
       (world_after (taken_from_link world fixed.master node) node front conn
-      (released (ok_comes fixed.setting (ways_for fixed front.replica) conn connection id).connection)
-      (ok_comes fixed.setting (ways_for fixed front.replica) conn connection id).outs)
+      (released (ok_comes fixed.setting (ways_for fixed node front.replica) conn connection id).connection)
+      (ok_comes fixed.setting (ways_for fixed node front.replica) conn connection id).outs)
   ok_by bytes id rest first reads_so own table over its has_all seen (of_mailbox waiting) =
       let here : Place = place.is_barred (barrier.answered table) in
       let base : World = taken_from_link world fixed.master node in
@@ -93,8 +93,8 @@ module _ (fixed : Fixed) (world : World) (story : Tale) (node : List ℕ) (front
       record { count = standing.count; client = standing.client; nothing = over; is_told = before.is_told; waiting = waiting } in
       let c : ClientCommand = waiting.c in
       turned_step fixed world story fixed.master node front conn inputs held connection before standing
-      (ok_comes fixed.setting (ways_for fixed front.replica) conn connection id) (waits_live connection waiting.tag c.waiting waiting.stage)
-      (subst (λ i. StandsSo fixed node front.replica conn inputs held base story (ok_comes fixed.setting (ways_for fixed front.replica) conn connection i))
+      (ok_comes fixed.setting (ways_for fixed node front.replica) conn connection id) (waits_live connection waiting.tag c.waiting waiting.stage)
+      (subst (λ i. StandsSo fixed node front.replica conn inputs held base story (ok_comes fixed.setting (ways_for fixed node front.replica) conn connection i))
       ((waiting.of).its ∙ sym its)
       (ok_turns fixed node front.replica conn inputs held connection base story table heard
       (inputs_may_come fixed world story node front conn inputs held connection before fixed.master)
@@ -103,19 +103,19 @@ module _ (fixed : Fixed) (world : World) (story : Tale) (node : List ℕ) (front
       before.requests seen has_all
       (λ cause at. cleared_backend (home_at world) (front.replica).records (before.may).knows fixed.first (before.may).first fixed.master c.id c.was c.waiting
       cause at)))
-      (ok_reader fixed.setting (ways_for fixed front.replica) conn connection id)
+      (ok_reader fixed.setting (ways_for fixed node front.replica) conn connection id)
       (λ other ne. ok_stays fixed world node bytes id rest other (before.may).frontend first reads_so (λ e. ne (e ∙ own)))
   ok_by bytes id rest first reads_so own table over its has_all seen (of_names it) =
       let base : World = taken_from_link world fixed.master node in
       let heard : IsHeardFor fixed node front.replica conn inputs held connection base story it.tag it.it =
       record { count = standing.count; client = standing.client; nothing = over; is_told = before.is_told; next = it.next } in
       turned_step fixed world story fixed.master node front conn inputs held connection before standing
-      (ok_comes fixed.setting (ways_for fixed front.replica) conn connection id) (lists_live connection it.tag it.listing it.stage)
-      (subst (λ i. StandsSo fixed node front.replica conn inputs held base story (ok_comes fixed.setting (ways_for fixed front.replica) conn connection i))
+      (ok_comes fixed.setting (ways_for fixed node front.replica) conn connection id) (lists_live connection it.tag it.listing it.stage)
+      (subst (λ i. StandsSo fixed node front.replica conn inputs held base story (ok_comes fixed.setting (ways_for fixed node front.replica) conn connection i))
       (sym its)
       (listed_turns fixed node front.replica conn inputs held connection base story table it heard
       (inputs_may_come fixed world story node front conn inputs held connection before fixed.master) has_all))
-      (ok_reader fixed.setting (ways_for fixed front.replica) conn connection id)
+      (ok_reader fixed.setting (ways_for fixed node front.replica) conn connection id)
       (λ other ne. ok_stays fixed world node bytes id rest other (before.may).frontend first reads_so (λ e. ne (e ∙ own)))
 
   pub ok_step : (bytes : List ℕ) (id : AskId) (rest : List LinkMsg) → on_link world.links fixed.master node ≡ Line bytes ∷ rest
@@ -128,7 +128,7 @@ module _ (fixed : Fixed) (world : World) (story : Tale) (node : List ℕ) (front
       let is = takes_ok fixed.master (home_at world) world.links node bytes id rest node front.replica next standing.here frontend first reads_so own
       standing.placed in
       let here : Place = place.is_barred (barrier.answered is.table) in
-      let turned : Turned = ok_comes fixed.setting (ways_for fixed front.replica) conn connection id in
+      let turned : Turned = ok_comes fixed.setting (ways_for fixed node front.replica) conn connection id in
       subst (λ w. OpenStep fixed world story fixed.master node front conn inputs held connection w)
       (sym (ok_comes_so bytes turned (delivers_ok fixed front conn connection bytes id before.setting_is before.master_is before.first_is (before.at).has own
       reads_so)))

@@ -149,7 +149,7 @@ module _ (fixed : Fixed) (world : World) (story : Tale) (from node : List ℕ) (
 
   -- it counts, as it comes from the server that was asked
   delivers_answer : (answer : BackAnswer) (tag : Tag) (it : WaitingFor) → (answer.id).conn ≡ conn → connection.stage ≡ Waits tag it → it.at ≡ Home from
-      → deliver front from (Answer answer) ≡ with_turned front conn (answer_comes fixed.setting (ways_for fixed front.replica) conn connection answer)
+      → deliver front from (Answer answer) ≡ with_turned front conn (answer_comes fixed.setting (ways_for fixed node front.replica) conn connection answer)
   unfolding deliver answer_from answer_at waits_for has_asked
   delivers_answer answer tag it own stage asked =
       let there : connection_at front (answer.id).conn ≡ Some connection = ap (connection_at front) own ∙ (before.at).has in
@@ -178,7 +178,7 @@ module _ (fixed : Fixed) (world : World) (story : Tale) (from node : List ℕ) (
       let frontend = (before.may).frontend in
       let is = takes_answer fixed.master (home_at world) world.links from node answer rest node front.replica id standing.here frontend first own
       standing.placed in
-      let turned : Turned = answer_comes fixed.setting (ways_for fixed front.replica) conn connection answer in
+      let turned : Turned = answer_comes fixed.setting (ways_for fixed node front.replica) conn connection answer in
       let base : World = taken_from_link world from node in
       let here : Place = place.is_answered from answer in
       let waiting = answer_of fixed node conn inputs held connection (story.told conn) (story.talk.answers conn) (story.course.sessions conn) from answer
@@ -191,5 +191,5 @@ module _ (fixed : Fixed) (world : World) (story : Tale) (from node : List ℕ) (
       (inputs_may_come fixed world story node front conn inputs held connection before from)
       (may_send fixed world story node front conn inputs held connection before from (story.talk.answers conn) (story.course.sessions conn) here waiting)
       names)
-      (answer_reader fixed.setting (ways_for fixed front.replica) conn connection answer)
+      (answer_reader fixed.setting (ways_for fixed node front.replica) conn connection answer)
       (λ other ne. answer_stays fixed world from node answer rest other frontend first (λ e. ne (e ∙ own))))

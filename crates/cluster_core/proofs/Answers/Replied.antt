@@ -41,8 +41,8 @@ use Rattle.cluster_core.proofs.Answers.Tells.{IsTold}
 abbrev pub InputsCome : Fixed → List ℕ → Replica → ℕ → List Input → Option (List ℕ) → World → Tale → Type 0
 InputsCome fixed front replica conn inputs held before story = (passed new : List Input) (connection : Connection) (world : World)
     → passed ++ new ≡ inputs → FaultsLast new held → ReadsOn fixed front replica conn passed connection before story world
-    → StandsOn fixed front replica conn inputs held (inputs_come fixed.setting (ways_for fixed replica) conn connection new).connection before story
-    (carry_all front world (inputs_come fixed.setting (ways_for fixed replica) conn connection new).outs)
+    → StandsOn fixed front replica conn inputs held (inputs_come fixed.setting (ways_for fixed front replica) conn connection new).connection before story
+    (carry_all front world (inputs_come fixed.setting (ways_for fixed front replica) conn connection new).outs)
 
 -- the message for which the command of a connection waited at this place was taken, and so it is nowhere
 pub record IsHeard (fixed : Fixed) (front : List ℕ) (replica : Replica) (conn : ℕ) (inputs : List Input) (held : Option (List ℕ))
@@ -160,10 +160,10 @@ module _ (fixed : Fixed) (front : List ℕ) (replica : Replica) (conn : ℕ) (in
         })
 
     pub read_stands : InputsCome fixed front replica conn inputs held world story
-        → StandsOn fixed front replica conn inputs held (reads_on fixed.setting (ways_for fixed replica) conn later how text).connection world story
-        (carry_all front world (reads_on fixed.setting (ways_for fixed replica) conn later how text).outs)
+        → StandsOn fixed front replica conn inputs held (reads_on fixed.setting (ways_for fixed front replica) conn later how text).connection world story
+        (carry_all front world (reads_on fixed.setting (ways_for fixed front replica) conn later how text).outs)
     read_stands come =
-        let behind : Turned = inputs_come fixed.setting (ways_for fixed replica) conn (reading_again later) connection.waiting in
+        let behind : Turned = inputs_come fixed.setting (ways_for fixed front replica) conn (reading_again later) connection.waiting in
         subst (λ w. StandsOn fixed front replica conn inputs held behind.connection world story w)
         (sym (carry_all-append front world (told_so conn later how text) behind.outs))
         (come passed connection.waiting (reading_again later) (carry_all front world (told_so conn later how text))

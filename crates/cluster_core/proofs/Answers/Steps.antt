@@ -84,7 +84,7 @@ module _ (fixed : Fixed) (world : World) (story : Tale) (node : List ℕ) (front
   -- the inputs that waited come behind it
   pub inputs_may_come : InputsCome fixed node front.replica conn inputs held (taken_from_link world from node) story
   inputs_may_come passed new later next parts last reads =
-      let behind : Turned = inputs_come fixed.setting (ways_for fixed front.replica) conn later new in
+      let behind : Turned = inputs_come fixed.setting (ways_for fixed node front.replica) conn later new in
       subst (λ (all : List Input). StandsOn fixed node front.replica conn all held behind.connection (taken_from_link world from node) story
       (carry_all node next behind.outs)) parts
       (inputs_kept fixed node front.replica conn new held (taken_from_link world from node) story (record { may = before.may; numbers = before.numbers }) last

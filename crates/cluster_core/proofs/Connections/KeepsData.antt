@@ -154,7 +154,7 @@ module _ (config : Config) (heard : ℕ → Heard) (world : World) (law : KeepsL
       let step : bytes_in front conn more ≡ turned_so front conn kept its_turn.outs = does ∙ ap (with_turned front conn) turned_same in
       let read : having_read (setting_of config) connection more ≡ having_read (setting_of config) connection more = refl in
       let reads_so : HasBegunSo its_turn.connection (reading_of (setting_of config) (bytes ++ more)) =
-      inr (inputs_keep_reader (setting_of config) (ways_same config front) conn (having_read (setting_of config) connection more)
+      inr (inputs_keep_reader (setting_of config) (ways_same config node front) conn (having_read (setting_of config) connection more)
       (inputs_of_more (setting_of config) connection.reader more)
       ∙ sym (reading_with_more (setting_of config) bytes more connection.reader (sym reader))) in
       subst (λ s. KeepsOn config law.story after (with_front world node s)) (sym step)

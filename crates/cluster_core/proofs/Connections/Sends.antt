@@ -17,17 +17,19 @@ use Rattle.cluster_core.specs.declared.world.World.{World}
 use Rattle.cluster_core.specs.World.{home_at}
 use Rattle.cluster_core.proofs.Commands.Place.{Place, Place as place}
 use Rattle.cluster_core.proofs.Commands.Standing.{Fixed}
+use Rattle.cluster_core.proofs.Connections.AsksFirst.{IsLinked}
 use Rattle.cluster_core.proofs.Connections.ConnectionLaw.{IsInPlaceOf, PlacesStay}
 use Rattle.cluster_core.proofs.Connections.KeepsLaw.{NamesBackends}
 use Rattle.cluster_core.proofs.Places.FrontSends.{sends_ask, sends_noop}
 use Rattle.cluster_core.proofs.Places.FrontWorlds.{ask_stays, noop_stays, with_sent}
 use Rattle.cluster_core.proofs.Places.Stays.{IsFrontend}
 
--- a frontend with this replica: each record names a backend, and so does what it asks without one
+-- a frontend with this replica: each record names a backend, and so does what it asks without one; its links to the master and to the backends are up
 pub record MayAsk (fixed : Fixed) (nodes : Nodes) (front : List ℕ) (replica : Replica) : Type 0 where
   pub frontend : IsFrontend fixed.master nodes front
   pub knows : NamesBackends nodes replica.records
   pub first : IsSome (nodes fixed.first)
+  pub up : IsLinked (fixed.ups front) fixed.master nodes
 
 -- the command that was nowhere is here then, and those of every other connection are where they were
 pub record SendsSo (fixed : Fixed) (world next : World) (front : List ℕ) (replica : Replica) (id : AskId) (here : Place) : Type 0 where
