@@ -33,6 +33,7 @@ use Rattle.feed_core.specs.declared.rec.Rec.TheVariants.{Active, Reserved}
 use Rattle.front_core.specs.Reading.{inputs_of_more}
 use Rattle.imap_talk.specs.declared.inputs.Input.{Input}
 use Rattle.imap_talk.specs.declared.inputs.Input.TheVariants.{GoesOn, Asks, Faults}
+use Rattle.imap_reply.specs.ReplyText.{reply_text}
 use Rattle.imap_types.specs.declared.command.Tag.{Tag}
 use Rattle.imap_types.specs.declared.op.Op.TheVariants as op
 use Rattle.imap_types.specs.declared.reply.Reply.{Reply}
@@ -43,12 +44,14 @@ use Rattle.link_msg.specs.declared.answer.AnswerBody.TheVariants as answer_body
 use Rattle.link_msg.specs.declared.answer.BackAnswer.{BackAnswer}
 use Rattle.link_msg.specs.declared.ask.FrontAsk.{FrontAsk}
 use Rattle.link_msg.specs.declared.how.How.{How}
+use Rattle.link_msg.specs.declared.how.How.TheVariants.{Behind, Unreached}
 use Rattle.link_msg.specs.declared.message.LinkMsg.{LinkMsg}
 use Rattle.link_msg.specs.declared.message.LinkMsg.TheVariants.{Up, End, Line, Ask, Answer}
 use Rattle.link_msg.specs.declared.out.Out.{Out}
 use Rattle.link_msg.specs.declared.out.Out.TheVariants.{Client, Close, Link, Mark, Told}
 use Rattle.mur_base.specs.Map.{with_entry, with_value}
 use Rattle.mur_base.specs.declared.point.AskId.{AskId}
+use Rattle.mur_base.specs.declared.point.What.TheVariants.{Unreached as unreached}
 use Rattle.mur_base.proofs.MapLaws.{numbers_apart, same_or_other, value_at-with_entry-other, value_at-with_value-other}
 use Rattle.mur_model.specs.declared.commands.list.Listing.{Listing}
 use Rattle.mur_model.specs.declared.need.Asking.{Asking}
@@ -57,19 +60,20 @@ use Rattle.mur_model.specs.declared.need.Need.TheVariants as needs
 use Rattle.mur_model.specs.declared.session.Sess.{Sess}
 use Rattle.mur_model.specs.declared.setting.Setting.{Setting}
 use Rattle.session_core.specs.Begin.{begin}
+use Rattle.session_core.specs.Relocated.{Refused, relocated}
 use Rattle.front_core.specs.declared.connection.Connection.{Connection}
 use Rattle.front_core.specs.declared.connection.Stage.{Stage}
 use Rattle.front_core.specs.declared.connection.Stage.TheVariants.{Reading, Waits, Lists, Ended}
 use Rattle.front_core.specs.declared.front.Front.{Front}
 use Rattle.front_core.specs.Answered.{answer_by, answer_comes, by_then, clears_at, end_by, end_comes, ends_at, need_behind, ok_by, ok_comes, reading_again}
-use Rattle.front_core.specs.Answered.{reads_on, sends_if, waiting_come}
+use Rattle.front_core.specs.Answered.{how_for, reads_on, refused_behind, sends_if, waiting_come}
 use Rattle.front_core.specs.Ended.{released}
 use Rattle.front_core.specs.Front.{Stepped, answer_at, answer_from, bytes_by, bytes_in, connect, connect_at, connection_at, deliver, front_bytes_at}
 use Rattle.front_core.specs.Front.{all_end, awaited, end_at, end_from, end_if, front_hang_at, hang, having_read, hung_up, line_by, line_from, ok_at, one_ends}
 use Rattle.front_core.specs.Front.{up_from, waits_for, ways_of, with_up, without_up}
 use Rattle.front_core.specs.Slots.{new_connection}
 use Rattle.front_core.specs.Taken.{Turned, Ways, answers_last, asks, begins_if, comes_at, input_comes, input_in, inputs_come, lists, lists_if, next_of, request_in}
-use Rattle.front_core.specs.Taken.{to_begin, told_now, turned_by_need}
+use Rattle.front_core.specs.Taken.{list_refused, to_begin, told_now, turned_by_need}
 use Rattle.front_core.specs.Ups.{Ups, is_up}
 
 -- bytes for these clients alone, messages for these nodes alone, and marks where they may be
@@ -283,6 +287,10 @@ module _ (own : ℕ → Type 0) (may : List ℕ → LinkMsg → Type 0) (ways : 
   read_let setting connection session how text =
       (it_is, (tt, inputs_let setting (reading_again (record connection { session = session })) connection.waiting))
 
+  refused_let : (setting : Setting) (connection : Connection) (tag : Tag) (refused : Refused) (node : List ℕ)
+      → AreLet (refused_behind setting ways conn connection tag refused node).outs
+  refused_let setting connection tag refused node = read_let setting connection refused.session (Unreached node) (reply_text tag refused.reply)
+
   waiting_let : (setting : Setting) (turned : Turned) → AreLet turned.outs → AreLet (waiting_come setting ways conn turned).outs
   waiting_let setting turned let_out =
       both_let own may ⊥ turned.outs (inputs_come setting ways conn (record turned.connection { waiting = [] }) (turned.connection).waiting).outs let_out
@@ -290,7 +298,7 @@ module _ (own : ℕ → Type 0) (may : List ℕ → LinkMsg → Type 0) (ways : 
 
   behind_let : (setting : Setting) (connection : Connection) (tag : Tag) (how : How) (need : Need)
       → AreLet (need_behind setting ways conn connection tag how need).outs
-  behind_let setting connection tag how (needs.Reply reply) = read_let setting connection connection.session how _
+  behind_let setting connection tag how (needs.Reply reply) = read_let setting connection connection.session how (reply_text tag reply)
   behind_let setting connection tag how (needs.Leave reply) = (it_is, (tt, (tt, tt)))
   behind_let setting connection tag how (needs.Home name asking) =
       waiting_let setting (asks ways conn (record connection { stage = Reading }) tag name asking)
@@ -301,13 +309,15 @@ module _ (own : ℕ → Type 0) (may : List ℕ → LinkMsg → Type 0) (ways : 
   sends_let : (setting : Setting) (up : Bool) (connection : Connection) (tag : Tag) (it : Waiting) (sent : Sent) → may sent.to sent.message
       → AreLet (sends_if up setting ways conn connection tag it sent).outs
   sends_let setting true connection tag it sent there = (there, tt)
-  sends_let setting false connection tag it sent there = read_let setting connection _ _ _
+  sends_let setting false connection tag it sent there =
+      refused_let setting connection tag (relocated connection.session it.asking.awaited (unreached sent.to)) sent.to
 
   then_let : (setting : Setting) (connection : Connection) (tag : Tag) (it : Waiting) (what : Then) → GoesThere may what
       → AreLet (by_then setting ways conn connection tag it what).outs
   then_let setting connection tag it (then.Sends sent) there = sends_let setting (is_up ways.ups sent.to) connection tag it sent there
-  then_let setting connection tag it (then.Needs need) there = behind_let setting connection tag _ need
-  then_let setting connection tag it (then.Refused cause reply) there = read_let setting connection connection.session _ _
+  then_let setting connection tag it (then.Needs need) there = behind_let setting connection tag Behind need
+  then_let setting connection tag it (then.Refused cause reply) there =
+      read_let setting connection connection.session (how_for cause) (reply_text tag reply)
   then_let setting connection tag it then.Lost there = (it_is, (tt, tt))
   then_let setting connection tag it then.Stays there = tt
 
@@ -346,12 +356,13 @@ module _ (own : ℕ → Type 0) (may : List ℕ → LinkMsg → Type 0) (ways : 
   ends_let : (setting : Setting) (connection : Connection) (tag : Tag) (it : Waiting) (at : At)
       → AreLet (ends_at setting ways conn connection tag it at).outs
   ends_let setting connection tag it (Home server) = (it_is, (tt, tt))
-  ends_let setting connection tag it (Barrier why) = read_let setting connection _ _ _
+  ends_let setting connection tag it (Barrier why) =
+      refused_let setting connection tag (relocated connection.session it.asking.awaited (unreached ways.master)) ways.master
 
   end_by_let : (setting : Setting) (connection : Connection) (stage : Stage) → AreLet (end_by setting ways conn connection stage).outs
   unfolding end_by
   end_by_let setting connection (Waits tag it) = ends_let setting connection tag it it.at
-  end_by_let setting connection (Lists tag it) = read_let setting connection _ _ _
+  end_by_let setting connection (Lists tag it) = refused_let setting connection tag (list_refused connection.session) ways.master
   end_by_let setting connection Reading = tt
   end_by_let setting connection Ended = tt
 
