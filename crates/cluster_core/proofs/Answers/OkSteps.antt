@@ -43,9 +43,9 @@ use Rattle.cluster_core.proofs.Answers.Steps.{IsBefore, inputs_may_come, may_sen
 
 -- ---- the frontend takes the OK of the command
 
-module _ (fixed : Fixed) (front : Front) (conn : ℕ) (connection : Connection) (bytes : List ℕ) (id : AskId) (setting_is : front.setting ≡ fixed.setting)
-    (master_is : front.master ≡ fixed.master) (first_is : front.first ≡ fixed.first) (has : connection_at front conn ≡ Some connection)
-    (own : id.conn ≡ conn) (reads_so : barrier_answered bytes ≡ Some id) where
+module _ (fixed : Fixed) (node : List ℕ) (front : Front) (conn : ℕ) (connection : Connection) (bytes : List ℕ) (id : AskId)
+    (setting_is : front.setting ≡ fixed.setting) (master_is : front.master ≡ fixed.master) (ways_is : ways_of front ≡ ways_for fixed node front.replica)
+    (has : connection_at front conn ≡ Some connection) (own : id.conn ≡ conn) (reads_so : barrier_answered bytes ≡ Some id) where
   pub delivers_ok : deliver front fixed.master (Line bytes)
       ≡ with_turned front conn (ok_comes fixed.setting (ways_for fixed node front.replica) conn connection id)
   unfolding deliver line_from ok_at
@@ -56,10 +56,7 @@ module _ (fixed : Fixed) (front : Front) (conn : ℕ) (connection : Connection) 
       ∙ ap (ok_at front id) (ap (connection_at front) own ∙ has)
       ∙ ap (λ c. with_turned front c (ok_comes front.setting (ways_of front) c connection id)) own
       ∙ ap (λ (s : Setting). with_turned front conn (ok_comes s (ways_of front) conn connection id)) setting_is
-      ∙ ap (λ (m : List ℕ). with_turned front conn (ok_comes fixed.setting (record { recs = (front.replica).records; master = m; first = front.first }) conn
-      connection id)) master_is
-      ∙ ap (λ (f : List ℕ). with_turned front conn (ok_comes fixed.setting (record { recs = (front.replica).records; master = fixed.master; first = f }) conn
-      connection id)) first_is
+      ∙ ap (λ ways. with_turned front conn (ok_comes fixed.setting ways conn connection id)) ways_is
 
 module _ (fixed : Fixed) (world : World) (story : Tale) (node : List ℕ) (front : Front) (conn : ℕ) (inputs : List Input) (held : Option (List ℕ))
     (connection : Connection) (before : IsBefore fixed world story node front conn inputs connection)
@@ -130,7 +127,7 @@ module _ (fixed : Fixed) (world : World) (story : Tale) (node : List ℕ) (front
       let here : Place = place.is_barred (barrier.answered is.table) in
       let turned : Turned = ok_comes fixed.setting (ways_for fixed node front.replica) conn connection id in
       subst (λ w. OpenStep fixed world story fixed.master node front conn inputs held connection w)
-      (sym (ok_comes_so bytes turned (delivers_ok fixed front conn connection bytes id before.setting_is before.master_is before.first_is (before.at).has own
+      (sym (ok_comes_so bytes turned (delivers_ok fixed node front conn connection bytes id before.setting_is before.master_is before.ways_is (before.at).has own
       reads_so)))
       (ok_by bytes id rest first reads_so own is.table is.over is.own is.has_all
       (subst (IsMarkedAt story.talk.moving world.marks next) is.here_is standing.marked)

@@ -158,10 +158,7 @@ module _ (fixed : Fixed) (world : World) (story : Tale) (from node : List ℕ) (
       ap (λ b. answer_from b front answer) waits_so ∙ ap (answer_at front answer) there
       ∙ ap (λ c. with_turned front c (answer_comes front.setting (ways_of front) c connection answer)) own
       ∙ ap (λ (s : Setting). with_turned front conn (answer_comes s (ways_of front) conn connection answer)) before.setting_is
-      ∙ ap (λ (m : List ℕ). with_turned front conn (answer_comes fixed.setting (record { recs = (front.replica).records; master = m; first = front.first }) conn
-      connection answer)) before.master_is
-      ∙ ap (λ (f : List ℕ). with_turned front conn (answer_comes fixed.setting (record { recs = (front.replica).records; master = fixed.master; first = f })
-      conn connection answer)) before.first_is
+      ∙ ap (λ ways. with_turned front conn (answer_comes fixed.setting ways conn connection answer)) before.ways_is
 
   answer_comes_so : (answer : BackAnswer) (turned : Turned) → deliver front from (Answer answer) ≡ with_turned front conn turned
       → comes (taken_from_link world from node) node (From from (Answer answer))

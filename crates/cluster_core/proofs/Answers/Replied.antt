@@ -21,12 +21,13 @@ use Rattle.imap_types.specs.declared.command.Tag.{Tag}
 use Rattle.imap_types.specs.declared.reply.Reply.{Reply}
 use Rattle.imap_types.specs.declared.request.Answer.{Answer}
 use Rattle.link_msg.specs.declared.how.How.{How}
-use Rattle.mark_history.specs.Marked.{AreMarked, Tale}
+use Rattle.mark_history.specs.Marked.{Tale}
 use Rattle.mark_history.specs.declared.mark.MarkKind.TheVariants.{Told}
 use Rattle.mur_base.proofs.MapLaws.{numbers_apart, value_at-with_value}
 use Rattle.mur_model.specs.declared.session.Sess.{Sess}
 use Rattle.cluster_core.specs.declared.world.World.{World}
 use Rattle.cluster_core.specs.World.{carry_all, client_at, home_at}
+use Rattle.cluster_core.proofs.Commands.AllReached.{AreMarkedSo}
 use Rattle.cluster_core.proofs.Commands.Place.{Place, Place as place}
 use Rattle.cluster_core.proofs.Commands.Standing.{Fixed, IsNext, Waiting, next_id}
 use Rattle.cluster_core.proofs.Commands.Standing.Stands.{finished}
@@ -50,7 +51,7 @@ pub record IsHeard (fixed : Fixed) (front : List ℕ) (replica : Replica) (conn 
   pub count : connection.answered ≡ length (story.told conn)
   pub client : client_at world conn ≡ Some (client_with front inputs (story.told conn))
   pub nothing : IsInPlaceOf fixed world front replica (next_id conn (story.told conn)) place.nowhere
-  pub is_told : AreMarked fixed.setting world.steps world.marks story
+  pub is_told : AreMarkedSo fixed.setting world.steps world.marks story
   pub waiting : Waiting fixed front conn inputs held connection (story.told conn) (story.talk.answers conn) (story.course.sessions conn) here
 
 -- whatever request it was that waited for it
@@ -59,7 +60,7 @@ pub record IsHeardFor (fixed : Fixed) (front : List ℕ) (replica : Replica) (co
   pub count : connection.answered ≡ length (story.told conn)
   pub client : client_at world conn ≡ Some (client_with front inputs (story.told conn))
   pub nothing : IsInPlaceOf fixed world front replica (next_id conn (story.told conn)) place.nowhere
-  pub is_told : AreMarked fixed.setting world.steps world.marks story
+  pub is_told : AreMarkedSo fixed.setting world.steps world.marks story
   pub next : IsNext inputs held connection (story.told conn) tag it
 
 pub heard_for : (fixed : Fixed) (front : List ℕ) (replica : Replica) (conn : ℕ) (inputs : List Input) (held : Option (List ℕ)) (connection : Connection)
@@ -104,7 +105,7 @@ module _ (fixed : Fixed) (front : List ℕ) (replica : Replica) (conn : ℕ) (in
     others = told_keeps fixed world conn was text (next_of conn connection) how refl;
     goes_on = told.goes_on;
     store = told.store;
-    is_told = subst (λ n. AreMarked fixed.setting world.steps
+    is_told = subst (λ n. AreMarkedSo fixed.setting world.steps
         (world.marks ++ (record { step = world.steps; ask = record { conn = conn; command = n + 1 }; kind = Told how }) ∷ []) told.later)
         (sym heard.count) told.is_told;
   }

@@ -1,6 +1,7 @@
 -- In each step of a run an ask is one of a frontend, to the server to which its records send it, and a line of a frontend goes to the master, rightly.
 use Rattle.std.proofs.Common.{◌≡◌, ◌≢◌, ℕ, Bool, true, false, cond, List, [], ◌∷◌, ◌++◌, Option, None, Some, refl, sym, ◌∙◌, ap, subst, All, append_assoc}
 use Rattle.std.specs.Prelude.{slice_get}
+use Rattle.std.specs.List.{AllByRecursion}
 use Rattle.std.specs.Ordering.{nat_cmp}
 use Rattle.std.specs.Cmp.Lexicographic.{slice_cmp}
 use Rattle.std.proofs.lemmas.List.{append-nil, append_cancel_left}
@@ -39,7 +40,7 @@ use Rattle.cluster_core.proofs.Asking.NodeAsks.{KnowsFirst, MovesNobody, node_as
 use Rattle.cluster_core.proofs.Runs.NeverMoved.{WorldIsQuiet, given_links, never_moved, quiet_moves_none}
 use Rattle.cluster_core.proofs.Runs.NotLost.{let_left}
 use Rattle.cluster_core.proofs.Runs.OneNodeLaw.{carry_all_sends, nothing_first, one_more_step, same_worker}
-use Rattle.cluster_core.proofs.Runs.QuietNodes.{AnyClient}
+use Rattle.cluster_core.proofs.Runs.QuietNodes.{AnyClient, IsQuiet}
 use Rattle.cluster_core.proofs.Starts.Kinds.{first_backend}
 
 -- ---- what outputs put on a link
@@ -144,7 +145,7 @@ module _ (nodes : List Node) where
       → WorldIsQuiet world → MovesNobody (From from message)
   moved_to_none world from to (Answer answer) rest e quiet = λ server moved. quiet_moves_none world from to answer rest server quiet e moved
   moved_to_none world from to Up rest e quiet = tt
-  moved_to_none world from to End rest e quiet = tt
+  moved_to_none world from to End rest e quiet = (subst (AllByRecursion IsQuiet) e (quiet.links from to)).0
   moved_to_none world from to (Line line) rest e quiet = tt
   moved_to_none world from to (Ask ask) rest e quiet = tt
 

@@ -32,13 +32,13 @@ use Rattle.imap_wire.specs.Frames.{begun, frames}
 use Rattle.imap_wire.specs.More.{frames_of_more}
 use Rattle.imap_wire.proofs.FeedLaws.{frames-nil}
 use Rattle.imap_wire.proofs.MoreLaws.{frames_of_more-length, frames_with_more}
-use Rattle.mark_history.specs.Marked.{AreMarked, Tale, asking}
-use Rattle.mark_history.specs.Marked.AreMarked.{asks as asks_more}
+use Rattle.mark_history.specs.Marked.{Tale, asking}
 use Rattle.mur_config.specs.declared.config.Config.{Config}
 use Rattle.mur_model.specs.History.{GoesOn}
 use Rattle.mur_model.specs.declared.setting.Setting.{Setting}
 use Rattle.schedule_text.specs.declared.event.Event.TheVariants.{Data}
 use Rattle.cluster_core.specs.declared.world.World.{World}
+use Rattle.cluster_core.proofs.Commands.AllReached.{AreMarkedSo, asks as asks_more}
 use Rattle.cluster_core.proofs.Commands.Released.{waits_next}
 use Rattle.cluster_core.proofs.Commands.Standing.{Fixed, IsNext, Lists, Stands, Waiting}
 use Rattle.cluster_core.proofs.Commands.Standing.Stands.{lists, waits}
@@ -215,7 +215,7 @@ module _ (config : Config) (heard : ℕ → Heard) (world : World) (law : KeepsL
       let few : length (told.talk.requests conn) < 2 ^ 64 = omega (arith, ap length so, bytes_many (setting_of config) (bytes ++ more), its_numbers.1) in
       (its_numbers.0, few)
 
-  pub now_told : (held : Read) → reading_of (setting_of config) bytes ≡ held → AreMarked (setting_of config) world.steps world.marks told
+  pub now_told : (held : Read) → reading_of (setting_of config) bytes ≡ held → AreMarkedSo (setting_of config) world.steps world.marks told
   now_told held is =
       asks_more world.steps world.marks law.story _ (asked_more config heard conn bytes more held e is law.story.talk.requests law.requests) law.is_told
 

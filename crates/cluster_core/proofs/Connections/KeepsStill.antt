@@ -11,8 +11,7 @@ use Rattle.front_core.specs.declared.front.Front.{Front}
 use Rattle.imap_talk.specs.Heard.{Heard, frames_heard}
 use Rattle.imap_talk.proofs.RequestsOf.{requests_of}
 use Rattle.many_links.specs.ManyHold.{ManyHold}
-use Rattle.mark_history.specs.Marked.{AreMarked, Tale, talk_told}
-use Rattle.mark_history.specs.Marked.AreMarked.{a_step}
+use Rattle.mark_history.specs.Marked.{Tale, talk_told}
 use Rattle.master_core.specs.declared.master.Master.{Master}
 use Rattle.mur_base.specs.Map.{value_at}
 use Rattle.std.specs.BTreeMap.{is_at}
@@ -25,6 +24,7 @@ use Rattle.node_step.specs.declared.node.NodeState.TheVariants as state
 use Rattle.node_step.specs.NodeStep.{as_back, as_front, as_master}
 use Rattle.cluster_core.specs.declared.world.World.{World}
 use Rattle.std.proofs.lemmas.Option.{same_Some}
+use Rattle.cluster_core.proofs.Commands.AllReached.{AreMarkedSo, a_step}
 use Rattle.cluster_core.proofs.Commands.Place.{Place}
 use Rattle.cluster_core.proofs.Commands.Standing.{Fixed}
 use Rattle.cluster_core.proofs.Connections.ConnectionLaw.{IsInNoneOf, IsInPlaceOf, MarksStay, PlacesStay}
@@ -101,7 +101,7 @@ still_kept config heard after world next master alike same law nodes many feeds 
     given = law.given;
     many = many;
     feeds = feeds;
-    is_told = subst (λ m. AreMarked (setting_of config) next.steps m law.story) (sym alike.marks)
+    is_told = subst (λ m. AreMarkedSo (setting_of config) next.steps m law.story) (sym alike.marks)
         (a_step world.steps next.steps world.marks law.story alike.steps law.is_told);
     requests = λ conn. law.requests conn ∙ ap (λ h. requests_of (setting_of config) (frames_heard h)) (sym (same conn));
     connections = λ conn. subst (λ h. ConnectionIs (fixed_of config) conn next law.story h) (sym (same conn))

@@ -29,7 +29,7 @@ use Rattle.cluster_core.specs.Numbers.{NumbersFit}
 pub record StandsBeside (config : Config) (world : World) : Type 0 where
   -- whom the master tells of changes are clients connected to it
   pub watchers : (master : Master) → master_at world (master_of config) ≡ Some master → WatchersAreIts config world master
-  -- a server that an answer on its way names is a backend
+  -- a server that an answer on its way names is a backend, and nothing tells of a link
   pub names : (from to : List ℕ) (message : LinkMsg) (rest : List LinkMsg) → on_link world.links from to ≡ message ∷ rest
       → MessageNamesBackend (home_at world) message
   -- the master is sent messages by frontends and backends alone

@@ -15,7 +15,7 @@ use Rattle.cluster_core.specs.World.{home_of, master_of, carry, carry_all, clien
 use Rattle.feed_core.specs.Feed.{Recs}
 use Rattle.feed_core.specs.Routes.{server_at}
 use Rattle.front_core.specs.declared.front.Front.{Front}
-use Rattle.front_core.specs.Front.{deliver, new_front, up_from, ways_of}
+use Rattle.front_core.specs.Front.{deliver, new_front, up_from, ways_of, with_up}
 use Rattle.front_core.proofs.OwnOuts.{AreLetOut, IsLetOut, MayAsk}
 use Rattle.imap_talk.specs.Heard.{Heard}
 use Rattle.link_msg.specs.declared.answer.AnswerBody.TheVariants.{Moved}
@@ -348,7 +348,7 @@ module _ (config : Config) (are : AreNodes config.nodes) where
 
   ups_records : (it : NodeState) (from : List ℕ) → HasNoRecords it → HasNoRecords (node_takes it (From from Up)).state
   unfolding node_takes front_takes back_takes master_takes deliver
-  ups_records (state.Front front) from none = up_records front _ none
+  ups_records (state.Front front) from none = up_records (with_up front from) _ none
   ups_records (state.Back home) from none = tt
   ups_records (state.Master master) from none = tt
 

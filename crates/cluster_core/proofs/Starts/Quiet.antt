@@ -9,7 +9,7 @@ use Rattle.back_node.specs.Acted.{acted}
 use Rattle.cluster_core.specs.declared.world.Client.{Client}
 use Rattle.front_core.proofs.OneConnection.Places.{About, IsPlaced, about, about_command, nobody_whom, of_connection, of_nobody, others_sent, update_nobodys}
 use Rattle.front_core.specs.declared.front.Front.{Front}
-use Rattle.front_core.specs.Front.{deliver, up_from}
+use Rattle.front_core.specs.Front.{deliver, up_from, with_up}
 use Rattle.link_msg.specs.declared.message.LinkMsg.{LinkMsg}
 use Rattle.link_msg.specs.declared.message.LinkMsg.TheVariants.{Up}
 use Rattle.link_msg.specs.declared.out.Out.{Out}
@@ -58,7 +58,7 @@ back_ups home false = tt
 
 pub ups_nobodys : (it : NodeState) (from : List ℕ) → AreNobodys (up_acted it from).outs
 unfolding node_takes front_takes back_takes master_takes deliver taken_up node_says
-ups_nobodys (state.Front front) from = front_ups front (pointwise nat_eq from front.master)
+ups_nobodys (state.Front front) from = front_ups (with_up front from) (pointwise nat_eq from front.master)
 ups_nobodys (state.Back home) from = back_ups home (is_my_master home from)
 ups_nobodys (state.Master master) from = tt
 

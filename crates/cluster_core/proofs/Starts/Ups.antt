@@ -1,4 +1,4 @@
--- Links come up one after another: a node does something only where the link is its master's, and then it sends messages of nobody.
+-- Links come up one after another: a backend does something only where the link is its master's, and then it sends messages of nobody; the master does nothing.
 use Rattle.std.proofs.Common.{◌≡◌, ◌≢◌, ℕ, ◌+◌, ◌&&◌, nat_eq, Bool, true, false, cond, List, [], ◌∷◌, ◌++◌, Option, None, Some, refl, sym, ◌∙◌, ap, subst, arith}
 use Rattle.std.specs.List.{AllByRecursion}
 use Rattle.std.specs.Ordering.{nat_cmp, is_eq}
@@ -9,8 +9,6 @@ use Rattle.back_node.specs.Node.{is_my_master}
 use Rattle.back_node.specs.Takes.{taken_up, UpToEntry, passed_over}
 use Rattle.back_node.specs.Acted.{acted}
 use Rattle.feed_links.specs.Lines.{messages_to}
-use Rattle.front_core.specs.declared.front.Front.{Front}
-use Rattle.front_core.specs.Front.{Stepped, deliver, up_from}
 use Rattle.link_msg.specs.declared.message.LinkMsg.{LinkMsg}
 use Rattle.link_msg.specs.declared.message.LinkMsg.TheVariants.{Up}
 use Rattle.link_msg.specs.declared.out.Out.{Out}
@@ -24,25 +22,20 @@ use Rattle.mur_config.proofs.OncePairs.{times}
 use Rattle.node_step.specs.declared.input.NodeInput.TheVariants.{From}
 use Rattle.node_step.specs.declared.node.NodeState.{NodeState}
 use Rattle.node_step.specs.declared.node.NodeState.TheVariants as state
-use Rattle.node_step.specs.NodeStep.{Acted, back_takes, front_takes, idle, master_takes, takes as node_takes}
+use Rattle.node_step.specs.NodeStep.{Acted, back_takes, idle, master_takes, takes as node_takes}
 use Rattle.cluster_core.specs.declared.world.World.{World}
 use Rattle.cluster_core.specs.World.{node_at, told_up, with_ups}
 use Rattle.cluster_core.proofs.Nodes.Carried.{is_made, made}
 use Rattle.cluster_core.proofs.Nodes.Comes.{comes_by, made_here, made_other, none_comes}
 
--- the link is that of the node's master
+-- a frontend notes every link, a backend takes that of its master
 abbrev pub takes_up : NodeState → List ℕ → Bool
-takes_up (state.Front front) from = pointwise nat_eq from front.master
+takes_up (state.Front front) from = true
 takes_up (state.Back home) from = is_my_master home from
 takes_up (state.Master master) from = false
 
 abbrev pub up_acted : NodeState → List ℕ → Acted
 up_acted it from = node_takes it (From from Up)
-
-up_still : (front : Front) (same : Bool) → same ≡ false → up_from same front ≡ record { front = front; outs = [] }
-unfolding up_from
-up_still front false e = refl
-up_still front true e = cc
 
 up_passed : (home : BackNode) (from : List ℕ) → is_my_master home from ≡ false → taken_up home from Up ≡ passed_over home
 unfolding taken_up
@@ -53,9 +46,8 @@ passed_acted home = refl
 
 -- no other link is any matter to it
 pub no_up : (it : NodeState) (from : List ℕ) → takes_up it from ≡ false → up_acted it from ≡ idle it
-unfolding node_takes front_takes back_takes master_takes deliver node_says
-no_up (state.Front front) from e =
-    ap (λ (s : Stepped). record { state = state.Front s.front; outs = s.outs }) (up_still front (pointwise nat_eq from front.master) e)
+unfolding node_takes back_takes master_takes node_says
+no_up (state.Front front) from e = cc
 no_up (state.Back home) from e =
     ap (λ (u : UpToEntry). record { state = state.Back (acted u.node u.rest).state; outs = (acted u.node u.rest).outs }) (up_passed home from e)
     ∙ ap (λ next. record { state = state.Back next.state; outs = next.outs }) (passed_acted home)
@@ -109,7 +101,7 @@ told_by world link name (Some it) whole at ignores = ⊎_elim
     (made_leaves world link.to name (up_acted it link.from).state (up_acted it link.from).outs ne))
     (same_or_other (slice_cmp nat_cmp) names_apart name link.to)
 
-told_leaves : (world : World) (link : Link) (name : List ℕ) → world.broken ≡ [] → Ignores (node_at world name) name link
+pub told_leaves : (world : World) (link : Link) (name : List ℕ) → world.broken ≡ [] → Ignores (node_at world name) name link
     → LeavesNode world (told_up world link) name
 told_leaves world link name whole ignores =
     told_by world link name (node_at world link.to) whole refl
@@ -121,7 +113,7 @@ still_whole world link (Some it) whole at =
     ap (λ (w : World). w.broken) (up_comes world link it whole at)
     ∙ (is_made world link.to (up_acted it link.from).state (up_acted it link.from).outs).broken ∙ whole
 
-told_whole : (world : World) (link : Link) → world.broken ≡ [] → (told_up world link).broken ≡ []
+pub told_whole : (world : World) (link : Link) → world.broken ≡ [] → (told_up world link).broken ≡ []
 told_whole world link whole = still_whole world link (node_at world link.to) whole refl
 
 -- ---- several
@@ -166,7 +158,7 @@ pub record IsUpOnce (world next : World) (name master : List ℕ) (it : NodeStat
   pub node : node_at next name ≡ Some (up_acted it master).state
   pub sent : (other : List ℕ) → on_link next.links name other ≡ on_link world.links name other ++ messages_to other (up_acted it master).outs
 
-up_here : (world : World) (link : Link) (it : NodeState) → world.broken ≡ [] → node_at world link.to ≡ Some it
+pub up_here : (world : World) (link : Link) (it : NodeState) → world.broken ≡ [] → node_at world link.to ≡ Some it
     → IsUpOnce world (told_up world link) link.to link.from it
 up_here world link it whole at =
     let is = up_comes world link it whole at in
