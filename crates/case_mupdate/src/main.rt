@@ -2,13 +2,14 @@
 //! that doesn't.
 //!
 //! The kinds of cases: `command` and `response` take bytes, `ask` takes a tag, `tag` takes a command, `cut` takes the bytes of a connection;
-//! `long command` and `long cut` take bytes between which a text is repeated; `master` takes entries and steps, `replica`, `route` and `backend` take steps;
-//! `noop` takes a command, `answered` bytes.
+//! `long command` and `long cut` take bytes between which a text is repeated; `master` takes entries and steps, `replica`, `route`, `backend` and
+//! `front` take steps; `noop` takes a command, `answered` bytes.
 //! The first lines of each file say more.
 #![tactic(auto)]
 
 mod backends;
 mod cuts;
+mod fronts;
 mod lines;
 mod master;
 mod outs;
@@ -35,6 +36,7 @@ impl Cases for Kinds {
             ["long command", parts @ ..] => lines::put_long_command(alloc, parts, out),
             ["long cut", parts @ ..] => cuts::put_long_cut(alloc, parts, out),
             ["backend", steps @ ..] => backends::put(alloc, steps, out),
+            ["front", steps @ ..] => fronts::put(alloc, steps, out),
             ["master", steps @ ..] => master::put(alloc, steps, out),
             ["replica", steps @ ..] => replica::put(alloc, steps, out),
             ["route", steps @ ..] => routes::put(alloc, steps, out),

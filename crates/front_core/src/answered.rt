@@ -27,7 +27,8 @@ impl Connection {
         requires room { commands_of self.old < 2 ^ 64 }
         requires begun { IsBegun self.old }
         ensures { IfOk result (λ outs. record { connection = self.new; outs = outs }
-            ≡ answer_comes desk.entry.setting.now (ways_by desk.entry.replica.now.records desk.entry.master.now desk.entry.first.now desk.entry.ups.now) desk.entry.conn self.old answer) }
+            ≡ answer_comes desk.entry.setting.now (ways_by desk.entry.replica.now.records desk.entry.master.now desk.entry.first.now desk.entry.ups.now)
+                desk.entry.conn self.old answer) }
     {
         match &mut self.stage {
             Stage::Waits(_, it) if answer.id.command == self.answered + 1 => {
@@ -45,7 +46,8 @@ impl Connection {
         requires room { commands_of self.old < 2 ^ 64 }
         requires begun { IsBegun self.old }
         ensures { IfOk result (λ outs. record { connection = self.new; outs = outs }
-            ≡ ok_comes desk.entry.setting.now (ways_by desk.entry.replica.now.records desk.entry.master.now desk.entry.first.now desk.entry.ups.now) desk.entry.conn self.old id) }
+            ≡ ok_comes desk.entry.setting.now (ways_by desk.entry.replica.now.records desk.entry.master.now desk.entry.first.now desk.entry.ups.now)
+                desk.entry.conn self.old id) }
     {
         match &mut self.stage {
             Stage::Waits(_, it) if id.command == self.answered + 1 => {
@@ -67,7 +69,8 @@ impl Connection {
     pub(crate) fn end_comes(&mut self, desk: Desk) -> Result<Outs, Memory>
         requires room { commands_of self.old < 2 ^ 64 }
         ensures { IfOk result (λ outs. record { connection = self.new; outs = outs }
-            ≡ end_comes desk.entry.setting.now (ways_by desk.entry.replica.now.records desk.entry.master.now desk.entry.first.now desk.entry.ups.now) desk.entry.conn self.old) }
+            ≡ end_comes desk.entry.setting.now (ways_by desk.entry.replica.now.records desk.entry.master.now desk.entry.first.now desk.entry.ups.now)
+                desk.entry.conn self.old) }
     {
         match &self.stage {
             Stage::Waits(_, it) if it.barrier().is_none() => self.lost(desk),
@@ -83,7 +86,8 @@ impl Connection {
         requires room { commands_of self.old < 2 ^ 64 }
         requires fits { ThenFits self.old.session then }
         ensures { IfOk result (λ outs. record { connection = self.new; outs = outs }
-            ≡ does desk.entry.setting.now (ways_by desk.entry.replica.now.records desk.entry.master.now desk.entry.first.now desk.entry.ups.now) desk.entry.conn self.old then) }
+            ≡ does desk.entry.setting.now (ways_by desk.entry.replica.now.records desk.entry.master.now desk.entry.first.now desk.entry.ups.now)
+                desk.entry.conn self.old then) }
     {
         match then {
             Then::Sends(sent) => self.sends(desk, sent),
@@ -107,7 +111,8 @@ impl Connection {
     fn sends(&mut self, desk: Desk, sent: Sent) -> Result<Outs, Memory>
         requires room { commands_of self.old < 2 ^ 64 }
         ensures { IfOk result (λ outs. record { connection = self.new; outs = outs }
-            ≡ sent_at desk.entry.setting.now (ways_by desk.entry.replica.now.records desk.entry.master.now desk.entry.first.now desk.entry.ups.now) desk.entry.conn self.old sent self.old.stage) }
+            ≡ sent_at desk.entry.setting.now (ways_by desk.entry.replica.now.records desk.entry.master.now desk.entry.first.now desk.entry.ups.now)
+                desk.entry.conn self.old sent self.old.stage) }
     {
         if !desk.reaches(&sent.to) {
             return self.unreached(desk, &sent.to);
@@ -122,7 +127,8 @@ impl Connection {
     fn unreached(&mut self, desk: Desk, node: &NodeName) -> Result<Outs, Memory>
         requires room { commands_of self.old < 2 ^ 64 }
         ensures { IfOk result (λ outs. record { connection = self.new; outs = outs }
-            ≡ unreached_at desk.entry.setting.now (ways_by desk.entry.replica.now.records desk.entry.master.now desk.entry.first.now desk.entry.ups.now) desk.entry.conn self.old node.now self.old.stage) }
+            ≡ unreached_at desk.entry.setting.now (ways_by desk.entry.replica.now.records desk.entry.master.now desk.entry.first.now desk.entry.ups.now)
+                desk.entry.conn self.old node.now self.old.stage) }
     {
         let Stage::Waits(tag, it) = &self.stage else {
             return Ok(Outs::new(desk.alloc));
@@ -137,7 +143,8 @@ impl Connection {
     fn refused(&mut self, desk: Desk, how: How, reply: Reply) -> Result<Outs, Memory>
         requires room { commands_of self.old < 2 ^ 64 }
         ensures { IfOk result (λ outs. record { connection = self.new; outs = outs }
-            ≡ refused_at desk.entry.setting.now (ways_by desk.entry.replica.now.records desk.entry.master.now desk.entry.first.now desk.entry.ups.now) desk.entry.conn self.old how reply self.old.stage) }
+            ≡ refused_at desk.entry.setting.now (ways_by desk.entry.replica.now.records desk.entry.master.now desk.entry.first.now desk.entry.ups.now)
+                desk.entry.conn self.old how reply self.old.stage) }
     {
         let Stage::Waits(tag, _) = &self.stage else {
             return Ok(Outs::new(desk.alloc));
@@ -152,7 +159,8 @@ impl Connection {
         requires room { commands_of self.old < 2 ^ 64 }
         requires fits { MayNeed self.old.session need }
         ensures { IfOk result (λ outs. record { connection = self.new; outs = outs }
-            ≡ need_at desk.entry.setting.now (ways_by desk.entry.replica.now.records desk.entry.master.now desk.entry.first.now desk.entry.ups.now) desk.entry.conn self.old how need self.old.stage) }
+            ≡ need_at desk.entry.setting.now (ways_by desk.entry.replica.now.records desk.entry.master.now desk.entry.first.now desk.entry.ups.now)
+                desk.entry.conn self.old how need self.old.stage) }
     {
         let Stage::Waits(tag, _) = &self.stage else {
             return Ok(Outs::new(desk.alloc));
@@ -221,7 +229,8 @@ impl Connection {
     pub(crate) fn reads_on(&mut self, desk: Desk, how: How, reply: Bytes) -> Result<Outs, Memory>
         requires room { commands_of (reading_again self.old) + length self.old.waiting < 2 ^ 64 }
         ensures { IfOk result (λ outs. record { connection = self.new; outs = outs }
-            ≡ reads_on desk.entry.setting.now (ways_by desk.entry.replica.now.records desk.entry.master.now desk.entry.first.now desk.entry.ups.now) desk.entry.conn self.old how reply) }
+            ≡ reads_on desk.entry.setting.now (ways_by desk.entry.replica.now.records desk.entry.master.now desk.entry.first.now desk.entry.ups.now)
+                desk.entry.conn self.old how reply) }
     {
         self.stage = Stage::Reading;
         let mut outs = self.told_so(desk, how, reply)?;

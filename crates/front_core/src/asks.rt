@@ -49,7 +49,8 @@ impl Connection {
         requires room { self.old.answered + 1 < 2 ^ 64 }
         requires begun { HasBegun self.old.session }
         ensures { OnOk result (record { connection = self.new; outs = outs.new }
-            ≡ behind_outs outs.old (asks (ways_by desk.entry.replica.now.records desk.entry.master.now desk.entry.first.now desk.entry.ups.now) desk.entry.conn self.old tag name asking)) }
+            ≡ behind_outs outs.old (asks (ways_by desk.entry.replica.now.records desk.entry.master.now desk.entry.first.now desk.entry.ups.now)
+                desk.entry.conn self.old tag name asking)) }
     {
         let (it, sent) = self.begun(desk, name, asking)?;
         if desk.reaches(&sent.to) {

@@ -28,7 +28,8 @@ impl Connection {
     ) -> Result<(), Memory>
         requires room { self.old.answered + 1 < 2 ^ 64 }
         ensures { OnOk result (record { connection = self.new; outs = outs.new }
-            ≡ behind_outs outs.old (lists (ways_by desk.entry.replica.now.records desk.entry.master.now desk.entry.first.now desk.entry.ups.now) desk.entry.conn self.old tag it)) }
+            ≡ behind_outs outs.old (lists (ways_by desk.entry.replica.now.records desk.entry.master.now desk.entry.first.now desk.entry.ups.now)
+                desk.entry.conn self.old tag it)) }
     {
         let master = desk.master.copy(desk.alloc)?;
         if desk.reaches(desk.master) {
@@ -49,7 +50,8 @@ impl Connection {
     pub(crate) fn list_refused(&mut self, desk: Desk) -> Result<Outs, Memory>
         requires room { commands_of self.old < 2 ^ 64 }
         ensures { IfOk result (λ outs. record { connection = self.new; outs = outs }
-            ≡ list_refused_at desk.entry.setting.now (ways_by desk.entry.replica.now.records desk.entry.master.now desk.entry.first.now desk.entry.ups.now) desk.entry.conn self.old self.old.stage) }
+            ≡ list_refused_at desk.entry.setting.now (ways_by desk.entry.replica.now.records desk.entry.master.now desk.entry.first.now desk.entry.ups.now)
+                desk.entry.conn self.old self.old.stage) }
     {
         let Stage::Lists(tag, _) = &self.stage else {
             return Ok(Outs::new(desk.alloc));
@@ -65,7 +67,8 @@ impl Connection {
     pub(crate) fn listed(&mut self, desk: Desk) -> Result<Outs, Memory>
         requires room { commands_of self.old < 2 ^ 64 }
         ensures { IfOk result (λ outs. record { connection = self.new; outs = outs }
-            ≡ listed_by desk.entry.setting.now (ways_by desk.entry.replica.now.records desk.entry.master.now desk.entry.first.now desk.entry.ups.now) desk.entry.conn self.old self.old.stage) }
+            ≡ listed_by desk.entry.setting.now (ways_by desk.entry.replica.now.records desk.entry.master.now desk.entry.first.now desk.entry.ups.now)
+                desk.entry.conn self.old self.old.stage) }
     {
         let Stage::Lists(tag, it) = &self.stage else {
             return Ok(Outs::new(desk.alloc));

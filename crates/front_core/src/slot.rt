@@ -80,7 +80,8 @@ impl Slot {
     pub fn bytes_in(&mut self, desk: Desk, piece: &[u8]) -> Result<Outs, Memory>
         requires room { commands_of self.old + length piece.now < 2 ^ 64 }
         ensures { IfOk result (λ outs. record { connection = self.new; outs = outs }
-            ≡ bytes_at desk.entry.setting.now (ways_by desk.entry.replica.now.records desk.entry.master.now desk.entry.first.now desk.entry.ups.now) desk.entry.conn self.old piece.now (stage_has_ended self.old.stage)) }
+            ≡ bytes_at desk.entry.setting.now (ways_by desk.entry.replica.now.records desk.entry.master.now desk.entry.first.now desk.entry.ups.now)
+                desk.entry.conn self.old piece.now (stage_has_ended self.old.stage)) }
     {
         match mem::replace(&mut self.held, Held::Over(0)) {
             Held::Fresh => {
@@ -105,7 +106,8 @@ impl Slot {
         requires room { commands_of connection.value + length piece.now < 2 ^ 64 }
         requires begun { IsBegun connection.value }
         ensures { IfOk result (λ outs. record { connection = self.new; outs = outs }
-            ≡ bytes_taken desk.entry.setting.now (ways_by desk.entry.replica.now.records desk.entry.master.now desk.entry.first.now desk.entry.ups.now) desk.entry.conn connection.value piece.now) }
+            ≡ bytes_taken desk.entry.setting.now (ways_by desk.entry.replica.now.records desk.entry.master.now desk.entry.first.now desk.entry.ups.now)
+                desk.entry.conn connection.value piece.now) }
     {
         let mut connection = connection;
         let mut outs = Outs::new(desk.alloc);
@@ -141,7 +143,8 @@ impl Slot {
     pub fn answer_comes(&mut self, desk: Desk, answer: BackAnswer) -> Result<Outs, Memory>
         requires room { commands_of self.old < 2 ^ 64 }
         ensures { IfOk result (λ outs. record { connection = self.new; outs = outs }
-            ≡ with_released (answer_comes desk.entry.setting.now (ways_by desk.entry.replica.now.records desk.entry.master.now desk.entry.first.now desk.entry.ups.now) desk.entry.conn self.old answer)) }
+            ≡ with_released (answer_comes desk.entry.setting.now (ways_by desk.entry.replica.now.records desk.entry.master.now desk.entry.first.now desk.entry.ups.now)
+                desk.entry.conn self.old answer)) }
     {
         match mem::replace(&mut self.held, Held::Over(0)) {
             Held::Live(connection) => {
@@ -166,7 +169,8 @@ impl Slot {
     pub fn ok_comes(&mut self, desk: Desk, id: AskId) -> Result<Outs, Memory>
         requires room { commands_of self.old < 2 ^ 64 }
         ensures { IfOk result (λ outs. record { connection = self.new; outs = outs }
-            ≡ with_released (ok_comes desk.entry.setting.now (ways_by desk.entry.replica.now.records desk.entry.master.now desk.entry.first.now desk.entry.ups.now) desk.entry.conn self.old id)) }
+            ≡ with_released (ok_comes desk.entry.setting.now (ways_by desk.entry.replica.now.records desk.entry.master.now desk.entry.first.now desk.entry.ups.now)
+                desk.entry.conn self.old id)) }
     {
         match mem::replace(&mut self.held, Held::Over(0)) {
             Held::Live(connection) => {
@@ -191,7 +195,8 @@ impl Slot {
     pub fn end_comes(&mut self, desk: Desk) -> Result<Outs, Memory>
         requires room { commands_of self.old < 2 ^ 64 }
         ensures { IfOk result (λ outs. record { connection = self.new; outs = outs }
-            ≡ with_released (end_comes desk.entry.setting.now (ways_by desk.entry.replica.now.records desk.entry.master.now desk.entry.first.now desk.entry.ups.now) desk.entry.conn self.old)) }
+            ≡ with_released (end_comes desk.entry.setting.now (ways_by desk.entry.replica.now.records desk.entry.master.now desk.entry.first.now desk.entry.ups.now)
+                desk.entry.conn self.old)) }
     {
         match mem::replace(&mut self.held, Held::Over(0)) {
             Held::Live(connection) => {

@@ -24,7 +24,8 @@ impl Connection {
     ) -> Result<(), Memory>
         requires room { self.old.answered + 1 < 2 ^ 64 }
         ensures { OnOk result (record { connection = self.new; outs = outs.new }
-            ≡ behind_outs outs.old (input_comes desk.entry.setting.now (ways_by desk.entry.replica.now.records desk.entry.master.now desk.entry.first.now desk.entry.ups.now) desk.entry.conn self.old input)) }
+            ≡ behind_outs outs.old (input_comes desk.entry.setting.now (ways_by desk.entry.replica.now.records desk.entry.master.now desk.entry.first.now desk.entry.ups.now)
+                desk.entry.conn self.old input)) }
     {
         match self.stage {
             Stage::Reading => self.input_in(desk, input, outs),
@@ -43,7 +44,8 @@ impl Connection {
     ) -> Result<(), Memory>
         requires room { self.old.answered + 1 < 2 ^ 64 }
         ensures { OnOk result (record { connection = self.new; outs = outs.new }
-            ≡ behind_outs outs.old (input_in desk.entry.setting.now (ways_by desk.entry.replica.now.records desk.entry.master.now desk.entry.first.now desk.entry.ups.now) desk.entry.conn self.old input)) }
+            ≡ behind_outs outs.old (input_in desk.entry.setting.now (ways_by desk.entry.replica.now.records desk.entry.master.now desk.entry.first.now desk.entry.ups.now)
+                desk.entry.conn self.old input)) }
     {
         match input {
             Input::Asks(request) => self.request_in(desk, request, outs),
@@ -66,7 +68,8 @@ impl Connection {
     fn request_in(&mut self, desk: Desk, request: Request, outs: &mut Outs) -> Result<(), Memory>
         requires room { self.old.answered + 1 < 2 ^ 64 }
         ensures { OnOk result (record { connection = self.new; outs = outs.new }
-            ≡ behind_outs outs.old (request_in desk.entry.setting.now (ways_by desk.entry.replica.now.records desk.entry.master.now desk.entry.first.now desk.entry.ups.now) desk.entry.conn self.old request)) }
+            ≡ behind_outs outs.old (request_in desk.entry.setting.now (ways_by desk.entry.replica.now.records desk.entry.master.now desk.entry.first.now desk.entry.ups.now)
+                desk.entry.conn self.old request)) }
     {
         match request {
             Request::Command(tag, command) => {
@@ -90,7 +93,8 @@ impl Connection {
         requires room { self.old.answered + 1 < 2 ^ 64 }
         requires fits { MayNeed self.old.session need }
         ensures { OnOk result (record { connection = self.new; outs = outs.new }
-            ≡ behind_outs outs.old (turned_by_need (ways_by desk.entry.replica.now.records desk.entry.master.now desk.entry.first.now desk.entry.ups.now) desk.entry.conn self.old tag need)) }
+            ≡ behind_outs outs.old (turned_by_need (ways_by desk.entry.replica.now.records desk.entry.master.now desk.entry.first.now desk.entry.ups.now)
+                desk.entry.conn self.old tag need)) }
     {
         match need {
             Need::Reply(reply) => self.told_now(desk, &tag, How::Here, reply, outs),
