@@ -1,5 +1,5 @@
 -- The link to a node ends, which one connection after another is told: each leaves the others as many commands as they had.
-use Rattle.std.proofs.Common.{◌≡◌, ℕ, ◌+◌, ◌<◌, ◌≤◌, ◌^◌, ◌-◌, List, [], ◌∷◌, ◌++◌, Option, None, Some, refl, sym, ap, ◌∙◌, subst, arith, append_assoc}
+use Rattle.std.proofs.Common.{◌≡◌, ℕ, ◌+◌, ◌<◌, ◌≤◌, ◌^◌, ◌-◌, List, ◌∷◌, Option, None, Some, ap, ◌∙◌, arith, append_assoc}
 use Rattle.std.specs.Option.{IfSome}
 use Rattle.link_msg.specs.declared.out.Out.{Out}
 use Rattle.front_core.specs.declared.connection.Connection.{Connection}

@@ -15,7 +15,7 @@ use Rattle.imap_types.specs.declared.request.Answer.{Answer}
 use Rattle.mur_base.specs.declared.point.AskId.{AskId}
 use Rattle.mur_base.specs.declared.point.What.TheVariants.{Reserved as reserved}
 use Rattle.mur_model.specs.declared.setting.Setting.{Setting}
-use Rattle.mur_model.specs.History.{Talk, IsRefused, course_after, numbered, with_session}
+use Rattle.mur_model.specs.History.{Talk, IsRefused, course_after, numbered}
 use Rattle.mur_model.proofs.Numbered.{with_item, with_item-lengths, with_item-longer, with_item-other, length_with_item, numbered_new}
 use Rattle.mark_history.specs.declared.mark.Mark.{Mark}
 use Rattle.mark_history.specs.declared.mark.MarkKind.{MarkKind}

@@ -1,10 +1,9 @@
 -- The links of a node that come up one after another: to each node from which one came, its link is up.
-use Rattle.std.proofs.Common.{◌≡◌, ◌≢◌, ℕ, zero, suc, ◌<◌, Bool, true, false, is_some, List, [], ◌∷◌, length, refl, sym, ap, ◌∙◌, subst, arith, slice_index_or}
+use Rattle.std.proofs.Common.{◌≡◌, ◌≢◌, ℕ, zero, suc, ◌<◌, Bool, true, false, is_some, List, [], ◌∷◌, length, sym, ap, ◌∙◌, subst, arith, slice_index_or}
 use Rattle.std.specs.Ordering.{nat_cmp, is_eq}
 use Rattle.std.specs.Cmp.Lexicographic.{slice_cmp}
 use Rattle.std.proofs.Math.Logic.{⊎_elim}
 use Rattle.front_core.specs.Ups.{Ups, coming_up, is_up}
-use Rattle.mur_base.specs.Map.{value_at}
 use Rattle.mur_base.proofs.MapLaws.{names_apart, same_or_other, value_at-with_entry, value_at-with_entry-other}
 use Rattle.mur_config.specs.declared.node.Link.{Link}
 

@@ -7,7 +7,7 @@ use Rattle.std.specs.Ordering.{nat_cmp}
 use Rattle.std.specs.Cmp.Lexicographic.{pointwise}
 use Rattle.ask_routes.specs.Barrier.{barrier_answered}
 use Rattle.asking_core.specs.Answered.{WentOn, answered}
-use Rattle.asking_core.specs.Begins.{Begun, first_sent}
+use Rattle.asking_core.specs.Begins.{Begun}
 use Rattle.asking_core.specs.Cleared.{cleared}
 use Rattle.asking_core.specs.declared.then.Then.{Then}
 use Rattle.asking_core.specs.declared.then.Then.TheVariants as then

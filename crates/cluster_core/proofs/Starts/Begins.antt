@@ -9,7 +9,7 @@ use Rattle.back_node.specs.Acted.{acted}
 use Rattle.back_node.specs.Takes.{passed_over, taken_up, talks}
 use Rattle.cluster_core.specs.Headline.Outside.{is_master_node}
 use Rattle.cluster_core.specs.Heard.{is_frontend_node}
-use Rattle.cluster_core.specs.World.{backends_of, home_of, master_of, setting_of, first_state, front_at, home_at, node_at, place_of, start}
+use Rattle.cluster_core.specs.World.{backends_of, master_of, first_state, front_at, home_at, node_at, place_of, start}
 use Rattle.feed_links.specs.Lines.{messages_to}
 use Rattle.feed_links.proofs.Names.{other_name, same_name}
 use Rattle.front_core.proofs.OneConnection.Places.{IsPlaced, of_connection}
