@@ -129,16 +129,15 @@ walked_none marks next found n f =
     )
 
 -- and one mark back
-pub walked : (marks : List Mark) (left : ℕ) (d : Mark) (next later_next : List ((ℕ × ℕ) × Later)) (found now : List Point) (later : Option Later)
-    → 0 < left → left ≤ length marks → HasNext next (drop left marks) → reverse found ≡ points_of (drop left marks)
-    → later ≡ value_at ask_cmp next (key_of (get_or marks (left - 1) d))
-    → later_next ≡ with_entry ask_cmp next (key_of (get_or marks (left - 1) d)) (later_of (get_or marks (left - 1) d).kind)
-    → now ≡ found ++ points_by (get_or marks (left - 1) d) (counts_by (get_or marks (left - 1) d).kind later)
+pub walked : (marks : List Mark) (left : ℕ) (mark d : Mark) (next later_next : List ((ℕ × ℕ) × Later)) (found now : List Point) (later : Option Later)
+    → mark ≡ get_or marks (left - 1) d → 0 < left → left ≤ length marks → HasNext next (drop left marks) → reverse found ≡ points_of (drop left marks)
+    → later ≡ value_at ask_cmp next (key_of mark) → later_next ≡ with_entry ask_cmp next (key_of mark) (later_of mark.kind)
+    → now ≡ found ++ points_by mark (counts_by mark.kind later)
     → HasNext later_next (drop (left - 1) marks) × (reverse now ≡ points_of (drop (left - 1) marks))
-walked marks left d next later_next found now later some within has is l n f =
-    let mark : Mark = get_or marks (left - 1) d in
+walked marks left mark d next later_next found now later at some within has is l n f =
     let again : left - 1 + 1 ≡ left = omega arith in
-    let parts : drop (left - 1) marks ≡ mark ∷ drop left marks = drop_more marks (left - 1) d (omega arith) ∙ ap (λ k. mark ∷ drop k marks) again in (
+    let parts : drop (left - 1) marks ≡ mark ∷ drop left marks =
+    drop_more marks (left - 1) d (omega arith) ∙ ap (λ k. get_or marks (left - 1) d ∷ drop k marks) again ∙ ap (λ m. m ∷ drop left marks) (sym at) in (
       subst (HasNext later_next) (sym parts) (subst (λ m. HasNext m (mark ∷ drop left marks)) (sym n) (has_next next mark (drop left marks) has)),
       ap reverse f ∙ points_on found mark (drop left marks) later is (l ∙ has mark.ask) ∙ ap points_of (sym parts),
     )
