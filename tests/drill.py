@@ -1,16 +1,17 @@
 #!/usr/bin/env python3
 """The drill of docs/formats.md, without any code of the program; model.py says what its events do:
 
-    tests/drill.py                              compares the lines of drills in tests/calls.txt with its own
-    tests/drill.py NUMBER SIZE                  prints the line of a drill
-    tests/drill.py NUMBER SIZE CONFIG SCHEDULE  and writes its cluster, and those of its events that have a word, to these files
+    tests/drill.py                                         compares the lines of drills in tests/calls.txt with its own
+    tests/drill.py [--faults] NUMBER SIZE                  prints the line of a drill
+    tests/drill.py [--faults] NUMBER SIZE CONFIG SCHEDULE  and writes its cluster, and those of its events that have a word, to these files
 
-A crash, a start and a heal have no word yet and change nothing, so each of them is a step and no line of the schedule.
+Without `--faults` a crash, a start and a heal have no word and change nothing, so each of them is a step and no line of the schedule.
 """
 import json, os, re, sys
 
 sys.dont_write_bytecode = True
-from model import Cluster, spelled
+from cluster import Cluster
+from model import output_of, spelled
 
 NODES = [{'name': 'm', 'kind': 'master'}, {'name': 'f1', 'kind': 'frontend'}, {'name': 'f2', 'kind': 'frontend'}]
 NODES += [{'name': 'b%d' % backend, 'kind': 'backend', 'partition': 'p'} for backend in (1, 2, 3)]
@@ -77,10 +78,10 @@ def events(number, size):
     yield 'flow', 100_000
 
 
-def take(cluster, word, *rest):
+def take(cluster, has_faults, word, *rest):
     if word == 'data':
         cluster.data(rest[0], rest[1].encode())
-    elif word in ('open', 'flow'):
+    elif has_faults or word in ('open', 'flow'):
         getattr(cluster, word)(*rest)
     else:
         cluster.steps += 1
@@ -97,18 +98,18 @@ def counts(output):
         steps, points, *[tagged.count(verdict) for verdict in ('OK', 'NO', 'BAD')], byes, boxes)
 
 
-def line_of(number, size):
+def line_of(number, size, has_faults=False):
     cluster = Cluster(CONFIG)
     for event in events(number, size):
-        take(cluster, *event)
-    return 'drill %d %d %s\n' % (number, size, counts(cluster.output()))
+        take(cluster, has_faults, *event)
+    return 'drill %d %d %s\n' % (number, size, counts(output_of(cluster)))
 
 
-def schedule_of(number, size):
+def schedule_of(number, size, has_faults):
     for word, *rest in events(number, size):
         if word == 'data':
             yield 'data %d %s\n' % (rest[0], spelled(rest[1].encode()))
-        elif word in ('open', 'flow'):
+        elif has_faults or word in ('open', 'flow'):
             yield ' '.join(map(str, [word, *rest])) + '\n'
 
 
@@ -124,12 +125,14 @@ def compared():
 def main(words):
     if not words:
         return compared()
-    number, size = map(int, words[:2])
-    if words[2:]:
-        with open(words[2], 'w') as config, open(words[3], 'w') as schedule:
+    has_faults = words[0] == '--faults'
+    number, size, *files = words[has_faults:]
+    number, size = int(number), int(size)
+    if files:
+        with open(files[0], 'w') as config, open(files[1], 'w') as schedule:
             json.dump(CONFIG, config)
-            schedule.writelines(schedule_of(number, size))
-    sys.stdout.write(line_of(number, size))
+            schedule.writelines(schedule_of(number, size, has_faults))
+    sys.stdout.write(line_of(number, size, has_faults))
     return 0
 
 

@@ -2,17 +2,18 @@
 
 Connection(session) cuts bytes into requests. Frontend(world, ..) decides whom it asks: the server of the name's record in its replica of the master's table
 (RFC 3656, 4.11). Before it tells that a name is missing or reserved, or lists names, it sends the master a NOOP, whose OK comes behind all that the
-master told before.
+master told before. A command for which a link is needed that is down is refused; one whose backend is lost while it waits ends its connection.
 """
 import re
 from collections import deque, namedtuple
 
 from commands import command_of, first_tag
-from mailboxes import LIMIT, MISSING, NOT_NOW
-from mupdate import Record
+from mailboxes import LIMIT, LOST, MISSING, NOT_NOW, Moved, Unreached
 from sessions import Reply, Session, levels_above, printed_reply
+from table import Record, server_of
 
 GREETING = b'* OK [CAPABILITY IMAP4rev2 AUTH=PLAIN] murder ready\r\n'
+LOST_BYE = b'* BYE [UNAVAILABLE] server lost\r\n'
 LINE_LIMIT, MESSAGE_LIMIT, LITERALS_LIMIT, PLUS_LIMIT = 8_192, 1_048_576, 1_056_768, 4_096
 
 
@@ -113,39 +114,37 @@ class Connection:
         self.answered += 1
         self.over = self.over or reply.ends
 
+    def lose(self):
+        """Whether its command was carried out can't be known."""
+        self.given.append(LOST_BYE)
+        self.over = True
+
 
 # A command that waits: its tag, what it asks for, and of whom: of a backend, or of the master and why.
 Waits = namedtuple('Waits', 'tag ask home barrier')
-
-
-def server_of(place):
-    return place.split(b'!')[0].decode()
 
 
 class Frontend:
     def __init__(self, world, name, setting):
         self.world, self.name, self.setting = world, name, setting
         self.master, self.first = world.first('master'), world.first('backend')
-        self.connections, self.replica = {}, {}
-
-    def begin(self):
-        """Before the first step it asks the master for its table."""
-        self.world.send(self.name, self.master, ('command', b'u', b'UPDATE'))
+        self.connections, self.replica, self.ups = {}, {}, set()
+        self.asks = []  # what the step asks of backends
 
     def opened(self, conn):
+        """What the client of a connection is given stands in this list."""
         self.connections[conn] = Connection(self.setting)
+        return self.connections[conn].given
 
     def piece(self, conn, data):
         connection = self.connections[conn]
         if not connection.over:
             connection.waiting.extend(connection.frames.feed(data))
             self.work(conn, connection)
+            self.send_asks()
 
     def hung(self, conn):
         self.connections[conn].over = True
-
-    def given(self, conn):
-        return self.connections[conn].given
 
     def work(self, conn, connection):
         """Takes up what came, up to a command that waits."""
@@ -165,7 +164,7 @@ class Frontend:
         connection.reply(tag, reply)
         self.world.mark(conn, connection.answered, how)
 
-    # Whom it asks: ways are ('home', server), ('barrier', why), ('done', outcome) and ('reserved', None).
+    # Whom it asks: ways are ('home', server), ('barrier', why), ('done', outcome), ('reserved', None), ('unreached', node) and ('lost', None).
 
     def first_way(self, ask):
         if ask.word == b'LIST':
@@ -190,45 +189,91 @@ class Frontend:
             return 'reserved', None
         return 'home', server_of(record.place)
 
+    @staticmethod
+    def way_behind(outcome):
+        if isinstance(outcome, Moved):
+            return 'home', outcome.server
+        if isinstance(outcome, Unreached):
+            return 'unreached', outcome.node
+        return ('barrier', 'not now') if outcome == NOT_NOW else ('lost', None) if outcome == LOST else ('done', outcome)
+
     def goes_on(self, conn, connection, tag, ask, way, what):
+        """One way on; where the link that it needs is down, the command is refused."""
+        needed = {'home': what, 'barrier': self.master}.get(way)
+        if needed and needed not in self.ups:
+            way, what = 'unreached', needed
         session = connection.session
         if way == 'home':
             connection.asked = Waits(tag, ask, what, None)
-            self.world.send(self.name, what, ('ask', conn, connection.answered + 1, ask))
+            self.asks.append((what, conn, connection.answered + 1, ask))
         elif way == 'barrier':
             connection.asked = Waits(tag, ask, None, what)
             self.world.send(self.name, self.master, ('command', b'%d-%d' % (conn, connection.answered + 1), b'NOOP'))
+        elif way == 'lost':
+            connection.lose()
+            self.world.cut_off(conn)
+        elif way == 'done':
+            self.told(conn, connection, tag, session.finish(tag, ask, what), 'behind')
         else:
-            is_done = way == 'done'
-            reply = session.finish(tag, ask, what) if is_done else session.relocated(ask)
-            self.told(conn, connection, tag, reply, 'behind' if is_done else 'reserved')
-            self.work(conn, connection)
+            how = way if way == 'reserved' else 'unreached ' + what
+            self.told(conn, connection, tag, session.relocated(ask, way), how)
+
+    def send_asks(self):
+        """The asks of one step go in the order of their names."""
+        for server, conn, number, ask in sorted(self.asks, key=lambda it: (it[3].name, *it[1:3])):
+            self.world.send(self.name, server, ('ask', conn, number, ask))
+        self.asks = []
 
     # What comes on links.
 
     def take(self, sender, kind, *message):
-        if kind == 'answer':
+        if kind == 'up':
+            self.comes_up(sender)
+        elif kind == 'end':
+            self.goes_down(sender)
+        elif kind == 'answer':
             self.answered(sender, *message)
         elif kind == 'response' and message[0] == b'u':
             self.heard(*message[1:])
         elif kind == 'response':
             self.barrier_over(*map(int, message[0].split(b'-')))
+        self.send_asks()
+
+    def comes_up(self, node):
+        self.ups.add(node)
+        if node == self.master:
+            self.replica = {}
+            self.world.send(self.name, self.master, ('command', b'u', b'UPDATE'))
+
+    def goes_down(self, node):
+        """Each command that waits for something from the node, in the order of connections, is refused or lost; its connection then goes on."""
+        self.ups.discard(node)
+        for conn in sorted(self.connections):
+            waits = self.connections[conn].asked
+            if waits and (waits.home or self.master) == node:
+                self.waits_on(conn, self.connections[conn], 'lost' if waits.home else 'unreached', node)
+
+    def waits_on(self, conn, connection, way, what):
+        """A command that waited goes on, and then what came behind it."""
+        if not connection.over:
+            self.goes_on(conn, connection, connection.asked.tag, connection.asked.ask, way, what)
+            self.work(conn, connection)
 
     def waiting(self, conn, number):
         """The connection whose command of this number waits, and how it does."""
-        connection = self.connections[conn]
-        return (connection, connection.asked) if not connection.over and connection.answered + 1 == number and connection.asked else (None, None)
+        connection = self.connections.get(conn)
+        is_it = connection and not connection.over and connection.answered + 1 == number and connection.asked
+        return (connection, connection.asked) if is_it else (None, None)
 
     def answered(self, sender, conn, number, outcome):
         connection, waits = self.waiting(conn, number)
         if waits and waits.home == sender:
-            way = ('barrier', 'not now') if outcome == NOT_NOW else ('done', outcome)
-            self.goes_on(conn, connection, waits.tag, waits.ask, *way)
+            self.waits_on(conn, connection, *self.way_behind(outcome))
 
     def barrier_over(self, conn, number):
         connection, waits = self.waiting(conn, number)
         if waits and waits.barrier:
-            self.goes_on(conn, connection, waits.tag, waits.ask, *self.way_behind_ok(waits.ask, waits.barrier))
+            self.waits_on(conn, connection, *self.way_behind_ok(waits.ask, waits.barrier))
 
     def heard(self, word, name=None, place=None, acl=None):
         """A line of the master's table. A name that is reserved keeps the access list that it had."""

@@ -65,21 +65,28 @@ def journal_of(entries, tail=b''):
 
 # A disk, what a crash leaves of it, and one that stops.
 
-def over(image, at, piece):
-    """These bytes written at this place; what lies between the end and the place holds zeros."""
-    front = image[:at] + bytes(max(0, at - len(image)))
-    return front + piece + image[at + len(piece):]
-
-
 class Stopped(Exception):
     pass
+
+
+def carry_out(how, call, image):
+    """A write is for 0 not made, for 1 done, for 2 done with its first half, for 3 done with as many bytes FF; a cut is done for 1. What lies between the
+    end of the image and the place of a write holds zeros."""
+    kind, *what = call
+    if kind == 'cut' and how == 1:
+        del image[what[0]:]
+    elif kind == 'write' and how != 0:
+        at, piece = what
+        piece = {1: piece, 2: piece[:len(piece) // 2], 3: b'\xff' * len(piece)}[how]
+        image.extend(bytes(max(0, at - len(image))))
+        image[at:at + len(piece)] = piece
 
 
 class Disk:
     """A disk that stops inside its device call of this number, counted from 0, or never."""
 
     def __init__(self, image=b'', call=None):
-        self.seen, self.synced, self.pending, self.left, self.stopped = image, image, [], call, False
+        self.synced, self.pending, self.left, self.stopped = bytearray(image), [], call, False
 
     def counted(self):
         if self.left == 0:
@@ -88,12 +95,11 @@ class Disk:
         if self.left is not None:
             self.left -= 1
 
-    def change(self, kind, *what):
+    def change(self, *call):
         """A write or a cut is carried out and pending, also the one that the disk stops inside."""
         if self.stopped:
             raise Stopped
-        self.pending.append((kind, *what))
-        self.seen = self.done(1, self.pending[-1], self.seen)
+        self.pending.append(call)
         self.counted()
 
     def write(self, at, piece):
@@ -106,25 +112,24 @@ class Disk:
         if self.stopped:
             raise Stopped
         self.counted()
-        self.synced, self.pending = self.seen, []
+        for call in self.pending:
+            carry_out(1, call, self.synced)
+        self.pending = []
 
-    @staticmethod
-    def done(how, call, image):
-        """A write is for 0 not made, for 1 done, for 2 done with its first half, for 3 done with as many bytes FF; a cut is done for 1."""
-        kind, *what = call
-        if kind == 'cut':
-            return image[:what[0]] if how == 1 else image
-        at, piece = what
-        if how == 0:
-            return image
-        return over(image, at, {1: piece, 2: piece[:len(piece) // 2], 3: b'\xff' * len(piece)}[how])
+    def left_by(self, hows):
+        image = bytearray(self.synced)
+        for how, call in zip(hows, self.pending):
+            carry_out(how, call, image)
+        return bytes(image)
+
+    @property
+    def seen(self):
+        """What is read: each pending call is done."""
+        return self.left_by([1] * len(self.pending))
 
     def crashed(self, choice):
         """What a crash leaves: of each pending call two bits of the choice say what was done, the lowest two of the first."""
-        image = self.synced
-        for number, call in enumerate(self.pending):
-            image = self.done(choice >> 2 * number & 3, call, image)
-        return image
+        return self.left_by(choice >> 2 * number & 3 for number in range(len(self.pending)))
 
 
 class Journal:

@@ -3,9 +3,10 @@ and tells each change to those that sent UPDATE. A client that connects from out
 read here. Nothing here knows the program.
 """
 import re
-from collections import namedtuple
 
+from entries import Active, Deleted, Inactive, Reserved
 from mailboxes import MAILBOX_LIMIT
+from table import Table
 
 TAG = re.compile(rb'[A-Za-z0-9-]{1,41} ')
 WORD = re.compile(rb'[A-Za-z]+')
@@ -109,10 +110,6 @@ def response_line(tag, word, *arguments):
     return b' '.join([tag, word, *map(printed_argument, arguments)]) + b'\r\n'
 
 
-# The record of a name: active, or reserved with the access list that it had when it was active, if it was.
-Record = namedtuple('Record', 'place acl is_active')
-
-
 def record_line(name, record):
     return (b'MAILBOX', name, record.place, record.acl) if record.is_active else (b'RESERVE', name, record.place)
 
@@ -123,6 +120,7 @@ def record_lines(name, record):
     return active if record.is_active else active + [(b'RESERVE', name, record.place)]
 
 
+CHANGES = {b'ACTIVATE': Active, b'DEACTIVATE': Inactive, b'DELETE': Deleted}
 DONE, SYNTAX, NOT_YOURS = (b'OK', b'done'), (b'BAD', b'syntax'), (b'NO', b'5 not yours')
 
 
@@ -145,17 +143,14 @@ class Talk:
 
 
 class Master:
-    def __init__(self, world, name, backends):
-        self.world, self.name, self.backends = world, name, backends
-        self.table, self.serial, self.mailboxes = {}, 0, 0
+    def __init__(self, world, name, backends, entries):
+        self.world, self.name, self.backends, self.table = world, name, backends, Table(entries)
         self.streams, self.talks = {}, {}  # `streams`: who sent UPDATE, a node or the number of a connection, and its tag
-        self.entries = []  # the changes of the table, each with its step
-
-    def begin(self):
-        pass
 
     def opened(self, conn):
+        """What the client of a connection is given stands in this list."""
         self.talks[conn] = Talk(self.name.encode())
+        return self.talks[conn].given
 
     def piece(self, conn, data):
         for line in self.talks[conn].lines_of(data):
@@ -165,9 +160,6 @@ class Master:
         self.talks[conn].over = True
         self.streams.pop(conn, None)
 
-    def given(self, conn):
-        return self.talks[conn].given
-
     def line(self, conn, line):
         try:
             tag, word, arguments = command_of(line)
@@ -176,14 +168,18 @@ class Master:
             return self.tell(conn, tag[0][:-1] if tag else b'*', SYNTAX)
         self.command(conn, tag, word, *arguments)
 
-    def take(self, sender, kind, tag, word, *arguments):
-        counts = self.command(sender, tag, word, *arguments)
-        if counts and b'-' in tag:
-            self.world.mark(*map(int, tag.split(b'-')), counts)
+    def take(self, sender, kind, *message):
+        if kind == 'end':
+            self.streams.pop(sender, None)
+        elif kind == 'command':
+            tag, word, *arguments = message
+            counts = self.command(sender, tag, word, *arguments)
+            if counts and b'-' in tag:
+                self.world.mark(*map(int, tag.split(b'-')), counts)
 
     def tell(self, to, tag, response):
         if to in self.talks:
-            self.talks[to].given.append(response_line(tag, *response))
+            self.world.give(to, response_line(tag, *response))
         else:
             self.world.send(self.name, to, ('response', tag, *response))
 
@@ -207,47 +203,42 @@ class Master:
 
     def refusal(self, sender, word, name, place=None, acl=None):
         """Why a change is refused, the first cause that holds."""
-        record, mine = self.table.get(name), b'%s!' % str(sender).encode()
+        record, mine = self.table.records.get(name), b'%s!' % str(sender).encode()
         is_mine = record is None or record.place.startswith(mine)
         is_here = place is None or place.startswith(mine)
         if sender not in self.backends:
             return NOT_YOURS[1]
         if word == b'RESERVE':
             causes = [(not is_here, b'5 not yours'), (record and record.is_active, b'1 exists'), (record, b'2 reserved'),
-                      (self.serial == SERIAL_LIMIT, b'7 serials spent')]
+                      (self.table.serial == SERIAL_LIMIT, b'7 serials spent')]
         elif word == b'ACTIVATE':
             is_new = record is None or record.acl is None
-            causes = [(not (is_mine if record else is_here), b'5 not yours'), (is_new and self.mailboxes >= MAILBOX_LIMIT, b'6 full')]
+            causes = [(not (is_mine if record else is_here), b'5 not yours'), (is_new and self.table.mailboxes >= MAILBOX_LIMIT, b'6 full')]
         else:
             causes = [(record is None, b'4 no such name'), (not is_mine or not is_here, b'5 not yours'),
                       (word == b'DEACTIVATE' and not record.is_active if record else False, b'3 not active')]
         return next((text for holds, text in causes if holds), None)
 
-    def changed(self, sender, tag, word, name, place=None, acl=None):
+    def changed(self, sender, tag, word, *what):
         """Makes the change. ACTIVATE and DELETE are the steps in which a CREATE and a DELETE are done."""
-        old = self.table.pop(name, None)
-        if word == b'RESERVE':
-            self.serial += 1
-            self.table[name] = Record(place, None, False)
-        elif word != b'DELETE':
-            self.table[name] = Record(place, acl if word == b'ACTIVATE' else old.acl, word == b'ACTIVATE')
-        new = self.table.get(name)
-        self.mailboxes += bool(new and new.acl is not None) - bool(old and old.acl is not None)
-        self.entries.append((self.world.steps, name, new, self.serial if word == b'RESERVE' else None))
-        self.tell(sender, tag, (b'OK', b'%d' % self.serial) if word == b'RESERVE' else DONE)
+        entry = Reserved(*what, self.table.serial + 1) if word == b'RESERVE' else CHANGES[word](*what)
+        self.table.take(entry)
+        self.world.write(entry)
+        name, record = entry.name, self.table.records.get(entry.name)
+        self.tell(sender, tag, (b'OK', b'%d' % entry.serial) if word == b'RESERVE' else DONE)
         for stream, its_tag in self.streams.items():
-            self.tell(stream, its_tag, record_line(name, new) if new else (b'DELETE', name))
+            self.tell(stream, its_tag, record_line(name, record) if record else (b'DELETE', name))
         return 'always' if word in (b'ACTIVATE', b'DELETE') else None
 
     def told(self, word, text=None):
         """The answer to a command that changes no record."""
         if word == b'LOGOUT':
             return [(b'OK', b'bye')]
-        names = sorted(self.table)
+        records = self.table.records
         if word == b'FIND':
-            return ([record_line(text, self.table[text])] if text in self.table else []) + [DONE]
+            return ([record_line(text, records[text])] if text in records else []) + [DONE]
         if word == b'LIST':
-            return [record_line(name, self.table[name]) for name in names if self.table[name].place.startswith(text or b'')] + [DONE]
+            return [record_line(name, records[name]) for name in sorted(records) if records[name].place.startswith(text or b'')] + [DONE]
         if word == b'UPDATE':
-            return [line for name in names for line in record_lines(name, self.table[name])] + [DONE]
+            return [line for name in sorted(records) for line in record_lines(name, records[name])] + [DONE]
         return [DONE]

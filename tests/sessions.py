@@ -9,7 +9,7 @@ from mailboxes import GONE, LIMIT, MISSING, Ask
 
 SYNTAX, STATE, MESSAGE = b'BAD syntax error', b'BAD not in this state', b'BAD no such message'
 CANNOT, NO_RIGHT = b'NO [CANNOT] cannot be done', b'NO [NOPERM] not permitted'
-MOVED = b'NO [UNAVAILABLE] mailbox is being moved'
+REFUSALS = {'reserved': b'NO [UNAVAILABLE] mailbox is being moved', 'unreached': b'NO [UNAVAILABLE] server not reached'}
 CLOSED = b'* OK [CLOSED] closed\r\n'
 NOT_DONE = LEFT_OUT + (b'COPY', b'UID COPY', b'XFER')
 NAMED_MAILBOX = (b'CREATE', b'DELETE', b'APPEND', b'STATUS', b'SELECT', b'EXAMINE')
@@ -369,9 +369,9 @@ class Session:
         self.view = None
         return CLOSED
 
-    def relocated(self, ask):
-        """The reply where the mailbox is being moved, made or deleted (RFC 5530, 3)."""
-        return Reply(MOVED, self.closed(ask.word))
+    def relocated(self, ask, why):
+        """The reply where the mailbox is being moved, made or deleted, or a server isn't reached (RFC 5530, 3)."""
+        return Reply(REFUSALS[why], self.closed(ask.word))
 
     def finish(self, tag, ask, outcome):
         """The reply by what came of an ask; of LIST came the names of mailboxes."""

@@ -3,6 +3,7 @@ use Rattle.std.proofs.Common.{◌≡◌, ℕ, List, Option, None, Some, refl, sy
 use Rattle.feed_core.specs.Feed.{Recs}
 use Rattle.feed_core.specs.Routes.{server_at}
 use Rattle.imap_types.specs.declared.op.Op.{Op}
+use Rattle.imap_types.specs.declared.reply.Reply.{Reply}
 use Rattle.imap_types.specs.declared.op.Op.TheVariants as op
 use Rattle.link_msg.specs.declared.answer.AnswerBody.TheVariants as answer
 use Rattle.mur_base.specs.declared.point.AskId.{AskId}
@@ -110,33 +111,33 @@ cleared_asks_the_same recs master first id session it cause = next_held master i
 
 -- ---- refusals
 
-need_never_refuses : (found : Option Need) (cause : What) (need : Need) → needs_by found ≡ then.Refused cause need → ⊥
-need_never_refuses None cause need e = cc
-need_never_refuses (Some found) cause need e = cc
+need_never_refuses : (found : Option Need) (cause : What) (reply : Reply) → needs_by found ≡ then.Refused cause reply → ⊥
+need_never_refuses None cause reply e = cc
+need_never_refuses (Some found) cause reply e = cc
 
-same_cause : {one other : What} {first second : Need} → then.Refused one first ≡ then.Refused other second → one ≡ other
+same_cause : {one other : What} {first second : Reply} → then.Refused one first ≡ then.Refused other second → one ≡ other
 same_cause e = cc
 
 pub refused_by_answer : RefusedByAnswer
 unfolding answered
-refused_by_answer master id session it (answer.Done outcome seen) cause need e =
-    absurd (need_never_refuses (finish session it.asking.awaited (Done outcome seen)).need cause need e)
-refused_by_answer master id session it answer.NotNow cause need e = absurd (let no : ⊥ = cc in no)
-refused_by_answer master id session it (answer.Moved server) cause need e = absurd (let no : ⊥ = cc in no)
-refused_by_answer master id session it (answer.Unreached node) cause need e = (node, refl, sym (same_cause e))
-refused_by_answer master id session it answer.Lost cause need e = absurd (let no : ⊥ = cc in no)
+refused_by_answer master id session it (answer.Done outcome seen) cause reply e =
+    absurd (need_never_refuses (finish session it.asking.awaited (Done outcome seen)).need cause reply e)
+refused_by_answer master id session it answer.NotNow cause reply e = absurd (let no : ⊥ = cc in no)
+refused_by_answer master id session it (answer.Moved server) cause reply e = absurd (let no : ⊥ = cc in no)
+refused_by_answer master id session it (answer.Unreached node) cause reply e = (node, refl, sym (same_cause e))
+refused_by_answer master id session it answer.Lost cause reply e = absurd (let no : ⊥ = cc in no)
 
-next_refuses : (master : List ℕ) (id : AskId) (session : Sess) (it : Waiting) (found : Next) (cause : What) (need : Need)
-    → (goes_on master id session it found).then ≡ then.Refused cause need → (cause ≡ Reserved) × (found ≡ next.Refused)
-next_refuses master id session it (next.Ask server) cause need e = absurd (let no : ⊥ = cc in no)
-next_refuses master id session it (next.Barrier reason) cause need e = absurd (let no : ⊥ = cc in no)
-next_refuses master id session it next.Missing cause need e = absurd (need_never_refuses (finish session it.asking.awaited Missing).need cause need e)
-next_refuses master id session it next.Refused cause need e = (sym (same_cause e), refl)
+next_refuses : (master : List ℕ) (id : AskId) (session : Sess) (it : Waiting) (found : Next) (cause : What) (reply : Reply)
+    → (goes_on master id session it found).then ≡ then.Refused cause reply → (cause ≡ Reserved) × (found ≡ next.Refused)
+next_refuses master id session it (next.Ask server) cause reply e = absurd (let no : ⊥ = cc in no)
+next_refuses master id session it (next.Barrier reason) cause reply e = absurd (let no : ⊥ = cc in no)
+next_refuses master id session it next.Missing cause reply e = absurd (need_never_refuses (finish session it.asking.awaited Missing).need cause reply e)
+next_refuses master id session it next.Refused cause reply e = (sym (same_cause e), refl)
 
 pub refused_behind_ok : RefusedBehindOk
 unfolding cleared
-refused_behind_ok recs master first id session it reason cause need e =
-    next_refuses master id session it (behind_ok recs first (ask_for it.name it.asking.op) reason) cause need e
+refused_behind_ok recs master first id session it reason cause reply e =
+    next_refuses master id session it (behind_ok recs first (ask_for it.name it.asking.op) reason) cause reply e
 
 -- ---- no round of NOOPs
 

@@ -10,8 +10,7 @@ use Rattle.mur_model.specs.declared.session.Sess.{Sess}
 use Rattle.session_core.specs.declared.result.OpResult.{OpResult}
 use Rattle.session_core.specs.declared.result.OpResult.TheVariants.{Done, Missing}
 use Rattle.session_core.specs.Finish.{Finished, finish}
-use Rattle.session_core.specs.Need.{Behind}
-use Rattle.session_core.specs.Relocated.{relocated}
+use Rattle.session_core.specs.Relocated.{Refused, relocated}
 use Rattle.ask_routes.specs.declared.next.Next.{Next}
 use Rattle.ask_routes.specs.declared.next.Next.TheVariants as next
 use Rattle.ask_routes.specs.Ways.{behind_answer}
@@ -43,8 +42,8 @@ told_in it behind = went behind.session it (needs_by behind.need)
 abbrev pub told : Sess → Waiting → OpResult → WentOn
 told session it result = told_in it (finish session it.asking.awaited result)
 
-abbrev pub refused_in : Waiting → What → Behind → WentOn
-refused_in it cause behind = went behind.session it (then.Refused cause behind.need)
+abbrev pub refused_in : Waiting → What → Refused → WentOn
+refused_in it cause behind = went behind.session it (then.Refused cause behind.reply)
 
 -- it is refused for this cause
 abbrev pub refused : Sess → Waiting → What → WentOn

@@ -7,7 +7,7 @@ use Rattle.link_msg.specs.declared.message.LinkMsg.TheVariants.{Ask, Line}
 use Rattle.mur_base.specs.declared.point.AskId.{AskId}
 use Rattle.mur_base.specs.declared.point.What.{What}
 use Rattle.mur_base.specs.declared.point.What.TheVariants.{Reserved, Unreached}
-use Rattle.mur_model.specs.declared.need.Need.{Need}
+use Rattle.imap_types.specs.declared.reply.Reply.{Reply}
 use Rattle.mur_model.specs.declared.session.Sess.{Sess}
 use Rattle.ask_routes.specs.declared.next.Why.{Why}
 use Rattle.ask_routes.specs.Barrier.{noop_line}
@@ -52,7 +52,7 @@ IsHeldBack master id session it next (then.Sends sent) = (next.session ≡ sessi
 IsHeldBack master id session it next then.Lost = next.session ≡ session
 IsHeldBack master id session it next then.Stays = next.waiting ≡ it
 IsHeldBack master id session it next (then.Needs need) = Unit {0}
-IsHeldBack master id session it next (then.Refused cause need) = Unit {0}
+IsHeldBack master id session it next (then.Refused cause reply) = Unit {0}
 
 abbrev pub AsksTheSame : Type 0
 AsksTheSame = (master : List ℕ) (id : AskId) (session : Sess) (it : Waiting) (body : AnswerBody)
@@ -66,14 +66,14 @@ ClearedAsksTheSame = (recs : Recs) (master first : List ℕ) (id : AskId) (sessi
 
 -- an answer refuses for a node that its server hasn't reached
 abbrev pub RefusedByAnswer : Type 0
-RefusedByAnswer = (master : List ℕ) (id : AskId) (session : Sess) (it : Waiting) (body : AnswerBody) (cause : What) (need : Need)
-    → (answered master id session it body).then ≡ then.Refused cause need
+RefusedByAnswer = (master : List ℕ) (id : AskId) (session : Sess) (it : Waiting) (body : AnswerBody) (cause : What) (reply : Reply)
+    → (answered master id session it body).then ≡ then.Refused cause reply
     → (node : List ℕ) × (body ≡ answer.Unreached node) × (cause ≡ Unreached node)
 
 -- the master's OK refuses what is decided to be refused
 abbrev pub RefusedBehindOk : Type 0
-RefusedBehindOk = (recs : Recs) (master first : List ℕ) (id : AskId) (session : Sess) (it : Waiting) (reason : Why) (cause : What) (need : Need)
-    → (cleared recs master first id session it reason).then ≡ then.Refused cause need
+RefusedBehindOk = (recs : Recs) (master first : List ℕ) (id : AskId) (session : Sess) (it : Waiting) (reason : Why) (cause : What) (reply : Reply)
+    → (cleared recs master first id session it reason).then ≡ then.Refused cause reply
     → (cause ≡ Reserved) × (behind_ok recs first (ask_for it.name it.asking.op) reason ≡ next.Refused)
 
 -- ---- no round of NOOPs

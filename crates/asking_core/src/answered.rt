@@ -1,7 +1,8 @@
 // The answer of the home that was asked.
 ghost use Rattle.std.specs.Prelude.{◌≡◌, IfOk};
 ghost use Rattle.session_core.specs.Begin.{HasBegun};
-ghost use Rattle.session_core.specs.Relocated.{IsRelocation};
+ghost use Rattle.session_core.specs.Relocated.{IsRelocation, relocated};
+ghost use Rattle.mur_base.specs.declared.point.What.TheVariants.{Unreached};
 ghost use Rattle.asking_core.specs.Answered.{answered, goes_on, refused, told, told_by};
 
 use crate::routes::Routes;
@@ -9,7 +10,8 @@ use crate::then::Then;
 use crate::waiting::Waiting;
 use ask_routes::{Next, behind_answer};
 use link_msg::AnswerBody;
-use mur_base::{Memory, What};
+use mur_base::{Copied, Memory, NodeName, What};
+use mur_model::Reply;
 use session_core::{OpResult, Session};
 use std::alloc::Global;
 
@@ -29,8 +31,22 @@ impl Waiting {
         requires why { IsRelocation why }
         ensures { IfOk result (λ then. record { session = session.new; waiting = self.now; then = then } ≡ refused session.old self.now why) }
     {
-        let need = session.relocated(alloc, &self.asking.awaited, &why)?;
-        Ok(Then::Refused(why, need))
+        let reply = session.relocated(alloc, &self.asking.awaited, &why)?;
+        Ok(Then::Refused(why, reply))
+    }
+
+    /// The reply to it where it is refused, since this node isn't reached. For want of memory the session is spent.
+    #[tactic(auto, unfolding(session_core::specs::Relocated::IsRelocation))]
+    pub fn unreached(
+        &self,
+        alloc: Global,
+        session: &mut Session,
+        node: &NodeName,
+    ) -> Result<Reply, Memory>
+        ensures { IfOk result (λ reply. record { session = session.new; reply = reply } ≡ relocated session.old self.now.asking.awaited (Unreached node.now)) }
+    {
+        let why = What::Unreached(node.copy(alloc)?);
+        session.relocated(alloc, &self.asking.awaited, &why)
     }
 
     /// It goes on as is decided. For want of memory the session and the command are spent.

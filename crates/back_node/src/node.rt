@@ -1,12 +1,12 @@
 // A backend and its step.
-ghost use Rattle.std.specs.Prelude.{◌≡◌, nat_eq, IfOk, OnOk};
+ghost use Rattle.std.specs.Prelude.{◌≡◌, nat_eq, IfOk};
 ghost use Rattle.std.specs.Cmp.Lexicographic.{pointwise};
 ghost use Rattle.std.specs.List.{AllByRecursion};
 ghost use Rattle.std.specs.Option.{IfSome};
 ghost use Rattle.node_record.specs.Held.{EntryLeavesNext};
 ghost use Rattle.back_node.specs.Acted.{acted, listed_entry};
 ghost use Rattle.back_node.specs.Node.{is_my_master, new_node};
-ghost use Rattle.back_node.specs.Takes.{node_takes, taken_up};
+ghost use Rattle.back_node.specs.Takes.{taken_up};
 
 use crate::rest::{Rest, Says};
 use backend_core::{BackPlan, Backend, Entries};
@@ -89,14 +89,5 @@ impl BackNode {
                 Ok(outs)
             }
         }
-    }
-
-    /// Takes a message of a node, in one step, whose entry is kept nowhere else. For want of memory the backend is spent.
-    pub fn takes(&mut self, alloc: Global, from: NodeName, message: LinkMsg) -> Result<Outs, Memory>
-        ensures state { OnOk result (self.new ≡ (node_takes self.old from message).state) }
-        ensures outs { IfOk result (λ outs. outs ≡ (node_takes self.old from message).outs) }
-    {
-        let rest = self.plan(alloc, from, message)?;
-        self.settle(alloc, rest)
     }
 }

@@ -178,9 +178,9 @@ impl Stage {
         match course {
             Course::NotReached => {
                 let why = What::Unreached(node_name(alloc, b"b1")?);
-                Ok(self.session.relocated(alloc, awaited, &why)?)
+                Ok(Need::Reply(self.session.relocated(alloc, awaited, &why)?))
             }
-            _ => Ok(self.session.relocated(alloc, awaited, &What::Reserved)?),
+            _ => Ok(Need::Reply(self.session.relocated(alloc, awaited, &What::Reserved)?)),
         }
     }
 }

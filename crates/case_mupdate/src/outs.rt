@@ -1,5 +1,5 @@
 // What goes out, in words.
-use link_msg::{AnswerBody, BackAnswer, LinkMsg, Out, Outcome};
+use link_msg::{AnswerBody, BackAnswer, FrontAsk, How, LinkMsg, Out, Outcome};
 use mail_message::Snapshot;
 use mur_base::{Bytes, Memory, NodeName};
 use schedule_text::put_text;
@@ -37,12 +37,34 @@ fn put_out(alloc: Global, out: &Out, text: &mut Bytes) -> Result<(), Memory> {
             let mark = format!(in alloc; "{}.{} {counts:?}", ask.conn, ask.command)?;
             text.extend_from_slice(mark.as_bytes())
         }
+        Out::Link(node, LinkMsg::Ask(ask)) => {
+            put_node(node, text)?;
+            put_ask(alloc, ask, text)
+        }
         Out::Link(_, _) => text.extend_from_slice(b"another message"),
         Out::Told(ask, how) => {
-            let told = format!(in alloc; "{}.{} told {how:?}", ask.conn, ask.command)?;
-            text.extend_from_slice(told.as_bytes())
+            let told = format!(in alloc; "{}.{} ", ask.conn, ask.command)?;
+            text.extend_from_slice(told.as_bytes())?;
+            put_how(how, text)
         }
     }
+}
+
+/// Prints how a client is told of its command.
+fn put_how(how: &How, text: &mut Bytes) -> Result<(), Memory> {
+    match how {
+        How::Here => text.extend_from_slice(b"told here"),
+        How::Behind => text.extend_from_slice(b"told behind"),
+        How::Reserved => text.extend_from_slice(b"refused reserved"),
+        How::Unreached(node) => put_at("refused unreached ", node, text),
+    }
+}
+
+/// Prints the command for which a frontend asks, and the mailbox.
+fn put_ask(alloc: Global, ask: &FrontAsk, text: &mut Bytes) -> Result<(), Memory> {
+    let id = format!(in alloc; "{}.{} asks ", ask.id.conn, ask.id.command)?;
+    text.extend_from_slice(id.as_bytes())?;
+    text.extend_from_slice(ask.name.as_bytes())
 }
 
 fn put_node(node: &NodeName, text: &mut Bytes) -> Result<(), Memory> {

@@ -12,6 +12,7 @@ pub mod Routing
 pub mod OneServer
 pub mod Serials
 pub mod Guests
+pub mod Disks
 pub mod Keeps
 pub mod Asking
 pub mod Lines

@@ -2,4 +2,5 @@
 pub mod Carried
 pub mod Comes
 pub mod Known
+pub mod LinksUp
 pub mod Stay

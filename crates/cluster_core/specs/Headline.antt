@@ -16,6 +16,7 @@ pub mod Replicas
 pub mod Points
 pub mod Backends
 pub mod Records
+pub mod Disks
 pub mod Asks
 pub mod AsksOnce
 pub mod Lines
@@ -27,6 +28,7 @@ use Rattle.cluster_core.specs.Flow.{run_of, run_steps, steps_of_run}
 use Rattle.cluster_core.specs.Headline.Asks.{AsksByRecords}
 use Rattle.cluster_core.specs.Headline.AsksOnce.{AsksOnceEach}
 use Rattle.cluster_core.specs.Headline.Closed.{GivesNoMore}
+use Rattle.cluster_core.specs.Headline.Disks.{StandsOnDisks}
 use Rattle.cluster_core.specs.Headline.FlowLaw.{AreStepsOfAll}
 use Rattle.cluster_core.specs.Headline.HomeLaw.{KeepsOneHomeEach}
 use Rattle.cluster_core.specs.Headline.Lines.{BeginsOnlyAsAsked}
@@ -44,8 +46,9 @@ use Rattle.cluster_core.specs.World.{layout_of, start}
 -- frontends follow the master's table, and by its own each asks the server of a mailbox, or for a new one that of the nearest name above, once and in the
 -- very step in which the command comes to wait for its answer, and the master before that only where there is no record, the server can't serve the
 -- mailbox at present, or a LIST needs all names; a backend reserves a name only for a CREATE that it was asked for, and deactivates a mailbox only for a
--- DELETE, once for each ask; each record of the master's table is at a backend, in its partition; a mailbox has at most one writable home; a command is
--- refused for a move only where its name is reserved; and UIDVALIDITYs never run out where clients send fewer than 2^32 bytes.
+-- DELETE, once for each ask; each record of the master's table is at a backend, in its partition; that table, and the mailboxes of a
+-- backend, are what the entries of their disks make; a mailbox has at most one writable home; a command is refused for a move only where its name is
+-- reserved; and UIDVALIDITYs never run out where clients send fewer than 2^32 bytes.
 pub record IsOneServer (config : Config) (events : List Event) : Type 0 where
   -- the run is that of its single steps, and those are its events, but of a flow as many deliveries as it may make, or until none is left
   pub by_steps : run_of config events ≡ run_steps (start config) (steps_of_run config events)
@@ -63,5 +66,6 @@ pub record IsOneServer (config : Config) (events : List Event) : Type 0 where
   pub asks_once : AsksOnceEach config events
   pub lines : BeginsOnlyAsAsked config events
   pub records : RecordsStandAtBackends config events
+  pub disks : StandsOnDisks config events
   pub one_home : KeepsOneHomeEach config events
   pub serials : LeavesSerials config events

@@ -1,5 +1,5 @@
--- The cluster before its first step, and what an event that is one step does: something comes to one node, which changes its state and
--- lets outputs out.
+-- The cluster before its first step, and what an event that is one step does: something comes to one node, which changes its state, writes an
+-- entry to its disk, if it has one to write, and then lets outputs out.
 use Rattle.std.specs.Prelude.{ℕ, ◌+◌, Bool, false, if◌then◌else◌, List, [], ◌∷◌, ◌++◌, map, Option, None, Some}
 use Rattle.std.specs.Ordering.{nat_cmp}
 use Rattle.std.specs.Cmp.Lexicographic.{slice_cmp}
@@ -46,7 +46,11 @@ pub record ClusterState : Type 0 where
 
 -- before any node
 abbrev pub no_world : World
-no_world = record { nodes = []; clients = []; broken = []; links = []; marks = []; steps = 0 }
+no_world = record { nodes = []; disks = []; clients = []; broken = []; links = []; marks = []; steps = 0 }
+
+-- the disks of nodes, each as the entries that it has
+abbrev pub Disks : Type 0
+Disks = List (List ℕ × List (List ℕ))
 
 abbrev pub first_name : List (List ℕ) → List ℕ
 first_name [] = []
@@ -92,10 +96,18 @@ first_state config node master_kind = state.Master (master_booted node.name (bac
 first_state config node Frontend = state.Front (new_front node.name (home_of config) (master_of config) (setting_of config))
 first_state config node backend_kind = state.Back (new_node (place_of node) (master_of config))
 
+-- the master and a backend begin with a disk without entries; a frontend has none
+unfoldable pub with_disk : Disks → List ℕ → Kind → Disks
+with_disk disks name master_kind = with_entry (slice_cmp nat_cmp) disks name []
+with_disk disks name Frontend = disks
+with_disk disks name backend_kind = with_entry (slice_cmp nat_cmp) disks name []
+
 -- a node more
 abbrev pub with_node : Config → World → Node → World
-with_node config world node =
-    record world { nodes = with_entry (slice_cmp nat_cmp) world.nodes node.name (first_state config node node.kind) }
+with_node config world node = record world {
+  nodes = with_entry (slice_cmp nat_cmp) world.nodes node.name (first_state config node node.kind);
+  disks = with_disk world.disks node.name node.kind;
+}
 
 unfoldable pub with_nodes : Config → World → List Node → World
 with_nodes config world [] = world
@@ -106,6 +118,10 @@ client_at world conn = value_at nat_cmp world.clients conn
 
 abbrev pub node_at : World → List ℕ → Option NodeState
 node_at world node = value_at (slice_cmp nat_cmp) world.nodes node
+
+-- the entries of a node's disk, if it has one
+abbrev pub disk_at : World → List ℕ → Option (List (List ℕ))
+disk_at world node = value_at (slice_cmp nat_cmp) world.disks node
 
 -- the frontend, the backend of a name
 abbrev pub front_at : World → List ℕ → Option Front
@@ -144,6 +160,19 @@ carry_all node world (out ∷ outs) = carry_all node (carry node world out) outs
 abbrev pub with_state : World → List ℕ → NodeState → World
 with_state world node it = record world { nodes = with_value (slice_cmp nat_cmp) world.nodes node it }
 
+-- an entry stands behind those of a node's disk
+unfoldable pub written_on : Disks → List ℕ → List ℕ → Option (List (List ℕ)) → Disks
+written_on disks node entry None = disks
+written_on disks node entry (Some entries) = with_value (slice_cmp nat_cmp) disks node (entries ++ entry ∷ [])
+
+-- so does what a step has to write
+unfoldable pub written : Disks → List ℕ → Option (List ℕ) → Disks
+written disks node None = disks
+written disks node (Some entry) = written_on disks node entry (value_at (slice_cmp nat_cmp) disks node)
+
+abbrev pub with_written : World → List ℕ → Option (List ℕ) → World
+with_written world node entry = record world { disks = written world.disks node entry }
+
 -- a message that is sent on a broken link is lost
 unfoldable pub is_lost : Broken → List ℕ → Out → Bool
 is_lost broken node (to_node other message) = is_broken broken node other
@@ -162,9 +191,13 @@ not_lost broken node [] = []
 not_lost broken node (out ∷ outs) =
     if is_lost broken node out then not_lost broken node outs else out ∷ not_lost broken node outs
 
--- the step of a node
+-- the entry of a node's step is written, and the node is in its new state
+abbrev pub with_acted : World → List ℕ → Acted → World
+with_acted world node acted = with_state (with_written world node acted.entry) node acted.state
+
+-- the step of a node: once its entry is written, its outputs are carried out
 abbrev pub acts : World → List ℕ → Acted → World
-acts world node acted = carry_all node (with_state world node acted.state) (not_lost world.broken node acted.outs)
+acts world node acted = carry_all node (with_acted world node acted) (not_lost world.broken node acted.outs)
 
 -- something comes to a node, if it is there
 unfoldable pub comes_to : World → List ℕ → NodeInput → Option NodeState → World

@@ -3,11 +3,11 @@ ghost use Rattle.std.specs.Prelude.{◌≡◌, ◌<◌, length, IfOk, OnOk};
 ghost use Rattle.front_core.specs.Front.{new_front};
 ghost use Rattle.imap_command.specs.Ruled.{IsDate};
 ghost use Rattle.node_step.specs.declared.node.NodeState.TheVariants as state;
-ghost use Rattle.cluster_core.specs.World.{start, layout_of, first_name, home_of, master_of, setting_of, first_state, told_up, with_node, with_nodes, with_ups};
+ghost use Rattle.cluster_core.specs.World.{start, layout_of, first_name, home_of, master_of, setting_of, first_state, told_up, with_disk, with_node, with_nodes, with_ups};
 
 use crate::coming::comes;
 use crate::layout::Layout;
-use crate::world::World;
+use crate::world::{Disks, World};
 use back_node::BackNode;
 use front_core::Front;
 use link_msg::LinkMsg;
@@ -15,6 +15,7 @@ use master_core::Master;
 use mur_base::{Copied, Items, Location, Map, Memory, NodeName};
 use mur_config::{Config, Kind, Link, Node};
 use mur_model::Setting;
+use node_disk::NodeDisk;
 use node_step::{NodeInput, NodeState};
 use std::alloc::Global;
 
@@ -26,7 +27,7 @@ pub fn dated(config: &Config)
     let _text = config.date.as_bytes();
 }
 
-/// Every node as it begins, with its links whole and up: no connection, nothing on its way.
+/// Every node as it begins, with its links whole and up: no connection, nothing on its way, nothing on a disk.
 #[tactic(auto, unfolding(crate::specs::World::start))]
 pub fn start(alloc: Global, config: &Config, layout: &Layout) -> Result<World, Memory>
     requires { layout.now ≡ layout_of config.now }
@@ -35,6 +36,7 @@ pub fn start(alloc: Global, config: &Config, layout: &Layout) -> Result<World, M
     let nodes = config.nodes.as_slice();
     let mut world = World {
         nodes: Map::new(alloc),
+        disks: Map::new(alloc),
         clients: Map::new(alloc),
         broken: Map::new(alloc),
         links: Map::new(alloc),
@@ -102,7 +104,21 @@ fn add_node(
 {
     let first = first_state(alloc, config, layout, node)?;
     world.nodes.insert(node.name.copy(alloc)?, first)?;
-    Ok(())
+    add_disk(alloc, &mut world.disks, node)
+}
+
+/// The disk of a node as it begins, if it has one.
+#[tactic(auto, unfolding(crate::specs::World::with_disk))]
+fn add_disk(alloc: Global, disks: &mut Disks, node: &Node) -> Result<(), Memory>
+    ensures { OnOk result (disks.new ≡ with_disk disks.old (node.now).name (node.now).kind) }
+{
+    match node.kind {
+        Kind::Master | Kind::Backend => {
+            disks.insert(node.name.copy(alloc)?, NodeDisk::new(alloc)?)?;
+            Ok(())
+        }
+        Kind::Frontend => Ok(()),
+    }
 }
 
 /// A node as it begins.

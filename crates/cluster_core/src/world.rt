@@ -10,6 +10,7 @@ use link_msg::LinkMsg;
 use link_queue::{Broken, Links};
 use mark_history::Mark;
 use mur_base::{Bytes, Items, Map, NodeName};
+use node_disk::NodeDisk;
 use node_record::Table;
 use node_step::NodeState;
 
@@ -20,11 +21,16 @@ pub struct Client {
     pub given: Bytes,
 }
 
-/// The cluster: its nodes, what is on its way between them, its clients, and what its steps did.
+/// The disks of nodes, by their names.
+pub type Disks = Map<NodeName, NodeDisk>;
+
+/// The cluster: its nodes, their disks, what is on its way between them, its clients, and what its steps did.
 #[derive(Drop)]
 pub struct World {
     /// The nodes, by their names.
     pub nodes: Map<NodeName, NodeState>,
+    /// The disks of the master and the backends.
+    pub disks: Disks,
     /// The clients, by the numbers of their connections.
     pub clients: Map<u64, Client>,
     /// The links that are broken; none is.

@@ -1,6 +1,7 @@
 -- How many commands the connections of a frontend may have, behind what comes to it.
 use Rattle.std.proofs.Math.Logic.{⊎_elim}
-use Rattle.std.proofs.Common.{◌≡◌, ◌≢◌, ℕ, nat_eq, ◌+◌, ◌<◌, ◌≤◌, ◌^◌, Bool, true, false, List, length, Option, None, Some, refl, sym, ◌∙◌, subst, arith}
+use Rattle.std.proofs.Common.{◌≡◌, ◌≢◌, ℕ, nat_eq, ◌+◌, ◌<◌, ◌≤◌, ◌^◌, Bool, true, false, List, [], ◌∷◌, length, Option, None, Some, refl, sym, ◌∙◌, subst, arith}
+use Rattle.std.specs.Map.{keys_of}
 use Rattle.std.specs.Option.{IfSome}
 use Rattle.std.specs.Ordering.{nat_cmp}
 use Rattle.std.specs.Cmp.Lexicographic.{pointwise}
@@ -17,14 +18,16 @@ use Rattle.front_core.specs.declared.connection.Connection.{Connection}
 use Rattle.front_core.specs.declared.connection.Stage.{Stage}
 use Rattle.front_core.specs.declared.connection.Stage.TheVariants.{Reading, Waits, Lists, Ended}
 use Rattle.front_core.specs.declared.front.Front.{Front}
-use Rattle.front_core.specs.Answered.{answer_comes, ok_comes}
+use Rattle.front_core.specs.Answered.{answer_comes, end_comes, ok_comes}
 use Rattle.front_core.specs.Ended.{released, released_at}
-use Rattle.front_core.specs.Front.{connection_at, connect, connect_at, bytes_in, front_bytes_at, bytes_by, having_read, hang, front_hang_at, hung_up, deliver, answer_at, answer_from, line_by, line_from, ok_at, up_from, waits_for, ways_of}
+use Rattle.front_core.specs.Front.{connection_at, connect, connect_at, bytes_in, front_bytes_at, bytes_by, having_read, hang, front_hang_at, hung_up, deliver}
+use Rattle.front_core.specs.Front.{all_end, answer_at, answer_from, awaited, end_at, end_if, line_by, line_from, ok_at, one_ends, up_from, waits_for, ways_of}
+use Rattle.front_core.specs.Front.{with_up, without_up}
 use Rattle.front_core.specs.Room.{commands_of, HasCommands, HasRoomAt, HasRoomFor}
 use Rattle.front_core.specs.Slots.{new_connection}
 use Rattle.front_core.specs.Taken.{inputs_come}
 use Rattle.front_core.proofs.ReadingLaws.{inputs_of_more-length}
-use Rattle.front_core.proofs.CommandLaws.{inputs_count, answer_counts, ok_counts}
+use Rattle.front_core.proofs.CommandLaws.{inputs_count, answer_counts, end_counts, ok_counts}
 
 same_some : {X : Type 0} (o : Option X) (x y : X) → o ≡ Some x → o ≡ Some y → x ≡ y
 same_some (Some z) x y a b = (let p : Some x ≡ Some y = sym a ∙ b in cc)
@@ -151,12 +154,37 @@ unfolding line_from
 line_counts front bytes most true has = line_by_counts front bytes most (barrier_answered bytes) has
 line_counts front bytes most false has = has
 
+end_at_counts : (front : Front) (conn most : ℕ) (found : Option Connection) → connection_at front conn ≡ found → HasCommands front most
+    → HasCommands (end_at front conn found).front most
+unfolding end_at
+end_at_counts front conn most None there has = has
+end_at_counts front conn most (Some connection) there has =
+    unchanged_counts front conn connection _ most there has
+    (omega (
+      arith,
+      released_counts (end_comes front.setting (ways_of front) conn connection).connection,
+      end_counts front.setting (ways_of front) conn connection,
+    ))
+
+end_counts_if : (front : Front) (conn most : ℕ) (waits : Bool) → HasCommands front most → HasCommands (end_if waits front conn).front most
+end_counts_if front conn most true has = end_at_counts front conn most (connection_at front conn) refl has
+end_counts_if front conn most false has = has
+
+pub one_counts : (front : Front) (node : List ℕ) (conn most : ℕ) → HasCommands front most → HasCommands (one_ends front node conn).front most
+one_counts front node conn most has = end_counts_if front conn most (awaited front.master (connection_at front conn) node) has
+
+all_count : (front : Front) (node : List ℕ) (conns : List ℕ) (most : ℕ) → HasCommands front most → HasCommands (all_end front node conns).front most
+unfolding all_end
+all_count front node [] most has = has
+all_count front node (conn ∷ conns) most has =
+    all_count (one_ends front node conn).front node conns most (one_counts front node conn most has)
+
 pub deliver_counts : (front : Front) (from : List ℕ) (message : LinkMsg) (most : ℕ) → HasCommands front most
     → HasCommands (deliver front from message).front most
 unfolding deliver
 deliver_counts front from (Answer answer) most has = answer_from_counts front answer most (waits_for (connection_at front (answer.id).conn) from) has
-deliver_counts front from Up most has = up_counts front most (pointwise nat_eq from front.master) has
-deliver_counts front from End most has = has
+deliver_counts front from Up most has = up_counts (with_up front from) most (pointwise nat_eq from front.master) has
+deliver_counts front from End most has = all_count (without_up front from) from (keys_of front.connections) most has
 deliver_counts front from (Line line) most has = line_counts front line most (pointwise nat_eq from front.master) has
 deliver_counts front from (Ask ask) most has = has
 
@@ -211,6 +239,6 @@ pub has_room_for : (front : Front) (message : LinkMsg) (most : ℕ) → HasComma
 unfolding HasRoomFor
 has_room_for front (Answer answer) most has fits = has_room_at front (answer.id).conn most 0 has (omega (arith, fits))
 has_room_for front Up most has fits = tt
-has_room_for front End most has fits = tt
+has_room_for front End most has fits = λ conn. has_room_at front conn most 0 has (omega (arith, fits))
 has_room_for front (Line line) most has fits = room_for_ok front (barrier_answered line) most has fits
 has_room_for front (Ask ask) most has fits = tt

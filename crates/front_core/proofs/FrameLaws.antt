@@ -1,10 +1,12 @@
 -- What an input makes of a connection depends neither on its reader nor on the inputs that wait, and changes neither.
-use Rattle.std.proofs.Common.{◌≡◌, ℕ, List, refl, sym, ◌∙◌, ap}
+use Rattle.std.proofs.Common.{◌≡◌, ℕ, Bool, true, false, List, refl, sym, ◌∙◌, ap}
+use Rattle.asking_core.specs.Begins.{Begun, first_sent}
 use Rattle.imap_talk.specs.declared.inputs.Input.{Input}
 use Rattle.imap_talk.specs.declared.inputs.Input.TheVariants.{GoesOn, Asks, Faults}
 use Rattle.imap_types.specs.declared.command.Tag.{Tag}
 use Rattle.imap_types.specs.declared.request.Request.{Request}
 use Rattle.imap_types.specs.declared.request.Request.TheVariants.{Command as a_command, Unknown as unknown, TooBig as too_big}
+use Rattle.mur_model.specs.declared.commands.list.Listing.{Listing}
 use Rattle.mur_model.specs.declared.setting.Setting.{Setting}
 use Rattle.mur_model.specs.declared.need.Need.{Need}
 use Rattle.mur_model.specs.declared.need.Need.TheVariants.{Reply, Leave, Home, Names}
@@ -13,7 +15,9 @@ use Rattle.front_core.specs.declared.connection.Connection.{Connection}
 use Rattle.front_core.specs.declared.connection.Stage.{Stage}
 use Rattle.front_core.specs.declared.connection.Stage.TheVariants.{Reading, Waits, Lists, Ended}
 use Rattle.front_core.specs.Reading.{Reading as Read}
-use Rattle.front_core.specs.Taken.{Turned, Ways, answers_now, answers_last, turned_by_need, request_in, input_in, comes_at, input_comes}
+use Rattle.front_core.specs.Taken.{Turned, Ways, answers_last, begins_if, lists_if, next_of, to_begin, told_now, turned_by_need, request_in, input_in}
+use Rattle.front_core.specs.Taken.{comes_at, input_comes}
+use Rattle.front_core.specs.Ups.{is_up}
 
 -- with another reader, and other inputs that wait
 abbrev pub holding : Read → List Input → Turned → Turned
@@ -24,18 +28,33 @@ reading reader turned = record turned { connection = record turned.connection { 
 
 module _ (setting : Setting) (ways : Ways) (conn : ℕ) (reader : Read) where
   module _ (waiting : List Input) where
+    begins_apart : (up : Bool) (c : Connection) (tag : Tag) (begun : Begun)
+        → begins_if up conn (record c { reader = reader; waiting = waiting }) tag begun ≡ holding reader waiting (begins_if up conn c tag begun)
+    unfolding told_now
+    begins_apart true c tag begun = refl
+    begins_apart false c tag begun = refl
+
+    lists_apart : (up : Bool) (c : Connection) (tag : Tag) (it : Listing)
+        → lists_if up ways.master conn (record c { reader = reader; waiting = waiting }) tag it
+        ≡ holding reader waiting (lists_if up ways.master conn c tag it)
+    unfolding told_now
+    lists_apart true c tag it = refl
+    lists_apart false c tag it = refl
+
     need_apart : (c : Connection) (tag : Tag) (need : Need)
         → turned_by_need ways conn (record c { reader = reader; waiting = waiting }) tag need ≡ holding reader waiting (turned_by_need ways conn c tag need)
-    unfolding turned_by_need answers_now answers_last
+    unfolding turned_by_need told_now answers_last
     need_apart c tag (Reply reply) = refl
     need_apart c tag (Leave reply) = refl
-    need_apart c tag (Home name asking) = refl
-    need_apart c tag (Names it) = refl
+    need_apart c tag (Home name asking) =
+        let it = first_sent ways.recs ways.master ways.first (next_of conn c) c.session (to_begin name asking) in
+        begins_apart (is_up ways.ups it.sent.to) c tag it
+    need_apart c tag (Names it) = lists_apart (is_up ways.ups ways.master) c tag it
 
     request_apart : (c : Connection) (request : Request)
         → request_in setting ways conn (record c { reader = reader; waiting = waiting }) request
         ≡ holding reader waiting (request_in setting ways conn c request)
-    unfolding request_in answers_now
+    unfolding request_in told_now
     request_apart c (a_command tag it) =
         let behind = begin setting c.session it in
         need_apart (record c { session = behind.session }) tag behind.need

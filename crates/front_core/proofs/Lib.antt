@@ -11,5 +11,6 @@ mod ListedLaw
 pub mod BegunLaws
 pub mod SlotLaws
 pub mod Counts
+pub mod EndLaws
 pub mod StrangerLaw
 pub mod OwnOuts

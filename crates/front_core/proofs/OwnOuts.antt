@@ -2,6 +2,7 @@
 -- as a home or the master does.
 use Rattle.std.proofs.Common.{◌≡◌, ◌≢◌, ℕ, nat_eq, Bool, true, false, List, [], ◌∷◌, ◌++◌, Option, None, Some, refl, sym, ap, ◌∙◌, subst}
 use Rattle.std.specs.Prelude.{⊤}
+use Rattle.std.specs.Map.{keys_of}
 use Rattle.std.specs.List.{AllByRecursion}
 use Rattle.std.specs.Ordering.{nat_cmp}
 use Rattle.std.specs.Cmp.Lexicographic.{pointwise}
@@ -16,7 +17,7 @@ use Rattle.ask_routes.specs.declared.next.Next.TheVariants as next
 use Rattle.ask_routes.specs.declared.next.Why.{Why}
 use Rattle.ask_routes.proofs.WayLaw.{each_about, each_answered, each_behind, each_first}
 use Rattle.asking_core.specs.Answered.{answered, answered_by, goes_on, needs_by, told_by}
-use Rattle.asking_core.specs.Begins.{ask_of, first_by, first_sent}
+use Rattle.asking_core.specs.Begins.{Begun, ask_of, first_by, first_sent}
 use Rattle.asking_core.specs.Cleared.{cleared}
 use Rattle.asking_core.specs.declared.then.Then.{Then}
 use Rattle.asking_core.specs.declared.then.Then.TheVariants as then
@@ -32,6 +33,7 @@ use Rattle.feed_core.specs.declared.rec.Rec.TheVariants.{Active, Reserved}
 use Rattle.front_core.specs.Reading.{inputs_of_more}
 use Rattle.imap_talk.specs.declared.inputs.Input.{Input}
 use Rattle.imap_talk.specs.declared.inputs.Input.TheVariants.{GoesOn, Asks, Faults}
+use Rattle.imap_reply.specs.ReplyText.{reply_text}
 use Rattle.imap_types.specs.declared.command.Tag.{Tag}
 use Rattle.imap_types.specs.declared.op.Op.TheVariants as op
 use Rattle.imap_types.specs.declared.reply.Reply.{Reply}
@@ -42,28 +44,37 @@ use Rattle.link_msg.specs.declared.answer.AnswerBody.TheVariants as answer_body
 use Rattle.link_msg.specs.declared.answer.BackAnswer.{BackAnswer}
 use Rattle.link_msg.specs.declared.ask.FrontAsk.{FrontAsk}
 use Rattle.link_msg.specs.declared.how.How.{How}
+use Rattle.link_msg.specs.declared.how.How.TheVariants.{Behind, Unreached}
 use Rattle.link_msg.specs.declared.message.LinkMsg.{LinkMsg}
 use Rattle.link_msg.specs.declared.message.LinkMsg.TheVariants.{Up, End, Line, Ask, Answer}
 use Rattle.link_msg.specs.declared.out.Out.{Out}
 use Rattle.link_msg.specs.declared.out.Out.TheVariants.{Client, Close, Link, Mark, Told}
 use Rattle.mur_base.specs.Map.{with_entry, with_value}
 use Rattle.mur_base.specs.declared.point.AskId.{AskId}
+use Rattle.mur_base.specs.declared.point.What.TheVariants.{Unreached as unreached}
 use Rattle.mur_base.proofs.MapLaws.{numbers_apart, same_or_other, value_at-with_entry-other, value_at-with_value-other}
+use Rattle.mur_model.specs.declared.commands.list.Listing.{Listing}
 use Rattle.mur_model.specs.declared.need.Asking.{Asking}
 use Rattle.mur_model.specs.declared.need.Need.{Need}
 use Rattle.mur_model.specs.declared.need.Need.TheVariants as needs
 use Rattle.mur_model.specs.declared.session.Sess.{Sess}
 use Rattle.mur_model.specs.declared.setting.Setting.{Setting}
 use Rattle.session_core.specs.Begin.{begin}
+use Rattle.session_core.specs.Relocated.{Refused, relocated}
 use Rattle.front_core.specs.declared.connection.Connection.{Connection}
 use Rattle.front_core.specs.declared.connection.Stage.{Stage}
 use Rattle.front_core.specs.declared.connection.Stage.TheVariants.{Reading, Waits, Lists, Ended}
 use Rattle.front_core.specs.declared.front.Front.{Front}
-use Rattle.front_core.specs.Answered.{answer_by, answer_comes, by_then, clears_at, need_behind, ok_by, ok_comes, reading_again}
+use Rattle.front_core.specs.Answered.{answer_by, answer_comes, by_then, clears_at, end_by, end_comes, ends_at, need_behind, ok_by, ok_comes, reading_again}
+use Rattle.front_core.specs.Answered.{how_for, reads_on, refused_behind, sends_if, waiting_come}
 use Rattle.front_core.specs.Ended.{released}
-use Rattle.front_core.specs.Front.{Stepped, answer_at, answer_from, bytes_by, bytes_in, connect, connect_at, connection_at, deliver, front_bytes_at, front_hang_at, hang, having_read, hung_up, line_by, line_from, ok_at, up_from, waits_for, ways_of}
+use Rattle.front_core.specs.Front.{Stepped, answer_at, answer_from, bytes_by, bytes_in, connect, connect_at, connection_at, deliver, front_bytes_at}
+use Rattle.front_core.specs.Front.{all_end, awaited, end_at, end_from, end_if, front_hang_at, hang, having_read, hung_up, line_by, line_from, ok_at, one_ends}
+use Rattle.front_core.specs.Front.{up_from, waits_for, ways_of, with_up, without_up}
 use Rattle.front_core.specs.Slots.{new_connection}
-use Rattle.front_core.specs.Taken.{Ways, answers_last, answers_now, asks, comes_at, input_comes, input_in, inputs_come, next_of, request_in, to_begin, turned_by_need}
+use Rattle.front_core.specs.Taken.{Turned, Ways, answers_last, asks, begins_if, comes_at, input_comes, input_in, inputs_come, lists, lists_if, next_of, request_in}
+use Rattle.front_core.specs.Taken.{list_refused, to_begin, told_now, turned_by_need}
+use Rattle.front_core.specs.Ups.{Ups, is_up}
 
 -- bytes for these clients alone, messages for these nodes alone, and marks where they may be
 abbrev pub IsLetOut : (ℕ → Type 0) → (List ℕ → LinkMsg → Type 0) → Type 0 → Out → Type 0
@@ -208,17 +219,28 @@ module _ (own : ℕ → Type 0) (may : List ℕ → LinkMsg → Type 0) (ways : 
   abbrev AreLet : List Out → Type 0
   AreLet outs = AreLetOut own may ⊥ outs
 
+  now_let : (how : How) (connection : Connection) (session : Sess) (tag : Tag) (reply : Reply) → AreLet (told_now how conn connection session tag reply).outs
+  unfolding told_now
+  now_let how connection session tag reply = (it_is, (tt, tt))
+
+  begins_let : (up : Bool) (connection : Connection) (tag : Tag) (begun : Begun) → may (begun.sent).to (begun.sent).message
+      → AreLet (begins_if up conn connection tag begun).outs
+  begins_let true connection tag begun there = (there, tt)
+  begins_let false connection tag begun there = now_let _ connection _ tag _
+
   asks_let : (connection : Connection) (tag : Tag) (name : List ℕ) (asking : Asking) → AreLet (asks ways conn connection tag name asking).outs
   asks_let connection tag name asking =
-      (begun_may may ways (next_of conn connection) connection.session (to_begin name asking) may_ask, tt)
+      let begun = first_sent ways.recs ways.master ways.first (next_of conn connection) connection.session (to_begin name asking) in
+      begins_let (is_up ways.ups (begun.sent).to) connection tag begun
+      (begun_may may ways (next_of conn connection) connection.session (to_begin name asking) may_ask)
+
+  lists_let_if : (up : Bool) (connection : Connection) (tag : Tag) (it : Listing) → AreLet (lists_if up ways.master conn connection tag it).outs
+  lists_let_if true connection tag it = (may_ask.master (noop_line (next_of conn connection)), tt)
+  lists_let_if false connection tag it = now_let _ connection _ tag _
 
   -- the NOOP of a LIST
-  lists_let : (connection : Connection) → AreLet (Link ways.master (Line (noop_line (next_of conn connection))) ∷ [])
-  lists_let connection = (may_ask.master (noop_line (next_of conn connection)), tt)
-
-  now_let : (connection : Connection) (session : Sess) (tag : Tag) (reply : Reply) → AreLet (answers_now conn connection session tag reply).outs
-  unfolding answers_now
-  now_let connection session tag reply = (it_is, (tt, tt))
+  lists_let : (connection : Connection) (tag : Tag) (it : Listing) → AreLet (lists ways conn connection tag it).outs
+  lists_let connection tag it = lists_let_if (is_up ways.ups ways.master) connection tag it
 
   last_let : (connection : Connection) (tag : Tag) (reply : Reply) → AreLet (answers_last conn connection tag reply).outs
   unfolding answers_last
@@ -226,17 +248,17 @@ module _ (own : ℕ → Type 0) (may : List ℕ → LinkMsg → Type 0) (ways : 
 
   need_let : (connection : Connection) (tag : Tag) (need : Need) → AreLet (turned_by_need ways conn connection tag need).outs
   unfolding turned_by_need
-  need_let connection tag (needs.Reply reply) = now_let connection connection.session tag reply
+  need_let connection tag (needs.Reply reply) = now_let _ connection connection.session tag reply
   need_let connection tag (needs.Leave reply) = last_let connection tag reply
   need_let connection tag (needs.Home name asking) = asks_let connection tag name asking
-  need_let connection tag (needs.Names it) = lists_let connection
+  need_let connection tag (needs.Names it) = lists_let connection tag it
 
   request_let : (setting : Setting) (connection : Connection) (request : Request) → AreLet (request_in setting ways conn connection request).outs
   unfolding request_in
   request_let setting connection (a_command tag it) =
       need_let (record connection { session = (begin setting connection.session it).session }) tag (begin setting connection.session it).need
-  request_let setting connection (unknown tag) = now_let connection connection.session tag _
-  request_let setting connection (too_big tag) = now_let connection connection.session tag _
+  request_let setting connection (unknown tag) = now_let _ connection connection.session tag _
+  request_let setting connection (too_big tag) = now_let _ connection connection.session tag _
 
   input_let : (setting : Setting) (connection : Connection) (input : Input) → AreLet (input_in setting ways conn connection input).outs
   unfolding input_in
@@ -259,20 +281,44 @@ module _ (own : ℕ → Type 0) (may : List ℕ → LinkMsg → Type 0) (ways : 
       both_let own may ⊥ turned.outs (inputs_come setting ways conn turned.connection inputs).outs
       (comes_let setting connection input connection.stage) (inputs_let setting turned.connection inputs)
 
+  -- a client is given a reply, and the inputs that waited come
+  read_let : (setting : Setting) (connection : Connection) (session : Sess) (how : How) (text : List ℕ)
+      → AreLet (reads_on setting ways conn (record connection { session = session }) how text).outs
+  read_let setting connection session how text =
+      (it_is, (tt, inputs_let setting (reading_again (record connection { session = session })) connection.waiting))
+
+  refused_let : (setting : Setting) (connection : Connection) (tag : Tag) (refused : Refused) (node : List ℕ)
+      → AreLet (refused_behind setting ways conn connection tag refused node).outs
+  refused_let setting connection tag refused node = read_let setting connection refused.session (Unreached node) (reply_text tag refused.reply)
+
+  waiting_let : (setting : Setting) (turned : Turned) → AreLet turned.outs → AreLet (waiting_come setting ways conn turned).outs
+  waiting_let setting turned let_out =
+      both_let own may ⊥ turned.outs (inputs_come setting ways conn (record turned.connection { waiting = [] }) (turned.connection).waiting).outs let_out
+      (inputs_let setting (record turned.connection { waiting = [] }) (turned.connection).waiting)
+
   behind_let : (setting : Setting) (connection : Connection) (tag : Tag) (how : How) (need : Need)
       → AreLet (need_behind setting ways conn connection tag how need).outs
-  behind_let setting connection tag how (needs.Reply reply) =
-      (it_is, (tt, inputs_let setting (reading_again connection) connection.waiting))
+  behind_let setting connection tag how (needs.Reply reply) = read_let setting connection connection.session how (reply_text tag reply)
   behind_let setting connection tag how (needs.Leave reply) = (it_is, (tt, (tt, tt)))
-  behind_let setting connection tag how (needs.Home name asking) = asks_let connection tag name asking
-  behind_let setting connection tag how (needs.Names it) = lists_let connection
+  behind_let setting connection tag how (needs.Home name asking) =
+      waiting_let setting (asks ways conn (record connection { stage = Reading }) tag name asking)
+      (asks_let (record connection { stage = Reading }) tag name asking)
+  behind_let setting connection tag how (needs.Names it) =
+      waiting_let setting (lists ways conn (record connection { stage = Reading }) tag it) (lists_let (record connection { stage = Reading }) tag it)
+
+  sends_let : (setting : Setting) (up : Bool) (connection : Connection) (tag : Tag) (it : Waiting) (sent : Sent) → may sent.to sent.message
+      → AreLet (sends_if up setting ways conn connection tag it sent).outs
+  sends_let setting true connection tag it sent there = (there, tt)
+  sends_let setting false connection tag it sent there =
+      refused_let setting connection tag (relocated connection.session it.asking.awaited (unreached sent.to)) sent.to
 
   then_let : (setting : Setting) (connection : Connection) (tag : Tag) (it : Waiting) (what : Then) → GoesThere may what
       → AreLet (by_then setting ways conn connection tag it what).outs
-  then_let setting connection tag it (then.Sends sent) there = (there, tt)
-  then_let setting connection tag it (then.Needs need) there = behind_let setting connection tag _ need
-  then_let setting connection tag it (then.Refused cause need) there = behind_let setting connection tag _ need
-  then_let setting connection tag it then.Lost there = tt
+  then_let setting connection tag it (then.Sends sent) there = sends_let setting (is_up ways.ups sent.to) connection tag it sent there
+  then_let setting connection tag it (then.Needs need) there = behind_let setting connection tag Behind need
+  then_let setting connection tag it (then.Refused cause reply) there =
+      read_let setting connection connection.session (how_for cause) (reply_text tag reply)
+  then_let setting connection tag it then.Lost there = (it_is, (tt, tt))
   then_let setting connection tag it then.Stays there = tt
 
   answer_by_let : (setting : Setting) (connection : Connection) (answer : BackAnswer) (fits : Bool) (stage : Stage) → MovesThere may answer.body
@@ -306,6 +352,22 @@ module _ (own : ℕ → Type 0) (may : List ℕ → LinkMsg → Type 0) (ways : 
   pub ok_let : (setting : Setting) (connection : Connection) (id : AskId) → AreLet (ok_comes setting ways conn connection id).outs
   unfolding ok_comes
   ok_let setting connection id = ok_by_let setting connection _ connection.stage
+
+  ends_let : (setting : Setting) (connection : Connection) (tag : Tag) (it : Waiting) (at : At)
+      → AreLet (ends_at setting ways conn connection tag it at).outs
+  ends_let setting connection tag it (Home server) = (it_is, (tt, tt))
+  ends_let setting connection tag it (Barrier why) =
+      refused_let setting connection tag (relocated connection.session it.asking.awaited (unreached ways.master)) ways.master
+
+  end_by_let : (setting : Setting) (connection : Connection) (stage : Stage) → AreLet (end_by setting ways conn connection stage).outs
+  unfolding end_by
+  end_by_let setting connection (Waits tag it) = ends_let setting connection tag it it.at
+  end_by_let setting connection (Lists tag it) = refused_let setting connection tag (list_refused connection.session) ways.master
+  end_by_let setting connection Reading = tt
+  end_by_let setting connection Ended = tt
+
+  pub end_let : (setting : Setting) (connection : Connection) → AreLet (end_comes setting ways conn connection).outs
+  end_let setting connection = end_by_let setting connection connection.stage
 
 -- ---- what a frontend lets out
 
@@ -447,11 +509,73 @@ module _ (own : ℕ → Type 0) (may : List ℕ → LinkMsg → Type 0) (front :
     line_own bytes true = line_own_by bytes (barrier_answered bytes)
     line_own bytes false = nothing_own
 
-    -- a message that comes
-    pub message_own : (from : List ℕ) (message : LinkMsg) → MovesBy may message → LetsItsOwn own may front (deliver front from message)
-    unfolding deliver
-    message_own from (Answer answer) moves = answer_own answer (waits_for (connection_at front (answer.id).conn) from) moves
-    message_own from Up moves = up_own (pointwise nat_eq from front.master)
-    message_own from End moves = nothing_own
-    message_own from (Line line) moves = line_own line (pointwise nat_eq from front.master)
-    message_own from (Ask ask) moves = nothing_own
+    end_own : (conn : ℕ) (found : Option Connection) → connection_at front conn ≡ found → LetsItsOwn own may front (end_at front conn found)
+    unfolding end_at
+    end_own conn None at = nothing_own
+    end_own conn (Some connection) at =
+        let here = has conn connection at in
+        record {
+          outs = end_let own may (ways_of front) conn here may_ask front.setting connection;
+          has = changed_has own front conn _ here has;
+          master = refl;
+          first = refl;
+        }
+
+    end_own_if : (conn : ℕ) (waits : Bool) → LetsItsOwn own may front (end_if waits front conn)
+    end_own_if conn true = end_own conn (connection_at front conn) refl
+    end_own_if conn false = nothing_own
+
+    pub one_own : (node : List ℕ) (conn : ℕ) → LetsItsOwn own may front (one_ends front node conn)
+    one_own node conn = end_own_if conn (awaited front.master (connection_at front conn) node)
+
+-- ---- a message that comes
+
+one_ways_by : (front : Front) (conn : ℕ) (found : Option Connection) → ways_of (end_at front conn found).front ≡ ways_of front
+unfolding end_at
+one_ways_by front conn None = refl
+one_ways_by front conn (Some connection) = refl
+
+one_ways_if : (front : Front) (conn : ℕ) (waits : Bool) → ways_of (end_if waits front conn).front ≡ ways_of front
+one_ways_if front conn true = one_ways_by front conn (connection_at front conn)
+one_ways_if front conn false = refl
+
+pub one_ways : (front : Front) (node : List ℕ) (conn : ℕ) → ways_of (one_ends front node conn).front ≡ ways_of front
+one_ways front node conn = one_ways_if front conn (awaited front.master (connection_at front conn) node)
+
+module _ (own : ℕ → Type 0) (may : List ℕ → LinkMsg → Type 0) where
+  -- a link ends
+  pub all_own : (front : Front) → HasConnections own front → MayAsk may (ways_of front) → (node : List ℕ) (conns : List ℕ)
+      → LetsItsOwn own may front (all_end front node conns)
+  unfolding all_end
+  all_own front has may_ask node [] = nothing_own own may front has
+  all_own front has may_ask node (conn ∷ conns) =
+      let stepped = one_ends front node conn in
+      let one = one_own own may front has may_ask node conn in
+      let rest = all_own stepped.front one.has (subst (MayAsk may) (sym (one_ways front node conn)) may_ask) node conns in
+      record {
+        outs = both_let own may ⊥ stepped.outs (all_end stepped.front node conns).outs one.outs rest.outs;
+        has = rest.has;
+        master = rest.master ∙ one.master;
+        first = rest.first ∙ one.first;
+      }
+
+  -- whichever links are up, the same may be asked
+  asks_still : (ways : Ways) (ups : Ups) → MayAsk may ways → MayAsk may (record ways { ups = ups })
+  asks_still ways ups may_ask = record { master = may_ask.master; named = may_ask.named; made = may_ask.made }
+
+  own_still : (front : Front) (ups : Ups) (stepped : Stepped) → LetsItsOwn own may (record front { ups = ups }) stepped → LetsItsOwn own may front stepped
+  own_still front ups stepped its = record { outs = its.outs; has = its.has; master = its.master; first = its.first }
+
+  pub message_own : (front : Front) (has : HasConnections own front) (may_ask : MayAsk may (ways_of front)) (from : List ℕ) (message : LinkMsg)
+      → MovesBy may message → LetsItsOwn own may front (deliver front from message)
+  unfolding deliver
+  message_own front has may_ask from (Answer answer) moves =
+      answer_own own may front has may_ask answer (waits_for (connection_at front (answer.id).conn) from) moves
+  message_own front has may_ask from Up moves =
+      own_still front _ (up_from (pointwise nat_eq from front.master) (with_up front from))
+      (up_own own may (with_up front from) has (asks_still (ways_of front) _ may_ask) (pointwise nat_eq from front.master))
+  message_own front has may_ask from End moves =
+      own_still front _ (end_from (without_up front from) from)
+      (all_own (without_up front from) has (asks_still (ways_of front) _ may_ask) from (keys_of front.connections))
+  message_own front has may_ask from (Line line) moves = line_own own may front has may_ask line (pointwise nat_eq from front.master)
+  message_own front has may_ask from (Ask ask) moves = nothing_own own may front has

@@ -1,4 +1,5 @@
--- What bytes make of a connection is what they make of its frontend; an answer, and the master's OK, is nothing to a connection whose command doesn't wait.
+-- What bytes make of a connection is what they make of its frontend; an answer, the master's OK and the end of a link are nothing to a connection whose
+-- command doesn't wait.
 use Rattle.std.proofs.Common.{◌≡◌, ℕ, ◌+◌, ◌==◌, Bool, true, false, List, [], Some, refl, sym, ap, ◌∙◌}
 use Rattle.std.specs.Ordering.{nat_cmp}
 use Rattle.std.specs.BTreeMap.{is_at}
@@ -12,7 +13,7 @@ use Rattle.front_core.specs.declared.connection.Connection.{Connection}
 use Rattle.front_core.specs.declared.connection.Stage.{Stage}
 use Rattle.front_core.specs.declared.connection.Stage.TheVariants.{Reading, Waits, Lists, Ended}
 use Rattle.front_core.specs.declared.front.Front.{Front}
-use Rattle.front_core.specs.Answered.{answer_by, answer_comes, ok_by, ok_comes}
+use Rattle.front_core.specs.Answered.{answer_by, answer_comes, end_by, end_comes, ok_by, ok_comes}
 use Rattle.front_core.specs.Ended.{ended, released_at, with_released}
 use Rattle.front_core.specs.Front.{Stepped, connection_at, bytes_at, bytes_by, bytes_in, front_bytes_at, ways_of}
 use Rattle.front_core.specs.Slots.{new_connection}
@@ -80,3 +81,12 @@ module _ (setting : Setting) (ways : Ways) (conn : ℕ) (id : AskId) where
   pub over_ok : (answered : ℕ) → with_released (ok_comes setting ways conn (ended answered) id) ≡ record { connection = ended answered; outs = [] }
   unfolding ok_comes
   over_ok answered = over_ok_by answered (id.command == answered + 1)
+
+module _ (setting : Setting) (ways : Ways) (conn : ℕ) where
+  pub fresh_end : with_released (end_comes setting ways conn new_connection) ≡ record { connection = new_connection; outs = [] }
+  unfolding end_by new_connection released_at
+  fresh_end = refl
+
+  pub over_end : (answered : ℕ) → with_released (end_comes setting ways conn (ended answered)) ≡ record { connection = ended answered; outs = [] }
+  unfolding end_by released_at
+  over_end answered = refl

@@ -1,8 +1,8 @@
 -- What comes of an answer, or of the master's OK: where the command waits on without a message, it waits as it did; and only a session that has begun
 -- asks a home.
-use Rattle.std.proofs.Common.{◌≡◌, ℕ, ◌+◌, true, List, Option, None, Some, refl, sym, ap, ◌∙◌, subst, arith}
+use Rattle.std.proofs.Common.{◌≡◌, ℕ, ◌+◌, Bool, true, false, List, Option, None, Some, refl, sym, ap, ◌∙◌, subst, arith}
 use Rattle.std.proofs.lemmas.Bool.Decides.{nat_tests}
-use Rattle.std.specs.Prelude.{◌==◌}
+use Rattle.std.specs.Prelude.{⊤, ◌==◌}
 use Rattle.link_msg.specs.declared.answer.BackAnswer.{BackAnswer}
 use Rattle.asking_core.specs.declared.waiting.At.{At}
 use Rattle.asking_core.specs.declared.waiting.At.TheVariants.{Home as at_home, Barrier as at_barrier}
@@ -11,7 +11,6 @@ use Rattle.link_msg.specs.declared.answer.AnswerBody.{AnswerBody}
 use Rattle.link_msg.specs.declared.answer.AnswerBody.TheVariants as answer
 use Rattle.imap_types.specs.declared.command.Tag.{Tag}
 use Rattle.mur_base.specs.declared.point.AskId.{AskId}
-use Rattle.mur_base.specs.declared.point.What.{What}
 use Rattle.mur_model.specs.declared.need.Need.{Need}
 use Rattle.mur_model.specs.declared.need.Need.TheVariants.{Reply, Leave, Home, Names}
 use Rattle.mur_model.specs.declared.session.Sess.{Sess}
@@ -20,31 +19,32 @@ use Rattle.mur_model.specs.declared.setting.Setting.{Setting}
 use Rattle.session_core.specs.declared.result.OpResult.TheVariants.{Done, Missing}
 use Rattle.session_core.specs.Begin.{MayNeed}
 use Rattle.session_core.specs.Finish.{finished_by, turn_of}
-use Rattle.session_core.specs.Relocated.{moved_turn, why_moved}
 use Rattle.session_core.proofs.NeedLaw.{may_need_behind}
 use Rattle.ask_routes.specs.declared.next.Next.{Next}
 use Rattle.ask_routes.specs.declared.next.Next.TheVariants as next
 use Rattle.ask_routes.specs.declared.next.Why.{Why}
 use Rattle.ask_routes.specs.Ways.{ask_for, behind_ok}
-use Rattle.asking_core.specs.Answered.{WentOn, answered, goes_on, refused, told_in}
+use Rattle.asking_core.specs.Answered.{WentOn, answered, goes_on, told_in}
 use Rattle.asking_core.specs.Cleared.{cleared}
 use Rattle.asking_core.specs.declared.then.Then.{Then}
 use Rattle.asking_core.specs.declared.then.Then.TheVariants as then
+use Rattle.asking_core.specs.declared.waiting.Sent.{Sent}
 use Rattle.asking_core.specs.declared.waiting.Waiting.{Waiting}
 use Rattle.link_msg.specs.declared.how.How.{How}
 use Rattle.link_msg.specs.declared.how.How.TheVariants as how
 use Rattle.front_core.specs.declared.connection.Connection.{Connection}
 use Rattle.front_core.specs.declared.connection.Stage.{Stage}
 use Rattle.front_core.specs.declared.connection.Stage.TheVariants.{Waits}
-use Rattle.front_core.specs.Answered.{answer_by, answer_comes, by_then, clears_at, goes_on_by, need_behind, ok_by, ok_comes, unchanged}
+use Rattle.front_core.specs.Answered.{answer_by, answer_comes, by_then, clears_at, goes_on_by, need_behind, ok_by, ok_comes, sends_if, unchanged}
 use Rattle.front_core.specs.Behind.{ThenFits, does}
 use Rattle.front_core.specs.Stages.{clears}
 use Rattle.front_core.specs.Taken.{Ways, next_of}
+use Rattle.front_core.specs.Ups.{is_up}
 
 abbrev pub FitAt : Sess → Waiting → Sess → Waiting → Then → Type 0
 FitAt was it session later (then.Sends sent) = session ≡ was
 FitAt was it session later (then.Needs need) = MayNeed session need
-FitAt was it session later (then.Refused cause need) = MayNeed session need
+FitAt was it session later (then.Refused cause reply) = ⊤
 FitAt was it session later then.Lost = (session ≡ was) × (later ≡ it)
 FitAt was it session later then.Stays = (session ≡ was) × (later ≡ it)
 
@@ -56,22 +56,18 @@ unfolding finished_by
 turn_fit session it None = (refl, refl)
 turn_fit session it (Some turn) = may_need_behind session (Some turn)
 
-refused_fit : (session : Sess) (it : Waiting) (cause : What) → IsFit session it (refused session it cause)
-unfolding finished_by
-refused_fit session it cause = may_need_behind session (Some (moved_turn it.asking.awaited (why_moved cause)))
-
 next_fit : (master : List ℕ) (id : AskId) (session : Sess) (it : Waiting) (found : Next) → IsFit session it (goes_on master id session it found)
 next_fit master id session it (next.Ask server) = refl
 next_fit master id session it (next.Barrier cause) = refl
 next_fit master id session it next.Missing = turn_fit session it (turn_of session it.asking.awaited Missing)
-next_fit master id session it next.Refused = refused_fit session it _
+next_fit master id session it next.Refused = tt
 
 pub answered_fit : (master : List ℕ) (id : AskId) (session : Sess) (it : Waiting) (body : AnswerBody) → IsFit session it (answered master id session it body)
 unfolding answered
 answered_fit master id session it (answer.Done outcome seen) = turn_fit session it (turn_of session it.asking.awaited (Done outcome seen))
 answered_fit master id session it answer.NotNow = refl
 answered_fit master id session it (answer.Moved server) = refl
-answered_fit master id session it (answer.Unreached node) = refused_fit session it _
+answered_fit master id session it (answer.Unreached node) = tt
 answered_fit master id session it answer.Lost = (refl, refl)
 
 pub cleared_fit : (recs : Recs) (master first : List ℕ) (id : AskId) (session : Sess) (it : Waiting) (why : Why)
@@ -85,7 +81,7 @@ fits_by : (was session : Sess) (it later : Waiting) (what : Then) → FitAt was 
 unfolding ThenFits
 fits_by was session it later (then.Sends sent) fit = tt
 fits_by was session it later (then.Needs need) fit = fit
-fits_by was session it later (then.Refused cause need) fit = fit
+fits_by was session it later (then.Refused cause reply) fit = tt
 fits_by was session it later then.Lost fit = tt
 fits_by was session it later then.Stays fit = tt
 
@@ -105,16 +101,21 @@ module _ (setting : Setting) (ways : Ways) (conn : ℕ) (c : Connection) (tag : 
   need_done session later told (Home name asking) = refl
   need_done session later told (Names it) = refl
 
+  sent_done : (up : Bool) (session : Sess) (later : Waiting) (sent : Sent)
+      → sends_if up setting ways conn (carried session later) tag later sent ≡ sends_if up setting ways conn (record c { session = session }) tag later sent
+  sent_done true session later sent = refl
+  sent_done false session later sent = refl
+
   stays : (session : Sess) (it later : Waiting) → c.stage ≡ Waits tag it → later ≡ it → carried session later ≡ record c { session = session }
   stays session it later is same = ap (λ (s : Stage). record c { session = session; stage = s }) (ap (Waits tag) same ∙ sym is)
 
   done_by : (session : Sess) (it later : Waiting) (what : Then) → c.stage ≡ Waits tag it → FitAt c.session it session later what
       → does setting ways conn (carried session later) what ≡ by_then setting ways conn (record c { session = session }) tag later what
   unfolding does
-  done_by session it later (then.Sends sent) is fit = refl
+  done_by session it later (then.Sends sent) is fit = sent_done (is_up ways.ups sent.to) session later sent
   done_by session it later (then.Needs need) is fit = need_done session later how.Behind need
-  done_by session it later (then.Refused cause need) is fit = need_done session later how.Reserved need
-  done_by session it later then.Lost is fit = ap unchanged (stays session it later is fit.1)
+  done_by session it later (then.Refused cause reply) is fit = refl
+  done_by session it later then.Lost is fit = refl
   done_by session it later then.Stays is fit = ap unchanged (stays session it later is fit.1)
 
   -- so it does what is defined

@@ -1,5 +1,6 @@
 -- A frontend: what it does with what comes from clients and on links. Calls on a connection that isn't there change nothing.
-use Rattle.std.specs.Prelude.{◌≡◌, ℕ, nat_eq, Bool, true, false, List, [], ◌∷◌, Option, None, Some}
+use Rattle.std.specs.Prelude.{◌≡◌, ℕ, nat_eq, Bool, true, false, List, [], ◌∷◌, ◌++◌, Option, None, Some}
+use Rattle.std.specs.Map.{keys_of}
 use Rattle.std.specs.Ordering.{nat_cmp}
 use Rattle.std.specs.Cmp.Lexicographic.{pointwise}
 use Rattle.feed_core.specs.Feed.{empty_replica}
@@ -8,7 +9,7 @@ use Rattle.ask_routes.specs.Barrier.{barrier_answered}
 use Rattle.imap_reply.specs.Greeting.{greeting}
 use Rattle.link_msg.specs.declared.answer.BackAnswer.{BackAnswer}
 use Rattle.link_msg.specs.declared.message.LinkMsg.{LinkMsg}
-use Rattle.link_msg.specs.declared.message.LinkMsg.TheVariants.{Up, Line, Answer}
+use Rattle.link_msg.specs.declared.message.LinkMsg.TheVariants.{Up, End, Line, Answer}
 use Rattle.link_msg.specs.declared.out.Out.{Out}
 use Rattle.link_msg.specs.declared.out.Out.TheVariants.{Client, Link}
 use Rattle.mur_base.specs.declared.point.AskId.{AskId}
@@ -18,21 +19,22 @@ use Rattle.front_core.specs.declared.connection.Connection.{Connection}
 use Rattle.front_core.specs.declared.connection.Stage.{Stage}
 use Rattle.front_core.specs.declared.connection.Stage.TheVariants.{Reading, Waits, Lists, Ended}
 use Rattle.front_core.specs.declared.front.Front.{Front}
-use Rattle.front_core.specs.Answered.{answer_comes, ok_comes}
+use Rattle.front_core.specs.Answered.{answer_comes, end_comes, ok_comes}
 use Rattle.front_core.specs.Ended.{ended, released, with_released}
 use Rattle.front_core.specs.Reading.{inputs_of_more, read_more}
 use Rattle.front_core.specs.Slots.{new_connection}
-use Rattle.front_core.specs.Stages.{has_asked}
+use Rattle.front_core.specs.Stages.{awaits, has_asked}
 use Rattle.front_core.specs.Taken.{Turned, Ways, inputs_come}
+use Rattle.front_core.specs.Ups.{coming_up, going_down}
 
--- a frontend without a connection
+-- a frontend without a connection, and with no link up
 unfoldable pub new_front : List ℕ → List ℕ → List ℕ → Setting → Front
 new_front me first master setting =
-    record { me = me; first = first; master = master; replica = empty_replica; setting = setting; connections = [] }
+    record { me = me; first = first; master = master; replica = empty_replica; ups = []; setting = setting; connections = [] }
 
 -- by what it decides whom it asks
 abbrev pub ways_of : Front → Ways
-ways_of front = record { recs = front.replica.records; master = front.master; first = front.first }
+ways_of front = record { recs = front.replica.records; master = front.master; first = front.first; ups = front.ups }
 
 -- a frontend, and what it let out
 pub record Stepped : Type 0 where
@@ -120,6 +122,14 @@ unfoldable pub answer_from : Bool → Front → BackAnswer → Stepped
 answer_from true front answer = answer_at front answer (connection_at front (answer.id).conn)
 answer_from false front answer = still front
 
+-- ---- links come up and end
+
+abbrev pub with_up : Front → List ℕ → Front
+with_up front node = record front { ups = coming_up front.ups node }
+
+abbrev pub without_up : Front → List ℕ → Front
+without_up front node = record front { ups = going_down front.ups node }
+
 -- the link to the master comes up: of its table nothing is known yet, and the frontend asks for it (RFC 3656, 4.11)
 abbrev pub asks_for_table : Front → Stepped
 asks_for_table front = record {
@@ -130,6 +140,40 @@ asks_for_table front = record {
 unfoldable pub up_from : Bool → Front → Stepped
 up_from true front = asks_for_table front
 up_from false front = still front
+
+-- a command of a connection waits for something from this node
+unfoldable pub awaited : List ℕ → Option Connection → List ℕ → Bool
+awaited master None node = false
+awaited master (Some connection) node = awaits master connection.stage node
+
+unfoldable pub end_at : Front → ℕ → Option Connection → Stepped
+end_at front conn None = still front
+end_at front conn (Some connection) = with_turned front conn (end_comes front.setting (ways_of front) conn connection)
+
+-- the link to a node ends: that is something to a connection whose command waits for something from that node
+abbrev pub end_if : Bool → Front → ℕ → Stepped
+end_if true front conn = end_at front conn (connection_at front conn)
+end_if false front conn = still front
+
+abbrev pub one_ends : Front → List ℕ → ℕ → Stepped
+one_ends front node conn = end_if (awaited front.master (connection_at front conn) node) front conn
+
+-- what was let out before stands in front
+abbrev pub behind_them : List Out → Stepped → Stepped
+behind_them outs stepped = record stepped { outs = outs ++ stepped.outs }
+
+-- to each of these, one after another
+unfoldable pub all_end : Front → List ℕ → List ℕ → Stepped
+all_end front node [] = still front
+all_end front node (conn ∷ conns) =
+    let stepped = one_ends front node conn in
+    behind_them stepped.outs (all_end stepped.front node conns)
+
+-- to all connections, in rising order of their numbers
+abbrev pub end_from : Front → List ℕ → Stepped
+end_from front node = all_end front node (keys_of front.connections)
+
+-- ---- what a node tells
 
 -- only the master tells of its table
 abbrev pub hearing : Front → List ℕ → Front
@@ -153,7 +197,8 @@ line_from false front bytes = still front
 unfoldable pub deliver : Front → List ℕ → LinkMsg → Stepped
 deliver front from (Answer answer) = answer_from (waits_for (connection_at front (answer.id).conn) from) front answer
 deliver front from (Line bytes) = line_from (pointwise nat_eq from front.master) front bytes
-deliver front from Up = up_from (pointwise nat_eq from front.master) front
+deliver front from Up = up_from (pointwise nat_eq from front.master) (with_up front from)
+deliver front from End = end_from (without_up front from) from
 deliver front from message = still front
 
 -- how many commands of a connection wait, for the answer of a server or for the master
@@ -166,3 +211,9 @@ is_asked Ended = 0
 -- no connection waits for the answer of this node
 abbrev pub WaitsForNone : Front → List ℕ → Type 0
 WaitsForNone front node = (conn : ℕ) → waits_for (connection_at front conn) node ≡ false
+
+-- it is noted alone whether the link is up
+unfoldable pub noting : Front → List ℕ → LinkMsg → Front
+noting front from Up = with_up front from
+noting front from End = without_up front from
+noting front from message = front

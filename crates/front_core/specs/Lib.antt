@@ -1,5 +1,6 @@
 pub mod Reading
 pub mod Given
+pub mod Ups
 pub mod Taken
 pub mod Answered
 pub mod Behind

@@ -5,7 +5,7 @@ use Rattle.ask_routes.specs.declared.next.Why.{Why}
 use Rattle.asking_core.specs.declared.waiting.At.{At}
 use Rattle.asking_core.specs.declared.waiting.At.TheVariants.{Home, Barrier}
 use Rattle.front_core.specs.declared.connection.Stage.{Stage}
-use Rattle.front_core.specs.declared.connection.Stage.TheVariants.{Reading, Waits, Ended}
+use Rattle.front_core.specs.declared.connection.Stage.TheVariants.{Reading, Waits, Lists, Ended}
 
 unfoldable pub is_reading : Stage → Bool
 is_reading Reading = true
@@ -28,3 +28,13 @@ has_asked stage node = false
 abbrev pub clears : At → Option Why
 clears (Home server) = None
 clears (Barrier why) = Some why
+
+-- a command waits for something from this node: for its answer, or, where it is the master, for its OK
+abbrev pub waits_at : List ℕ → At → List ℕ → Bool
+waits_at master (Home server) node = pointwise nat_eq server node
+waits_at master (Barrier why) node = pointwise nat_eq master node
+
+unfoldable pub awaits : List ℕ → Stage → List ℕ → Bool
+awaits master (Waits tag it) node = waits_at master it.at node
+awaits master (Lists tag it) node = pointwise nat_eq master node
+awaits master stage node = false

@@ -1,7 +1,7 @@
 // A connection of a mail client at a frontend.
 ghost use Rattle.std.specs.Prelude.{◌≡◌};
 ghost use Rattle.front_core.specs.Slots.{new_connection};
-ghost use Rattle.front_core.specs.Stages.{has_asked, is_reading, stage_has_ended};
+ghost use Rattle.front_core.specs.Stages.{awaits, has_asked, is_reading, stage_has_ended};
 
 use crate::parked::Parked;
 use crate::reader::Reader;
@@ -67,6 +67,18 @@ impl Connection {
         match &self.stage {
             Stage::Waits(_, it) => it.has_asked(node),
             Stage::Reading | Stage::Lists(_, _) | Stage::Ended => false,
+        }
+    }
+
+    /// Whether a command waits for something from this node.
+    #[tactic(auto, unfolding(crate::specs::Stages::awaits))]
+    pub fn awaits(&self, master: &NodeName, node: &NodeName) -> bool
+        ensures { result ≡ awaits master.now self.now.stage node.now }
+    {
+        match &self.stage {
+            Stage::Waits(_, it) => it.awaits(master, node),
+            Stage::Lists(_, _) => *master == *node,
+            Stage::Reading | Stage::Ended => false,
         }
     }
 

@@ -1,6 +1,8 @@
 // What a frontend works with for one of its connections.
 ghost use Rattle.std.specs.Prelude.{◌≡◌, ◌+◌, ◌<◌, ◌^◌};
+ghost use Rattle.front_core.specs.Ups.{is_up};
 
+use crate::ups::Ups;
 use asking_core::Routes;
 use feed_core::Replica;
 use mur_base::{AskId, NodeName};
@@ -19,11 +21,21 @@ pub struct Desk<'a> {
     pub master: &'a NodeName,
     /// The server of a new mailbox without a name above it.
     pub first: &'a NodeName,
+    /// The nodes to which the frontend's link is up.
+    pub ups: &'a Ups,
     /// The number of the connection.
     pub conn: u64,
 }
 
 impl<'a> Desk<'a> {
+    /// Whether the link to a node is up.
+    #[tactic(auto, unfolding(crate::specs::Ups::is_up))]
+    pub fn reaches(self, node: &NodeName) -> bool
+        ensures { result ≡ is_up self.entry.ups.now node.now }
+    {
+        self.ups.contains_key(node)
+    }
+
     /// By what the next command of the connection is carried on, behind so many that were answered.
     pub fn routes(self, answered: u64) -> Routes<'a>
         requires room { answered + 1 < 2 ^ 64 }

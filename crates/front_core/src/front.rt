@@ -3,16 +3,18 @@ ghost use Rattle.std.specs.Prelude.{◌≡◌, ◌≢◌, nat_eq, length, IfOk};
 ghost use Rattle.std.specs.Cmp.Lexicographic.{pointwise};
 ghost use Rattle.std.specs.Option.{IfSome};
 ghost use Rattle.ask_routes.specs.Barrier.{barrier_answered};
-ghost use Rattle.front_core.specs.Front.{new_front, connect, connection_at, bytes_in, hang, hearing, deliver, still, answer_at, answer_from, line_by, line_from, ok_at, up_from, waits_for, WaitsForNone};
+ghost use Rattle.front_core.specs.Front.{new_front, connect, connection_at, bytes_in, hang, hearing, deliver, noting, still, answer_at, answer_from};
+ghost use Rattle.front_core.specs.Front.{line_by, line_from, ok_at, waits_for, WaitsForNone};
 ghost use Rattle.front_core.specs.Room.{HasRoomAt, HasRoomFor};
 
 use crate::desk::Desk;
 use crate::replies::{given, greeting};
 use crate::slot::Slot;
+use crate::ups::Ups;
 use ask_routes::barrier_answered;
-use feed_core::{Replica, update_line};
-use link_msg::{BackAnswer, LinkMsg, Out, Outs};
-use mur_base::{AskId, Bytes, Copied, Map, Memory, NodeName};
+use feed_core::Replica;
+use link_msg::{BackAnswer, LinkMsg, Outs};
+use mur_base::{AskId, Bytes, Map, Memory, NodeName};
 use mur_model::Setting;
 use std::alloc::Global;
 
@@ -27,6 +29,8 @@ pub struct Front {
     pub master: NodeName,
     /// What the master told of its table since the link to it came up.
     pub replica: Replica,
+    /// The nodes to which its link is up.
+    pub ups: Ups,
     /// The users, and the date of a message that comes without one.
     pub setting: Setting,
     pub connections: Map<u64, Slot>,
@@ -49,6 +53,7 @@ impl Front {
             first,
             master,
             replica: Replica::new(alloc),
+            ups: Ups::new(alloc),
             setting,
             connections: Map::new(alloc),
         }
@@ -81,6 +86,7 @@ impl Front {
             replica: &self.replica,
             master: &self.master,
             first: &self.first,
+            ups: &self.ups,
             conn,
         };
         let outs = slot.bytes_in(desk, piece)?;
@@ -98,7 +104,8 @@ impl Front {
     }
 
     /// A message of a node comes on a link: an answer counts only from the node that was asked, and a line only from the master: it is the OK
-    /// to the NOOP of a command, or tells of the table, for which the frontend asks as soon as its link comes up (RFC 3656, 4.11). For want of memory the frontend is spent.
+    /// to the NOOP of a command, or tells of the table, for which the frontend asks as soon as its link comes up (RFC 3656, 4.11). Where a link
+    /// ends, commands that wait for something from its node are refused or lost. For want of memory the frontend is spent.
     #[tactic(auto, unfolding(crate::specs::Front::deliver, crate::specs::Room::HasRoomFor), using(crate::proofs::StrangerLaw::strangers))]
     pub fn deliver(
         &mut self,
@@ -109,28 +116,15 @@ impl Front {
         requires room { HasRoomFor self.old message }
         ensures step { IfOk result (λ outs. record { front = self.new; outs = outs } ≡ deliver self.old from.now message) }
         ensures stranger { WaitsForNone self.old from.now → from.now ≢ self.old.master
-            → IfOk result (λ outs. record { front = self.new; outs = outs } ≡ still self.old) }
+            → IfOk result (λ outs. record { front = self.new; outs = outs } ≡ still (noting self.old from.now message)) }
     {
         match message {
             LinkMsg::Answer(answer) => self.answer_from(alloc, from, answer),
-            LinkMsg::Up => self.up_from(alloc, from),
+            LinkMsg::Up => self.comes_up(alloc, from),
+            LinkMsg::End => self.goes_down(alloc, from),
             LinkMsg::Line(line) => self.line_from(alloc, from, line),
-            LinkMsg::End | LinkMsg::Ask(_) => Ok(Outs::new(alloc)),
+            LinkMsg::Ask(_) => Ok(Outs::new(alloc)),
         }
-    }
-
-    // The link to a node comes up: of the master's table nothing is known yet.
-    #[tactic(auto, unfolding(crate::specs::Front::up_from))]
-    fn up_from(&mut self, alloc: Global, from: &NodeName) -> Result<Outs, Memory>
-        ensures { IfOk result (λ outs. record { front = self.new; outs = outs } ≡ up_from (pointwise nat_eq from.now self.old.master) self.old) }
-    {
-        let mut outs = Outs::new(alloc);
-        if *from == self.master {
-            self.replica = Replica::new(alloc);
-            let master = self.master.copy(alloc)?;
-            outs.push(Out::Link(master, LinkMsg::Line(update_line(alloc)?)))?;
-        }
-        Ok(outs)
     }
 
     #[tactic(auto, unfolding(crate::specs::Front::line_from))]
@@ -178,6 +172,7 @@ impl Front {
                     replica: &self.replica,
                     master: &self.master,
                     first: &self.first,
+                    ups: &self.ups,
                     conn: id.conn,
                 };
                 let outs = slot.ok_comes(desk, id)?;
@@ -231,6 +226,7 @@ impl Front {
                     replica: &self.replica,
                     master: &self.master,
                     first: &self.first,
+                    ups: &self.ups,
                     conn,
                 };
                 let outs = slot.answer_comes(desk, answer)?;

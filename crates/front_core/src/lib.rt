@@ -9,9 +9,11 @@
 //! | the master's OK to a command's NOOP | the same, by the replica of then | [`Front::deliver`], `specs/Answered.antt` |
 //! | another line of the master | the replica changes (RFC 3656, 4.11) | [`Front::deliver`], `specs/Front.antt` |
 //! | the link to the master comes up | the replica is empty, and the master is asked for its table | [`Front::deliver`], `specs/Front.antt` |
+//! | the link to a node ends | what asked it is lost with its connection; what waits for the OK of the master is refused | [`Front::deliver`], `specs/Answered.antt` |
 //! | a client closes its connection | what the connection held is let go | [`Front::hang`], `specs/Ended.antt` |
 //!
-//! Whom a command asks, and what comes of each answer, is decided in `asking_core`. What any other node says changes nothing.
+//! Whom a command asks, and what comes of each answer, is decided in `asking_core`. Nothing is sent where a link isn't up: the command is refused. What any
+//! other node says changes nothing.
 #![tactic(auto)]
 
 mod answered;
@@ -19,6 +21,7 @@ mod asks;
 mod connection;
 mod desk;
 mod front;
+mod links;
 mod listing;
 mod parked;
 mod piece;
@@ -26,6 +29,7 @@ mod reader;
 mod replies;
 mod slot;
 mod taken;
+mod ups;
 mod waiting;
 
 pub use connection::{Connection, Stage};
@@ -33,3 +37,4 @@ pub use front::Front;
 pub use parked::Parked;
 pub use reader::Reader;
 pub use slot::Slot;
+pub use ups::Ups;

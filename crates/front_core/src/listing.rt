@@ -3,6 +3,7 @@ ghost use Rattle.std.specs.Prelude.{◌≡◌, ◌+◌, ◌<◌, ◌^◌, IfOk, 
 ghost use Rattle.feed_core.specs.Listing.{mailbox_names};
 ghost use Rattle.mur_model.specs.Listing.{gathered_of};
 ghost use Rattle.front_core.specs.Answered.{listed_by};
+ghost use Rattle.front_core.specs.Behind.{list_refused_at};
 ghost use Rattle.front_core.specs.Room.{commands_of};
 ghost use Rattle.front_core.specs.Taken.{behind_outs, lists, ways_by};
 
@@ -13,11 +14,11 @@ use ask_routes::noop_line;
 use feed_core::Replica;
 use link_msg::{How, LinkMsg, Out, Outs};
 use mur_base::{AskId, Copied, Memory};
-use mur_model::{Gathered, Listing, Tag};
+use mur_model::{Gathered, Listing, NoText, Tag, refused};
 use std::alloc::Global;
 
 impl Connection {
-    /// Sends the master a NOOP, under the number that the command will have. For want of memory the connection is spent.
+    /// Sends the master a NOOP, under the number that the command will have; where the link to it isn't up, the LIST is refused. For want of memory the connection is spent.
     pub(crate) fn lists(
         &mut self,
         desk: Desk,
@@ -27,16 +28,37 @@ impl Connection {
     ) -> Result<(), Memory>
         requires room { self.old.answered + 1 < 2 ^ 64 }
         ensures { OnOk result (record { connection = self.new; outs = outs.new }
-            ≡ behind_outs outs.old (lists (ways_by desk.entry.replica.now.records desk.entry.master.now desk.entry.first.now) desk.entry.conn self.old tag it)) }
+            ≡ behind_outs outs.old (lists (ways_by desk.entry.replica.now.records desk.entry.master.now desk.entry.first.now desk.entry.ups.now)
+            desk.entry.conn self.old tag it)) }
     {
-        let id = AskId {
-            conn: desk.conn,
-            command: self.answered + 1,
+        let master = desk.master.copy(desk.alloc)?;
+        if desk.reaches(desk.master) {
+            let id = AskId {
+                conn: desk.conn,
+                command: self.answered + 1,
+            };
+            let line = noop_line(desk.alloc, &id)?;
+            self.stage = Stage::Lists(tag, it);
+            outs.push(Out::Link(master, LinkMsg::Line(line)))
+        } else {
+            let reply = refused(desk.alloc, NoText::NotReached);
+            self.told_now(desk, &tag, How::Unreached(master), reply, outs)
+        }
+    }
+
+    /// Refuses a LIST that waits, since the master isn't reached. For want of memory the connection is spent.
+    pub(crate) fn list_refused(&mut self, desk: Desk) -> Result<Outs, Memory>
+        requires room { commands_of self.old < 2 ^ 64 }
+        ensures { IfOk result (λ outs. record { connection = self.new; outs = outs }
+            ≡ list_refused_at desk.entry.setting.now (ways_by desk.entry.replica.now.records desk.entry.master.now desk.entry.first.now desk.entry.ups.now)
+            desk.entry.conn self.old self.old.stage) }
+    {
+        let Stage::Lists(tag, _) = &self.stage else {
+            return Ok(Outs::new(desk.alloc));
         };
-        let line = noop_line(desk.alloc, &id)?;
-        let to = desk.master.copy(desk.alloc)?;
-        self.stage = Stage::Lists(tag, it);
-        outs.push(Out::Link(to, LinkMsg::Line(line)))
+        let text = reply_bytes(desk.alloc, tag, refused(desk.alloc, NoText::NotReached))?;
+        let how = How::Unreached(desk.master.copy(desk.alloc)?);
+        self.reads_on(desk, how, text)
     }
 
     /// Answers a LIST that waited: all that the master told before its OK was taken. Its time grows as the number of mailboxes. For want of memory
@@ -45,7 +67,8 @@ impl Connection {
     pub(crate) fn listed(&mut self, desk: Desk) -> Result<Outs, Memory>
         requires room { commands_of self.old < 2 ^ 64 }
         ensures { IfOk result (λ outs. record { connection = self.new; outs = outs }
-            ≡ listed_by desk.entry.setting.now (ways_by desk.entry.replica.now.records desk.entry.master.now desk.entry.first.now) desk.entry.conn self.old self.old.stage) }
+            ≡ listed_by desk.entry.setting.now (ways_by desk.entry.replica.now.records desk.entry.master.now desk.entry.first.now desk.entry.ups.now)
+            desk.entry.conn self.old self.old.stage) }
     {
         let Stage::Lists(tag, it) = &self.stage else {
             return Ok(Outs::new(desk.alloc));

@@ -1,15 +1,17 @@
 // A command that waits, where it takes little room.
 ghost use Rattle.std.specs.Prelude.{◌≡◌, IfOk};
 ghost use Rattle.session_core.specs.Begin.{HasBegun};
+ghost use Rattle.session_core.specs.Relocated.{relocated};
 ghost use Rattle.asking_core.specs.Answered.{answered};
 ghost use Rattle.asking_core.specs.Cleared.{cleared};
-ghost use Rattle.asking_core.specs.declared.waiting.At.TheVariants.{Barrier};
-ghost use Rattle.front_core.specs.Stages.{asks_at, clears};
+ghost use Rattle.mur_base.specs.declared.point.What.TheVariants.{Unreached};
+ghost use Rattle.front_core.specs.Stages.{asks_at, clears, waits_at};
 
 use ask_routes::Why;
 use asking_core::{At, Routes, Then, Waiting};
 use link_msg::AnswerBody;
 use mur_base::{Memory, NodeName};
+use mur_model::Reply;
 use session_core::Session;
 use std::alloc::Global;
 use std::marker::Model;
@@ -52,6 +54,16 @@ impl Parked {
         }
     }
 
+    /// Whether the command waits for something from this node.
+    pub fn awaits(&self, master: &NodeName, node: &NodeName) -> bool
+        ensures { result ≡ waits_at master.now self.now.at node.now }
+    {
+        match &self.held.at {
+            At::Home(server) => *server == *node,
+            At::Barrier(_) => *master == *node,
+        }
+    }
+
     /// Why the master is asked for it, if it waits for the master's OK.
     pub fn barrier(&self) -> Option<Why>
         ensures { result ≡ clears self.now.at }
@@ -88,5 +100,16 @@ impl Parked {
             ≡ cleared routes.entry.replica.now.records routes.entry.master.now routes.entry.first.now routes.entry.id session.old self.old why) }
     {
         self.held.cleared(routes, session, why)
+    }
+    /// The reply to the command where it is refused, since this node isn't reached. For want of memory the session is spent.
+    pub fn unreached(
+        &self,
+        alloc: Global,
+        session: &mut Session,
+        node: &NodeName,
+    ) -> Result<Reply, Memory>
+        ensures { IfOk result (λ reply. record { session = session.new; reply = reply } ≡ relocated session.old self.now.asking.awaited (Unreached node.now)) }
+    {
+        self.held.unreached(alloc, session, node)
     }
 }

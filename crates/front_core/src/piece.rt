@@ -24,7 +24,8 @@ impl Connection {
     ) -> Result<(), Memory>
         requires room { commands_of self.old + length piece.now < 2 ^ 64 }
         ensures { OnOk result (with_released (record { connection = self.new; outs = outs.new }) ≡ with_released (behind_outs outs.old
-            (inputs_come desk.entry.setting.now (ways_by desk.entry.replica.now.records desk.entry.master.now desk.entry.first.now) desk.entry.conn (having_read desk.entry.setting.now self.old piece.now)
+            (inputs_come desk.entry.setting.now (ways_by desk.entry.replica.now.records desk.entry.master.now desk.entry.first.now desk.entry.ups.now)
+            desk.entry.conn (having_read desk.entry.setting.now self.old piece.now)
             (inputs_of_more desk.entry.setting.now self.old.reader piece.now)))) }
     {
         let mut taken = 0;
@@ -45,7 +46,8 @@ impl Connection {
     ) -> Result<(), Memory>
         requires room { self.old.answered + 1 < 2 ^ 64 }
         ensures { OnOk result (record { connection = self.new; outs = outs.new }
-            ≡ behind_outs outs.old (inputs_come desk.entry.setting.now (ways_by desk.entry.replica.now.records desk.entry.master.now desk.entry.first.now) desk.entry.conn self.old (option_to_list input))) }
+            ≡ behind_outs outs.old (inputs_come desk.entry.setting.now (ways_by desk.entry.replica.now.records desk.entry.master.now desk.entry.first.now desk.entry.ups.now)
+            desk.entry.conn self.old (option_to_list input))) }
     {
         match input {
             Some(input) => self.input_comes(desk, input, outs),

@@ -48,17 +48,18 @@ fn continuation_line(alloc: Global, why: Continuation) -> Result<Bytes, Memory>
     Ok(line)
 }
 
-/// The BYE line that tells of a fault.
-pub fn bye_line(alloc: Global, fault: FrameFault) -> Result<Bytes, Memory>
-    ensures { IfOk result (λ line. line ≡ bye_line (bye_of fault)) }
+/// The line that says that a connection ends.
+pub fn bye_line(alloc: Global, bye: Bye) -> Result<Bytes, Memory>
+    ensures { IfOk result (λ line. line ≡ bye_line bye) }
 {
     let mut line = Bytes::new(alloc);
-    put_bye(bye_of(fault), &mut line)?;
+    put_bye(bye, &mut line)?;
     Ok(line)
 }
 
+/// What it says of a fault.
 #[tactic(auto, unfolding(imap_talk::specs::FaultBye::bye_of))]
-fn bye_of(fault: FrameFault) -> Bye
+pub fn bye_of(fault: FrameFault) -> Bye
     ensures { result ≡ bye_of fault }
 {
     match fault {

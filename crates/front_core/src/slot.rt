@@ -1,12 +1,12 @@
 // What a frontend keeps of a connection.
 ghost use Rattle.std.specs.Prelude.{◌≡◌, ◌+◌, ◌<◌, ◌^◌, length, IfOk};
-ghost use Rattle.front_core.specs.Answered.{answer_comes, ok_comes};
+ghost use Rattle.front_core.specs.Answered.{answer_comes, end_comes, ok_comes};
 ghost use Rattle.front_core.specs.Begun.{IsBegun};
 ghost use Rattle.front_core.specs.Ended.{ended, released, with_released};
 ghost use Rattle.front_core.specs.Front.{bytes_at, bytes_taken};
 ghost use Rattle.front_core.specs.Room.{commands_of};
 ghost use Rattle.front_core.specs.Slots.{new_connection};
-ghost use Rattle.front_core.specs.Stages.{has_asked, stage_has_ended};
+ghost use Rattle.front_core.specs.Stages.{awaits, has_asked, stage_has_ended};
 ghost use Rattle.front_core.specs.Taken.{ways_by};
 
 use crate::connection::{Connection, Stage};
@@ -80,7 +80,8 @@ impl Slot {
     pub fn bytes_in(&mut self, desk: Desk, piece: &[u8]) -> Result<Outs, Memory>
         requires room { commands_of self.old + length piece.now < 2 ^ 64 }
         ensures { IfOk result (λ outs. record { connection = self.new; outs = outs }
-            ≡ bytes_at desk.entry.setting.now (ways_by desk.entry.replica.now.records desk.entry.master.now desk.entry.first.now) desk.entry.conn self.old piece.now (stage_has_ended self.old.stage)) }
+            ≡ bytes_at desk.entry.setting.now (ways_by desk.entry.replica.now.records desk.entry.master.now desk.entry.first.now desk.entry.ups.now)
+            desk.entry.conn self.old piece.now (stage_has_ended self.old.stage)) }
     {
         match mem::replace(&mut self.held, Held::Over(0)) {
             Held::Fresh => {
@@ -105,7 +106,8 @@ impl Slot {
         requires room { commands_of connection.value + length piece.now < 2 ^ 64 }
         requires begun { IsBegun connection.value }
         ensures { IfOk result (λ outs. record { connection = self.new; outs = outs }
-            ≡ bytes_taken desk.entry.setting.now (ways_by desk.entry.replica.now.records desk.entry.master.now desk.entry.first.now) desk.entry.conn connection.value piece.now) }
+            ≡ bytes_taken desk.entry.setting.now (ways_by desk.entry.replica.now.records desk.entry.master.now desk.entry.first.now desk.entry.ups.now)
+            desk.entry.conn connection.value piece.now) }
     {
         let mut connection = connection;
         let mut outs = Outs::new(desk.alloc);
@@ -125,12 +127,24 @@ impl Slot {
         }
     }
 
+    /// Whether a command waits for something from this node.
+    #[tactic(auto, unfolding(crate::specs::Slots::new_connection, crate::specs::Stages::awaits))]
+    pub fn awaits(&self, master: &NodeName, node: &NodeName) -> bool
+        ensures { result ≡ awaits master.now self.now.stage node.now }
+    {
+        match &self.held {
+            Held::Live(connection) => connection.awaits(master, node),
+            Held::Fresh | Held::Over(_) => false,
+        }
+    }
+
     /// Takes an answer, where it is one to the command that waits. For want of memory the connection is spent.
     #[tactic(auto, using(crate::proofs::SlotLaws::fresh_answer, crate::proofs::SlotLaws::over_answer))]
     pub fn answer_comes(&mut self, desk: Desk, answer: BackAnswer) -> Result<Outs, Memory>
         requires room { commands_of self.old < 2 ^ 64 }
         ensures { IfOk result (λ outs. record { connection = self.new; outs = outs }
-            ≡ with_released (answer_comes desk.entry.setting.now (ways_by desk.entry.replica.now.records desk.entry.master.now desk.entry.first.now) desk.entry.conn self.old answer)) }
+            ≡ with_released (answer_comes desk.entry.setting.now (ways_by desk.entry.replica.now.records desk.entry.master.now desk.entry.first.now desk.entry.ups.now)
+            desk.entry.conn self.old answer)) }
     {
         match mem::replace(&mut self.held, Held::Over(0)) {
             Held::Live(connection) => {
@@ -155,12 +169,39 @@ impl Slot {
     pub fn ok_comes(&mut self, desk: Desk, id: AskId) -> Result<Outs, Memory>
         requires room { commands_of self.old < 2 ^ 64 }
         ensures { IfOk result (λ outs. record { connection = self.new; outs = outs }
-            ≡ with_released (ok_comes desk.entry.setting.now (ways_by desk.entry.replica.now.records desk.entry.master.now desk.entry.first.now) desk.entry.conn self.old id)) }
+            ≡ with_released (ok_comes desk.entry.setting.now (ways_by desk.entry.replica.now.records desk.entry.master.now desk.entry.first.now desk.entry.ups.now)
+            desk.entry.conn self.old id)) }
     {
         match mem::replace(&mut self.held, Held::Over(0)) {
             Held::Live(connection) => {
                 let mut connection = connection;
                 let outs = connection.ok_comes(desk, id)?;
+                *self = Slot::of(connection);
+                Ok(outs)
+            }
+            Held::Fresh => {
+                self.held = Held::Fresh;
+                Ok(Outs::new(desk.alloc))
+            }
+            Held::Over(answered) => {
+                self.held = Held::Over(answered);
+                Ok(Outs::new(desk.alloc))
+            }
+        }
+    }
+
+    /// The link ends to the node for which the command waits. For want of memory the connection is spent.
+    #[tactic(auto, using(crate::proofs::SlotLaws::fresh_end, crate::proofs::SlotLaws::over_end))]
+    pub fn end_comes(&mut self, desk: Desk) -> Result<Outs, Memory>
+        requires room { commands_of self.old < 2 ^ 64 }
+        ensures { IfOk result (λ outs. record { connection = self.new; outs = outs }
+            ≡ with_released (end_comes desk.entry.setting.now (ways_by desk.entry.replica.now.records desk.entry.master.now desk.entry.first.now desk.entry.ups.now)
+            desk.entry.conn self.old)) }
+    {
+        match mem::replace(&mut self.held, Held::Over(0)) {
+            Held::Live(connection) => {
+                let mut connection = connection;
+                let outs = connection.end_comes(desk)?;
                 *self = Slot::of(connection);
                 Ok(outs)
             }

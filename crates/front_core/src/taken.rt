@@ -1,21 +1,16 @@
 // What an input makes of a connection, and what is let out. One command at a time: inputs that come behind a command which
 // waits, for a server or for the master, wait with it (RFC 9051, 5.5).
-ghost use Rattle.std.specs.Prelude.{◌≡◌, ◌+◌, ◌<◌, ◌^◌, [], ◌∷◌, ◌++◌, OnOk};
-ghost use Rattle.link_msg.specs.declared.out.Out.TheVariants.{Client, Close};
-ghost use Rattle.front_core.specs.declared.connection.Stage.TheVariants.{Ended};
-ghost use Rattle.imap_reply.specs.ByeLine.{bye_line};
-ghost use Rattle.imap_talk.specs.FaultBye.{bye_of};
+ghost use Rattle.std.specs.Prelude.{◌≡◌, ◌+◌, ◌<◌, ◌^◌, OnOk};
 ghost use Rattle.session_core.specs.Begin.{MayNeed};
-ghost use Rattle.front_core.specs.Taken.{input_comes, input_in, request_in, turned_by_need, answers_now, answers_last, behind_outs, ways_by};
+ghost use Rattle.front_core.specs.Taken.{input_comes, input_in, request_in, turned_by_need, told_now, answers_last, behind_outs, says_bye, ways_by};
 
 use crate::connection::{Connection, Stage};
 use crate::desk::Desk;
-use crate::replies::{bye_line, goes_on, reply_bytes, reply_of};
+use crate::replies::{bye_line, bye_of, goes_on, reply_bytes, reply_of};
 use imap_talk::Input;
-use imap_wire::FrameFault;
 use link_msg::{How, Out, Outs};
 use mur_base::{AskId, Memory};
-use mur_model::{BadText, NoText, Reply, Request, Tag, Verdict, refused};
+use mur_model::{BadText, Bye, NoText, Reply, Request, Tag, Verdict, refused};
 use session_core::Need;
 
 impl Connection {
@@ -29,7 +24,8 @@ impl Connection {
     ) -> Result<(), Memory>
         requires room { self.old.answered + 1 < 2 ^ 64 }
         ensures { OnOk result (record { connection = self.new; outs = outs.new }
-            ≡ behind_outs outs.old (input_comes desk.entry.setting.now (ways_by desk.entry.replica.now.records desk.entry.master.now desk.entry.first.now) desk.entry.conn self.old input)) }
+            ≡ behind_outs outs.old (input_comes desk.entry.setting.now (ways_by desk.entry.replica.now.records desk.entry.master.now desk.entry.first.now desk.entry.ups.now)
+            desk.entry.conn self.old input)) }
     {
         match self.stage {
             Stage::Reading => self.input_in(desk, input, outs),
@@ -48,22 +44,23 @@ impl Connection {
     ) -> Result<(), Memory>
         requires room { self.old.answered + 1 < 2 ^ 64 }
         ensures { OnOk result (record { connection = self.new; outs = outs.new }
-            ≡ behind_outs outs.old (input_in desk.entry.setting.now (ways_by desk.entry.replica.now.records desk.entry.master.now desk.entry.first.now) desk.entry.conn self.old input)) }
+            ≡ behind_outs outs.old (input_in desk.entry.setting.now (ways_by desk.entry.replica.now.records desk.entry.master.now desk.entry.first.now desk.entry.ups.now)
+            desk.entry.conn self.old input)) }
     {
         match input {
             Input::Asks(request) => self.request_in(desk, request, outs),
             Input::GoesOn(why) => goes_on(desk.alloc, desk.conn, why, outs),
-            Input::Faults(fault) => self.faults(desk, fault, outs),
+            Input::Faults(fault) => self.says_bye(desk, bye_of(fault), outs),
         }
     }
 
-    /// A fault ends the connection, with a BYE.
-    fn faults(&mut self, desk: Desk, fault: FrameFault, outs: &mut Outs) -> Result<(), Memory>
-        ensures connection { OnOk result (self.new ≡ record self.old { stage = Ended }) }
-        ensures outs { OnOk result (outs.new ≡ outs.old ++ Client desk.entry.conn (bye_line (bye_of fault)) ∷ Close desk.entry.conn ∷ []) }
+    /// The connection ends, and its client is told why.
+    #[tactic(auto, using(std::proofs::lemmas::Grind::common_steps))]
+    pub(crate) fn says_bye(&mut self, desk: Desk, bye: Bye, outs: &mut Outs) -> Result<(), Memory>
+        ensures { OnOk result (record { connection = self.new; outs = outs.new } ≡ behind_outs outs.old (says_bye desk.entry.conn self.old bye)) }
     {
         self.stage = Stage::Ended;
-        outs.push(Out::Client(desk.conn, bye_line(desk.alloc, fault)?))?;
+        outs.push(Out::Client(desk.conn, bye_line(desk.alloc, bye)?))?;
         outs.push(Out::Close(desk.conn))
     }
 
@@ -71,7 +68,8 @@ impl Connection {
     fn request_in(&mut self, desk: Desk, request: Request, outs: &mut Outs) -> Result<(), Memory>
         requires room { self.old.answered + 1 < 2 ^ 64 }
         ensures { OnOk result (record { connection = self.new; outs = outs.new }
-            ≡ behind_outs outs.old (request_in desk.entry.setting.now (ways_by desk.entry.replica.now.records desk.entry.master.now desk.entry.first.now) desk.entry.conn self.old request)) }
+            ≡ behind_outs outs.old (request_in desk.entry.setting.now (ways_by desk.entry.replica.now.records desk.entry.master.now desk.entry.first.now desk.entry.ups.now)
+            desk.entry.conn self.old request)) }
     {
         match request {
             Request::Command(tag, command) => {
@@ -80,11 +78,11 @@ impl Connection {
             }
             Request::Unknown(tag) => {
                 let reply = reply_of(desk.alloc, Verdict::Bad(BadText::Syntax));
-                self.answers(desk, &tag, reply, outs)
+                self.told_now(desk, &tag, How::Here, reply, outs)
             }
             Request::TooBig(tag) => {
                 let reply = refused(desk.alloc, NoText::Limit);
-                self.answers(desk, &tag, reply, outs)
+                self.told_now(desk, &tag, How::Here, reply, outs)
             }
         }
     }
@@ -95,10 +93,11 @@ impl Connection {
         requires room { self.old.answered + 1 < 2 ^ 64 }
         requires fits { MayNeed self.old.session need }
         ensures { OnOk result (record { connection = self.new; outs = outs.new }
-            ≡ behind_outs outs.old (turned_by_need (ways_by desk.entry.replica.now.records desk.entry.master.now desk.entry.first.now) desk.entry.conn self.old tag need)) }
+            ≡ behind_outs outs.old (turned_by_need (ways_by desk.entry.replica.now.records desk.entry.master.now desk.entry.first.now desk.entry.ups.now)
+            desk.entry.conn self.old tag need)) }
     {
         match need {
-            Need::Reply(reply) => self.answers(desk, &tag, reply, outs),
+            Need::Reply(reply) => self.told_now(desk, &tag, How::Here, reply, outs),
             Need::Leave(reply) => self.answers_last(desk, &tag, reply, outs),
             Need::Home(name, asking) => self.asks(desk, tag, name, asking, outs),
             Need::Names(it) => self.lists(desk, tag, it, outs),
@@ -106,7 +105,7 @@ impl Connection {
     }
 
     /// The last answer of a connection.
-    #[tactic(auto, using(std::proofs::lemmas::Grind::common_steps), unfolding(crate::specs::Taken::answers_last, crate::specs::Taken::answers_now))]
+    #[tactic(auto, using(std::proofs::lemmas::Grind::common_steps), unfolding(crate::specs::Taken::answers_last, crate::specs::Taken::told_now))]
     fn answers_last(
         &mut self,
         desk: Desk,
@@ -119,22 +118,23 @@ impl Connection {
             ≡ behind_outs outs.old (answers_last desk.entry.conn self.old tag.now reply)) }
     {
         self.stage = Stage::Ended;
-        self.answers(desk, tag, reply, outs)?;
+        self.told_now(desk, tag, How::Here, reply, outs)?;
         outs.push(Out::Close(desk.conn))
     }
 
-    /// A command that is answered, of which this step is the point.
-    #[tactic(auto, using(std::proofs::lemmas::Grind::common_steps), unfolding(crate::specs::Taken::answers_now))]
-    fn answers(
+    /// A command whose client is told of it, of which this step is the point.
+    #[tactic(auto, using(std::proofs::lemmas::Grind::common_steps), unfolding(crate::specs::Taken::told_now))]
+    pub(crate) fn told_now(
         &mut self,
         desk: Desk,
         tag: &Tag,
+        how: How,
         reply: Reply,
         outs: &mut Outs,
     ) -> Result<(), Memory>
         requires room { self.old.answered + 1 < 2 ^ 64 }
         ensures { OnOk result (record { connection = self.new; outs = outs.new }
-            ≡ behind_outs outs.old (answers_now desk.entry.conn self.old self.old.session tag.now reply)) }
+            ≡ behind_outs outs.old (told_now how desk.entry.conn self.old self.old.session tag.now reply)) }
     {
         self.answered += 1;
         let id = AskId {
@@ -142,6 +142,6 @@ impl Connection {
             command: self.answered,
         };
         outs.push(Out::Client(desk.conn, reply_bytes(desk.alloc, tag, reply)?))?;
-        outs.push(Out::Told(id, How::Here))
+        outs.push(Out::Told(id, how))
     }
 }

@@ -14,7 +14,8 @@ impl Connection {
     pub(crate) fn waiting_come(&mut self, desk: Desk, outs: &mut Outs) -> Result<(), Memory>
         requires room { commands_of self.old < 2 ^ 64 }
         ensures { OnOk result (record { connection = self.new; outs = outs.new }
-            ≡ behind_outs outs.old (inputs_come desk.entry.setting.now (ways_by desk.entry.replica.now.records desk.entry.master.now desk.entry.first.now) desk.entry.conn (record self.old { waiting = [] }) self.old.waiting)) }
+            ≡ behind_outs outs.old (inputs_come desk.entry.setting.now (ways_by desk.entry.replica.now.records desk.entry.master.now desk.entry.first.now desk.entry.ups.now)
+            desk.entry.conn (record self.old { waiting = [] }) self.old.waiting)) }
     {
         while self.is_reading() {
             let Some(input) = self.waiting.pop() else {

@@ -13,7 +13,7 @@ use Rattle.master_core.specs.declared.sender.Sender.TheVariants.{Backend, Fronte
 use Rattle.master_core.specs.declared.streams.StreamStep.{StreamStep}
 use Rattle.master_core.specs.declared.streams.StreamStep.TheVariants as stream
 use Rattle.master_core.specs.Changes.{change_outs}
-use Rattle.master_core.specs.Linked.{sender_by, sender_of, let_out, node_says}
+use Rattle.master_core.specs.Linked.{sender_by, sender_of, let_out, node_entry, node_says}
 use Rattle.master_core.specs.Outside.{Stepped}
 use Rattle.master_core.specs.Replies.{reply_to, bad_reply}
 use Rattle.master_core.specs.Step.{Planned, answered, mark_outs, reply_outs, replied, settled, bad_step, line_step, table_with}
@@ -22,7 +22,6 @@ use Rattle.mupdate_codec.specs.declared.tag.Tag.{Tag}
 use Rattle.mur_base.specs.Map.{value_at}
 use Rattle.node_record.specs.declared.master.MasterRecord.{MasterRecord}
 use Rattle.guest_links.specs.Guests.{Guest, told_of, told_change}
-use Rattle.guest_links.specs.Happenings.{change_by}
 use Rattle.guest_links.specs.Served.{HasWatchers, IsGuestOf, IsNoGuest, IsServed, watcher_at}
 use Rattle.guest_links.proofs.Outputs.{Gives, gives_nothing, both, and_nothing, IsANode, no_answers, no_marks, change_told}
 
@@ -110,7 +109,7 @@ same_step : (master : Master) (conn : ℕ) → NodeStep master conn (record { ma
 same_step master conn = record { clients = record { outside = refl; watchers = refl }; table = refl; gives = λ order. gives_nothing conn }
 
 pub node_step : (master : Master) (conn : ℕ) (node : List ℕ) (message : LinkMsg)
-    → NodeStep master conn (node_says master node message) (change_by master node message)
+    → NodeStep master conn (node_says master node message) (node_entry master node message)
 unfolding node_says
 node_step master conn node (Line bytes) =
     step_by master conn (sender_of master node) (line_step master (sender_of master node) bytes)

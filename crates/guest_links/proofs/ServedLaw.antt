@@ -10,6 +10,7 @@ use Rattle.master_core.specs.declared.outside.Outside.{Outside}
 use Rattle.master_core.specs.declared.outside.Outside.TheVariants as outside
 use Rattle.master_core.specs.Dialogs.{greeted}
 use Rattle.master_core.specs.Greeting.{greeting}
+use Rattle.master_core.specs.Linked.{node_entry}
 use Rattle.master_core.specs.Outside.{Stepped, connect, connect_at, bytes_at, bytes_in}
 use Rattle.master_core.specs.Streams.{ended_if, without}
 use Rattle.master_core.proofs.OutsideAlone.{ActsAlone, bytes_alone, connects_alone, ends_alone}
@@ -18,7 +19,7 @@ use Rattle.mur_base.specs.Map.{value_at}
 use Rattle.mur_base.proofs.MapLaws.{numbers_apart, value_at-with_entry}
 use Rattle.guest_links.specs.Guests.{Guest, arrived, bytes_taken, left}
 use Rattle.guest_links.specs.Happenings.{Happening, connects, says, leaves, sends, hung_up}
-use Rattle.guest_links.specs.Happenings.{step_of, change_by, change_of, seen_after, master_from, outs_from, seen_from}
+use Rattle.guest_links.specs.Happenings.{step_of, change_of, seen_after, master_from, outs_from, seen_from}
 use Rattle.guest_links.specs.Outputs.{given_by}
 use Rattle.guest_links.specs.Served.{HasWatchers, IsGuestOf, IsNoGuest, IsSeen}
 use Rattle.guest_links.specs.Served.{IsServed, given_to, EachStepServes, ChangesAreOfTheTable, ClientsHaveTheirDialogs}
@@ -131,7 +132,7 @@ each_step_serves master conn None (leaves other) order none =
     (λ e. subst (λ c. IsServed conn (hung_up master c) None None false) e (nobody_leaves master conn order none))
     (λ ne. another_acts conn other master (hung_up master other) None ne (ends_alone master other) none)
 each_step_serves master conn None (sends node message) order none =
-    nobody_told master conn _ (change_by master node message) order (node_step master conn node message) none
+    nobody_told master conn _ (node_entry master node message) order (node_step master conn node message) none
 each_step_serves master conn (Some guest) (connects other) order is =
     by_client (λ b. IsServed conn (connect master other) (Some guest) (Some guest) false) conn other
     (λ e. subst (λ c. IsServed conn (connect master c) (Some guest) (Some guest) false) e (arrives_again master conn guest is))
@@ -149,7 +150,7 @@ each_step_serves master conn (Some guest) (leaves other) order is =
     (leaves_it master conn guest order is))
     (λ ne. another_acts conn other master (hung_up master other) (Some guest) ne (ends_alone master other) is)
 each_step_serves master conn (Some guest) (sends node message) order is =
-    guest_told master conn guest _ (change_by master node message) order (node_step master conn node message) is
+    guest_told master conn guest _ (node_entry master node message) order (node_step master conn node message) is
 
 pub changes_are_of_the_table : ChangesAreOfTheTable
 unfolding step_of

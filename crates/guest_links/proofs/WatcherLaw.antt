@@ -10,7 +10,7 @@ use Rattle.link_msg.specs.declared.message.LinkMsg.{LinkMsg}
 use Rattle.link_msg.specs.declared.message.LinkMsg.TheVariants.{Up, End, Line, Ask, Answer}
 use Rattle.master_core.specs.declared.master.Master.{Master}
 use Rattle.master_core.specs.declared.sender.Sender.{Sender}
-use Rattle.master_core.specs.Linked.{sender_of}
+use Rattle.master_core.specs.Linked.{node_entry, sender_of}
 use Rattle.master_core.specs.Replies.{reply_to, bad_reply}
 use Rattle.master_core.specs.Step.{Planned, replied, bad_step, table_with}
 use Rattle.master_core.specs.Streams.{stream_step}
@@ -18,7 +18,7 @@ use Rattle.mupdate_codec.specs.declared.command.MCommand.{MCommand}
 use Rattle.node_record.specs.declared.master.MasterRecord.{MasterRecord}
 use Rattle.node_record.specs.Table.{MailboxTable}
 use Rattle.guest_links.specs.Guests.{Guest, arrived, bytes_taken, left, told_change}
-use Rattle.guest_links.specs.Happenings.{Happening, connects, says, leaves, sends, step_of, change_by, change_of, seen_after, master_from, seen_from}
+use Rattle.guest_links.specs.Happenings.{Happening, connects, says, leaves, sends, step_of, change_of, seen_after, master_from, seen_from}
 use Rattle.guest_links.specs.Reading.{HasTheTable, WatchersHaveTheTable}
 use Rattle.guest_links.specs.Served.{HasWatchers, IsSeen, given_to}
 use Rattle.guest_links.proofs.NodeLines.{taken_entry}
@@ -43,7 +43,7 @@ read_by master from next change (is_taken tag it tagged has may) e = record {
   arguments = has;
 }
 
-change_read : (master : Master) (node : List ℕ) (message : LinkMsg) (change : MasterRecord) → change_by master node message ≡ Some change
+change_read : (master : Master) (node : List ℕ) (message : LinkMsg) (change : MasterRecord) → node_entry master node message ≡ Some change
     → IsRead master.table change
 change_read master node (Line bytes) change e = read_by master (sender_of master node) _ change (step_is master (sender_of master node) bytes) e
 change_read master node End change e = cc
@@ -85,7 +85,7 @@ keeps_by master conn (Some guest) (leaves other) order can is keeps = by (nat_eq
     by true = λ on watch has. cc
     by false = keeps
 keeps_by master conn (Some guest) (sends node message) order can is keeps =
-    told_keeps master.table guest (change_by master node message) (change_read master node message) keeps
+    told_keeps master.table guest (node_entry master node message) (change_read master node message) keeps
 
 pub step_keeps : (master : Master) (conn : ℕ) (seen : Option Guest) (happening : Happening) → HasWatchers master → CanBeTold master.table → IsSeen master conn seen
     → SeenKeeps master.table seen → SeenKeeps (step_of master happening).master.table (next_seen master conn seen happening)

@@ -1,13 +1,11 @@
 -- What happens at the master, and what it is to one client.
 use Rattle.std.specs.Prelude.{ℕ, ◌==◌, if◌then◌else◌, List, [], ◌∷◌, ◌++◌, Option, None, Some}
 use Rattle.link_msg.specs.declared.message.LinkMsg.{LinkMsg}
-use Rattle.link_msg.specs.declared.message.LinkMsg.TheVariants.{Line}
 use Rattle.link_msg.specs.declared.out.Out.{Out}
 use Rattle.master_core.specs.declared.master.Master.{Master}
 use Rattle.master_core.specs.declared.sender.Sender.TheVariants.{Outside}
-use Rattle.master_core.specs.Linked.{sender_of, node_says}
+use Rattle.master_core.specs.Linked.{node_entry, node_says}
 use Rattle.master_core.specs.Outside.{Stepped, bytes_in, connect}
-use Rattle.master_core.specs.Step.{line_step}
 use Rattle.master_core.specs.Streams.{without}
 use Rattle.node_record.specs.declared.master.MasterRecord.{MasterRecord}
 use Rattle.node_record.specs.Table.{MailboxTable}
@@ -32,13 +30,8 @@ step_of master (leaves conn) = hung_up master conn
 step_of master (sends node message) = node_says master node message
 
 -- the change of the table that it makes: that of a node's line. No other happening makes one
-
-abbrev pub change_by : Master → List ℕ → LinkMsg → Option MasterRecord
-change_by master node (Line bytes) = (line_step master (sender_of master node) bytes).entry
-change_by master node message = None
-
 abbrev pub change_of : Master → Happening → Option MasterRecord
-change_of master (sends node message) = change_by master node message
+change_of master (sends node message) = node_entry master node message
 change_of master happening = None
 
 -- what a happening is to the client of a connection, by the table before it and the change of the table

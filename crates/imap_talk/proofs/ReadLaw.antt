@@ -7,12 +7,12 @@ use Rattle.imap_talk.specs.SoundRequests.{IsShortFrame, IsSoundRequest, IsSoundS
 use Rattle.imap_reply.specs.SoundTexts.{IsSoundTag}
 use Rattle.imap_talk.specs.declared.inputs.Before.{Before}
 use Rattle.imap_talk.specs.declared.inputs.Before.TheVariants.{Hears, Waits}
-use Rattle.imap_talk.specs.Transcript.{transcript_of}
-use Rattle.imap_talk.specs.TranscriptRead.{IsAnswerReadAsMeant, IsAllReadAsMeant}
+use Rattle.imap_talk.specs.Transcript.{Stop, transcript_till}
+use Rattle.imap_talk.specs.TranscriptRead.{IsAnswerReadAsMeant, IsAllReadTill}
 use Rattle.imap_talk.proofs.FrameSizes.{frames_short}
 use Rattle.imap_talk.proofs.RequestsSound.{request_sound, too_big_sound}
 use Rattle.imap_talk.proofs.SoundAnswers.{HasSoundStore, answers_read}
-use Rattle.imap_talk.proofs.TranscriptLaw.{all_read_as_meant}
+use Rattle.imap_talk.proofs.TranscriptLaw.{all_read_till}
 use Rattle.imap_wire.specs.declared.frame.Frame.{Frame}
 use Rattle.imap_wire.specs.declared.frame.Frame.TheVariants.{Whole, NeedLiteral, TooBig, Fault}
 use Rattle.mur_base.specs.declared.point.Point.{Point}
@@ -104,8 +104,8 @@ heard_sound setting heard requests is = (requests_sound setting (frames_heard he
 
 pub read_of_legal : (setting : Setting) (first : Course) (talk : Talk) (points : List Point) (last : Course) → IsLegal setting first talk points last
     → IsDate setting.date → IsSoundStore first.store → ((conn : ℕ) → All IsSoundRequest (talk.requests conn))
-    → (conn : ℕ) (given : List ℕ) (bytes : Option (List ℕ)) → given ≡ transcript_of setting bytes (talk.answers conn)
-    → IsAllReadAsMeant setting given bytes (talk.answers conn)
-read_of_legal setting first talk points last legal date_is sound asked conn given bytes is =
-    all_read_as_meant setting given bytes (talk.answers conn) is
+    → (conn : ℕ) (stop : Stop) (given : List ℕ) (bytes : Option (List ℕ)) → given ≡ transcript_till stop setting bytes (talk.answers conn)
+    → IsAllReadTill stop setting given bytes (talk.answers conn)
+read_of_legal setting first talk points last legal date_is sound asked conn stop given bytes is =
+    all_read_till stop setting given bytes (talk.answers conn) is
     (each_answer setting talk IsSoundRequest HasSoundStore IsAnswerReadAsMeant (answers_read setting date_is) asked first points last legal sound conn)

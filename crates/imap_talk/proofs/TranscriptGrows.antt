@@ -11,8 +11,9 @@ use Rattle.imap_talk.specs.declared.inputs.Input.TheVariants.{GoesOn, Asks, Faul
 use Rattle.imap_reply.specs.ByeLine.{bye_line}
 use Rattle.imap_talk.specs.FaultBye.{bye_of}
 use Rattle.imap_reply.specs.Continuation.{continuation_line}
-use Rattle.imap_talk.specs.Transcript.{answer_text, ends, unless_ended, Stop, stop_text, told_till, replies_till}
-use Rattle.imap_talk.specs.Transcript.Stop.{silent}
+use Rattle.imap_types.specs.declared.reply.Bye.TheVariants.{Lost}
+use Rattle.imap_talk.specs.Transcript.{answer_text, ends, unless_ended, Stop, stop_text, stop_told, told_till, replies_till}
+use Rattle.imap_talk.specs.Transcript.Stop.{silent, is_lost}
 
 -- every request in the inputs has its answer, no answer ends the connection, and no input is a fault
 unfoldable pub AreAnswered : List Input → List Answer → Type 0
@@ -115,6 +116,27 @@ unfolding told_till
 unanswered_told stop inputs answers request more all =
     ap (λ a. replies_till stop (inputs ++ Asks request ∷ more) a) (sym (no_more answers))
     ∙ all_given stop inputs (Asks request ∷ more) answers [] (stop_text stop) all refl
+
+-- where every request has its answer, nothing is said of a lost command
+answered_till : (stop other : Stop) (inputs : List Input) (answers : List Answer) → AreAnswered inputs answers
+    → replies_till stop inputs answers ≡ replies_till other inputs answers
+unfolding AreAnswered told_till
+answered_till stop other [] [] all = refl
+answered_till stop other [] (a ∷ answers) all = absurd all
+answered_till stop other (GoesOn why ∷ inputs) answers all = ap (λ t. continuation_line why ++ t) (answered_till stop other inputs answers all)
+answered_till stop other (Faults fault ∷ inputs) answers all = absurd all
+answered_till stop other (Asks request ∷ inputs) [] all = absurd all
+answered_till stop other (Asks request ∷ inputs) (a ∷ answers) all =
+    ap (λ t. answer_text a ++ unless_ended (ends a.reply) t) (answered_till stop other inputs answers all.1)
+
+-- its line comes behind all that was given before
+pub lost_told : (inputs : List Input) (answers : List Answer) (request : Request) (more : List Input) → AreAnswered inputs answers
+    → replies_till is_lost (inputs ++ Asks request ∷ more) answers ≡ replies_till silent (inputs ++ Asks request ∷ more) answers ++ bye_line Lost
+unfolding stop_told
+lost_told inputs answers request more all =
+    unanswered_told is_lost inputs answers request more all
+    ∙ ap (λ t. t ++ bye_line Lost) (answered_till is_lost silent inputs answers all ∙ sym (append-nil (replies_till silent inputs answers))
+    ∙ sym (unanswered_told silent inputs answers request more all))
 
 cut_off : (text : List ℕ) (is_end : Bool) (more : List ℕ) → is_end ≡ true → text ++ unless_ended is_end more ≡ text
 unfolding unless_ended

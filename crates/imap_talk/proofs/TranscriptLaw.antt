@@ -26,9 +26,9 @@ use Rattle.imap_talk.specs.Inputs.{inputs_from}
 use Rattle.imap_reply.specs.Lines.{IsLine, after_text, after_byte}
 use Rattle.imap_reply.specs.ReadAsMeant.{line_begins_with, untagged_lines, meant_lines}
 use Rattle.imap_reply.specs.SoundTexts.{IsTag}
-use Rattle.imap_talk.specs.Transcript.{answer_text, ends, unless_ended, Stop, Telling, stop_told, told_till, all_told_till, as_bytes, transcript_of}
+use Rattle.imap_talk.specs.Transcript.{answer_text, ends, unless_ended, Stop, Telling, stop_told, told_till, all_told_till, as_bytes, transcript_till}
 use Rattle.imap_talk.specs.Transcript.Stop.{silent, is_lost}
-use Rattle.imap_talk.specs.TranscriptRead.{as_lines, as_untagged, lines_meant, untagged_of, IsAnswerReadAsMeant, IsAllReadAsMeant}
+use Rattle.imap_talk.specs.TranscriptRead.{as_lines, as_untagged, lines_till, untagged_till, IsAnswerReadAsMeant, IsAllReadTill}
 use Rattle.imap_reply.proofs.EachLine.{bye_is_line}
 use Rattle.imap_reply.proofs.LineLaws.{line_of}
 use Rattle.imap_reply.proofs.NoForgery.{no_star}
@@ -107,11 +107,11 @@ cut_till stop (Asks request ∷ inputs) (answer ∷ answers) meant =
     cut_answer answer _ _ (All-head IsAnswerReadAsMeant answer answers meant)
     (cut_till stop inputs answers (All-tail IsAnswerReadAsMeant answer answers meant))
 
-cut_all : (setting : Setting) (bytes : Option (List ℕ)) (answers : List Answer) → All IsAnswerReadAsMeant answers → concat (lines_meant setting bytes answers)
-    ≡ transcript_of setting bytes answers
+cut_all : (stop : Stop) (setting : Setting) (bytes : Option (List ℕ)) (answers : List Answer) → All IsAnswerReadAsMeant answers
+    → concat (lines_till stop setting bytes answers) ≡ transcript_till stop setting bytes answers
 unfolding all_told_till
-cut_all setting None answers meant = refl
-cut_all setting (Some bytes) answers meant = ap (λ t. greeting ++ t) (cut_till silent (inputs_from setting (frames bytes)) answers meant)
+cut_all stop setting None answers meant = refl
+cut_all stop setting (Some bytes) answers meant = ap (λ t. greeting ++ t) (cut_till stop (inputs_from setting (frames bytes)) answers meant)
 
 -- each of them is one line
 
@@ -132,12 +132,12 @@ continuation_is_line Done = line_of [] (codes "+ idling") refl refl (λ state. r
 one : (P : List ℕ → Type 0) (line : List ℕ) → P line → All P (line ∷ [])
 one P line is = All-cons P line [] is (All-nil P)
 
-lines_are : (setting : Setting) (bytes : Option (List ℕ)) (answers : List Answer) → All IsAnswerReadAsMeant answers
-    → All IsLine (lines_meant setting bytes answers)
-lines_are setting bytes answers meant =
+lines_are : (stop : Stop) (setting : Setting) (bytes : Option (List ℕ)) (answers : List Answer) → All IsAnswerReadAsMeant answers
+    → All IsLine (lines_till stop setting bytes answers)
+lines_are stop setting bytes answers meant =
     all_told IsLine as_lines (one IsLine greeting greeting_is_line) (λ why. one IsLine (continuation_line why) (continuation_is_line why)) (λ why. one IsLine
     (bye_line why) (bye_is_line why))
-    silent setting bytes answers
+    stop setting bytes answers
     (All-weaker IsAnswerReadAsMeant (λ answer. All IsLine (meant_lines answer.tag answer.reply)) (λ answer is. is.read.each) answers meant)
 
 -- none but the last of each reply begins with a tag
@@ -172,18 +172,18 @@ unfolding line_begins_with bye_line
 bye_untagged [] is why = absurd (omega (arith, is.some))
 bye_untagged (c ∷ word) is why = rw (no_star c (tag_first c word is)) refl
 
-untagged_are : (word : List ℕ) → IsTag word → (setting : Setting) (bytes : Option (List ℕ)) (answers : List Answer) → All IsAnswerReadAsMeant answers
-    → All (λ line. line_begins_with word line ≡ false) (untagged_of setting bytes answers)
-untagged_are word is setting bytes answers meant =
+untagged_are : (word : List ℕ) → IsTag word → (stop : Stop) (setting : Setting) (bytes : Option (List ℕ)) (answers : List Answer) → All IsAnswerReadAsMeant answers
+    → All (λ line. line_begins_with word line ≡ false) (untagged_till stop setting bytes answers)
+untagged_are word is stop setting bytes answers meant =
     let P : List ℕ → Type 0 = λ line. line_begins_with word line ≡ false in
     all_told P as_untagged (one P greeting (greeting_untagged word is)) (λ why. one P (continuation_line why) (continuation_untagged word is why))
-    (λ why. one P (bye_line why) (bye_untagged word is why)) silent setting bytes answers
+    (λ why. one P (bye_line why) (bye_untagged word is why)) stop setting bytes answers
     (All-weaker IsAnswerReadAsMeant (λ answer. All P (untagged_lines answer.tag answer.reply)) (λ answer so. so.untagged word is) answers meant)
 
-pub all_read_as_meant : (setting : Setting) (given : List ℕ) (bytes : Option (List ℕ)) (answers : List Answer) → given ≡ transcript_of setting bytes answers
-    → All IsAnswerReadAsMeant answers → IsAllReadAsMeant setting given bytes answers
-all_read_as_meant setting given bytes answers is meant = record {
-  lines = read_by given (lines_meant setting bytes answers) (cut_all setting bytes answers meant ∙ sym is) (lines_are setting bytes answers meant);
-  untagged = λ word tagged. untagged_are word tagged setting bytes answers meant;
+pub all_read_till : (stop : Stop) (setting : Setting) (given : List ℕ) (bytes : Option (List ℕ)) (answers : List Answer)
+    → given ≡ transcript_till stop setting bytes answers → All IsAnswerReadAsMeant answers → IsAllReadTill stop setting given bytes answers
+all_read_till stop setting given bytes answers is meant = record {
+  lines = read_by given (lines_till stop setting bytes answers) (cut_all stop setting bytes answers meant ∙ sym is) (lines_are stop setting bytes answers meant);
+  untagged = λ word tagged. untagged_are word tagged stop setting bytes answers meant;
   replies = meant;
 }

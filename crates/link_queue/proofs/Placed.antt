@@ -1,9 +1,9 @@
 -- Where the one message of a kind is, over all links: on one of them, or nowhere.
-use Rattle.std.proofs.Common.{◌≡◌, ℕ, Bool, true, false, cond, List, [], ◌∷◌, ◌++◌, drop, Option, None, Some, filter, refl, sym, ◌∙◌, ap}
-use Rattle.std.proofs.lemmas.List.{append-nil}
+use Rattle.std.proofs.Common.{◌≡◌, ℕ, Bool, true, false, cond, List, [], ◌∷◌, ◌++◌, drop, take, Option, None, Some, filter, refl, sym, ◌∙◌, ap, subst}
+use Rattle.std.proofs.lemmas.List.{append-nil, take-append-drop}
 use Rattle.std.proofs.lemmas.List.Elements.{filter-append}
-use Rattle.link_queue.specs.Links.{Links, same_link, on_link, sent, without_first}
-use Rattle.link_queue.proofs.Wires.{same_names, same_itself, on_link-sent, on_link-taken}
+use Rattle.link_queue.specs.Links.{Links, same_link, on_link, sent, without_first, cut_short}
+use Rattle.link_queue.proofs.Wires.{same_names, same_itself, on_link-sent, on_link-taken, on_link-cut}
 
 -- a message on its way, and between whom
 pub record Carried (M : Type 0) : Type 0 where
@@ -116,6 +116,71 @@ own_first is links f t message rest found e own placed =
       λ a b. none_left message (filter is (on_link (without_first links f t) a b)) (same_link a b f t)
           (sym (found_taken is links f t a b message rest true e own) ∙ placed a b ∙ ap (on_this a b) told),
     )
+
+-- a link is cut short: what is kept of it, and then one of another kind
+
+kept_by : {M : Type 0} (is : M → Bool) (links : Links M) (f t a b : List ℕ) (keeps : ℕ) (last : M) (same : Bool) → same_link a b f t ≡ same → is last ≡ false
+    → filter is (cond same (take keeps (on_link links a b) ++ last ∷ []) (on_link links a b))
+    ≡ cond same (filter is (take keeps (on_link links f t))) (filter is (on_link links a b))
+kept_by is links f t a b keeps last true h other =
+    let at = same_names a b f t h in
+    filter-append is (take keeps (on_link links a b)) (last ∷ [])
+    ∙ ap (λ c. filter is (take keeps (on_link links a b)) ++ cond c (last ∷ []) []) other
+    ∙ append-nil (filter is (take keeps (on_link links a b)))
+    ∙ ap (λ x. filter is (take keeps (on_link links x b))) at.0 ∙ ap (λ x. filter is (take keeps (on_link links f x))) at.1
+kept_by is links f t a b keeps last false h other = refl
+
+found_cut : {M : Type 0} (is : M → Bool) (links : Links M) (f t a b : List ℕ) (keeps : ℕ) (last : M) → is last ≡ false
+    → filter is (on_link (cut_short links f t keeps last) a b)
+    ≡ cond (same_link a b f t) (filter is (take keeps (on_link links f t))) (filter is (on_link links a b))
+found_cut is links f t a b keeps last other =
+    ap (filter is) (on_link-cut links f t a b keeps last) ∙ kept_by is links f t a b keeps last (same_link a b f t) refl other
+
+-- it is kept, or it was on that link and is dropped
+pub data IsCut {M : Type 0} (is : M → Bool) (f t : List ℕ) (then : Links M) : Option (Carried M) → Type 0 where
+  keeps_it : {found : Option (Carried M)} → IsFound is then found → IsCut is f t then found
+  drops_it : (message : M) → IsFound is then None → IsCut is f t then (Some (record { from = f; to = t; message = message }))
+
+no_more : {M : Type 0} (message x : M) (more rest : List M) (same : Bool) → message ∷ (more ++ x ∷ rest) ≡ cond same (message ∷ []) [] → ⊥
+no_more message x [] rest true e = cc
+no_more message x (y ∷ more) rest true e = cc
+no_more message x more rest false e = cc
+
+module _ {M : Type 0} (is : M → Bool) (links : Links M) (f t : List ℕ) (keeps : ℕ) (last : M) (found : Option (Carried M)) (other : is last ≡ false)
+    (placed : IsFound is links found) where
+  all_kept : filter is (take keeps (on_link links f t)) ≡ on_this f t found → IsFound is (cut_short links f t keeps last) found
+  all_kept e = λ a b. found_cut is links f t a b keeps last other ∙ by a b (same_link a b f t) refl
+    where
+      by : (a b : List ℕ) (same : Bool) → same_link a b f t ≡ same
+          → cond same (filter is (take keeps (on_link links f t))) (filter is (on_link links a b)) ≡ on_this a b found
+      by a b true h = let at = same_names a b f t h in e ∙ ap (λ x. on_this x t found) (sym at.0) ∙ ap (λ x. on_this a x found) (sym at.1)
+      by a b false h = placed a b
+
+  -- it is among those behind
+  none_kept : (message : M) → filter is (take keeps (on_link links f t)) ≡ [] → found ≡ Some (record { from = f; to = t; message = message })
+      → IsFound is (cut_short links f t keeps last) None
+  none_kept message none at = λ a b. found_cut is links f t a b keeps last other ∙ by a b (same_link a b f t) refl
+    where
+      by : (a b : List ℕ) (same : Bool) → same_link a b f t ≡ same
+          → cond same (filter is (take keeps (on_link links f t))) (filter is (on_link links a b)) ≡ []
+      by a b true h = none
+      by a b false h = placed a b ∙ ap (on_this a b) at ∙ ap (λ s. cond s (message ∷ []) []) h
+
+  parted : (kept left : List M) → filter is (take keeps (on_link links f t)) ≡ kept → filter is (drop keeps (on_link links f t)) ≡ left
+      → kept ++ left ≡ on_this f t found → IsCut is f t (cut_short links f t keeps last) found
+  parted kept [] e g whole = keeps_it (all_kept (e ∙ sym (append-nil kept) ∙ whole))
+  parted [] (x ∷ left) e g whole =
+      let at = told_by f t x left found whole in
+      subst (IsCut is f t (cut_short links f t keeps last)) (sym at) (drops_it x (none_kept x e at))
+  parted (message ∷ more) (x ∷ left) e g whole =
+      let at = told_by f t message (more ++ x ∷ left) found whole in
+      absurd (no_more message x more left (same_link f t f t) (whole ∙ ap (on_this f t) at))
+
+  pub is_cut : IsCut is f t (cut_short links f t keeps last) found
+  is_cut =
+      parted (filter is (take keeps (on_link links f t))) (filter is (drop keeps (on_link links f t))) refl refl
+      (sym (filter-append is (take keeps (on_link links f t)) (drop keeps (on_link links f t)))
+      ∙ ap (filter is) (take-append-drop keeps (on_link links f t)) ∙ placed f t)
 
 -- where nothing is on any link there is none
 pub none_on_empty : {M : Type 0} (is : M → Bool) (links : Links M) (found : Option (Carried M)) → ((a b : List ℕ) → on_link links a b ≡ [])

@@ -1,12 +1,12 @@
--- What is on a link after a message was sent or taken.
-use Rattle.std.proofs.Common.{◌≡◌, ◌≢◌, ◌&&◌, ℕ, Bool, true, false, cond, List, [], ◌∷◌, ◌++◌, drop, Some, refl, sym, ◌∙◌, ap, subst}
+-- What is on a link after a message was sent or taken, and after it was cut short.
+use Rattle.std.proofs.Common.{◌≡◌, ◌≢◌, ◌&&◌, ℕ, Bool, true, false, cond, List, [], ◌∷◌, ◌++◌, drop, take, Some, refl, sym, ◌∙◌, ap, subst}
 use Rattle.std.specs.Ordering.{nat_cmp, is_eq}
 use Rattle.std.specs.Cmp.Lexicographic.{slice_cmp}
 use Rattle.std.proofs.Math.Logic.{⊎_elim}
 use Rattle.std.proofs.lemmas.List.{append-nil}
 use Rattle.mur_base.specs.Map.{value_at, with_entry}
 use Rattle.mur_base.proofs.MapLaws.{names_apart, not_equal, same_or_other, value_at-with_entry, value_at-with_entry-other}
-use Rattle.link_queue.specs.Links.{Ways, Links, ways_from, ways_or_none, queue_or_none, queue_to, same_link, on_link, with_queue, sent, without_first}
+use Rattle.link_queue.specs.Links.{Ways, Links, ways_from, ways_or_none, queue_or_none, queue_to, same_link, on_link, with_queue, sent, without_first, cut_short}
 
 pub same_names : (a b f t : List ℕ) → same_link a b f t ≡ true → (a ≡ f) × (b ≡ t)
 same_names a b f t h = by (is_eq (slice_cmp nat_cmp a f)) refl (is_eq (slice_cmp nat_cmp b t)) refl h
@@ -72,3 +72,11 @@ module _ {M : Type 0} where
   unfolding without_first
   on_link-taken links f t a b =
       link_with_queue links f t a b (drop 1 (on_link links f t)) ∙ at_link links a b f t (same_link a b f t) refl (λ (q : List M). drop 1 q)
+
+  -- of a link that is cut short so many messages are kept, and one stands behind them
+  pub on_link-cut : (links : Links M) (f t a b : List ℕ) (keeps : ℕ) (last : M)
+      → on_link (cut_short links f t keeps last) a b ≡ cond (same_link a b f t) (take keeps (on_link links a b) ++ last ∷ []) (on_link links a b)
+  unfolding cut_short
+  on_link-cut links f t a b keeps last =
+      link_with_queue links f t a b (take keeps (on_link links f t) ++ last ∷ [])
+      ∙ at_link links a b f t (same_link a b f t) refl (λ (q : List M). take keeps q ++ last ∷ [])

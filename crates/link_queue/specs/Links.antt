@@ -1,5 +1,5 @@
 -- What is on its way between the nodes, whatever the message: each link is a queue in each direction.
-use Rattle.std.specs.Prelude.{ℕ, Bool, ◌&&◌, List, [], ◌∷◌, ◌++◌, drop, Option, None, Some}
+use Rattle.std.specs.Prelude.{ℕ, Bool, ◌&&◌, List, [], ◌∷◌, ◌++◌, drop, take, Option, None, Some}
 use Rattle.std.specs.Ordering.{nat_cmp, is_eq}
 use Rattle.std.specs.Cmp.Lexicographic.{slice_cmp}
 use Rattle.mur_base.specs.Map.{value_at, with_entry}
@@ -46,3 +46,7 @@ module _ {M : Type 0} where
   -- the first message is taken
   unfoldable pub without_first : Links M → List ℕ → List ℕ → Links M
   without_first links from to = with_queue links from to (drop 1 (on_link links from to))
+
+  -- only so many messages are kept, and this one comes behind them
+  unfoldable pub cut_short : Links M → List ℕ → List ℕ → ℕ → M → Links M
+  cut_short links from to keeps last = with_queue links from to (take keeps (on_link links from to) ++ last ∷ [])

@@ -4,5 +4,5 @@
 mod broken;
 mod links;
 
-pub use broken::{Broken, Lost, is_broken};
-pub use links::{Links, Ways, is_empty, send, take_first};
+pub use broken::{Broken, Lost, break_off, is_broken, mend};
+pub use links::{Links, Ways, cut_short, is_empty, send, take_first};

@@ -1,7 +1,6 @@
 -- The marks so far are those of one store, where steps may only see a command, and a reply that its client wasn't told of may be taken back: of several
 -- steps that act on a command the last one counts.
 use Rattle.std.proofs.Common.{◌≡◌, ◌≢◌, ◌⊎◌, inl, inr, ℕ, ◌+◌, ◌≤◌, ◌<◌, Bool, true, false, nat_le, List, [], ◌∷◌, ◌++◌, length, get_or, if◌then◌else◌, Option, None, Some, refl, sym, ◌∙◌, ap, arith}
-use Rattle.std.specs.Prelude.{⊤}
 use Rattle.std.proofs.Math.Logic.{⊎_elim}
 use Rattle.std.proofs.lemmas.Bool.{cases_eq}
 use Rattle.std.proofs.lemmas.Bool.Decides.{nat_tests}
@@ -10,8 +9,8 @@ use Rattle.imap_types.specs.declared.request.Answer.{Answer}
 use Rattle.imap_types.specs.declared.request.Request.{Request}
 use Rattle.mur_model.specs.declared.session.Sess.{Sess}
 use Rattle.mur_model.specs.declared.setting.Setting.{Setting}
-use Rattle.mur_model.specs.Answer.{MayTake}
-use Rattle.mur_model.specs.History.{Talk, GoesOn, numbered, carried_out, with_session}
+use Rattle.mur_model.specs.Answer.{Answered}
+use Rattle.mur_model.specs.History.{Talk, GoesOn, course_after, with_session}
 use Rattle.mur_model.proofs.HistoryGrows.{same_lists}
 use Rattle.mur_model.proofs.Numbered.{with_item, with_item-longer, with_item-other, length_with_item}
 use Rattle.mark_history.specs.declared.mark.Mark.{Mark}
@@ -24,7 +23,9 @@ use Rattle.mark_history.proofs.CarriesFrom.{CarriesFrom, from_on, from_push, fro
 use Rattle.mark_history.proofs.LeftOut.{LeavesOut, StillSaw, leaves_push, leaves_seen, only_saw, same_points}
 use Rattle.mark_history.proofs.Marks.{with_session_elsewhere}
 use Rattle.mark_history.proofs.Tally.{acts, command_of, conn_of, its_kind, next_or, of_both, of_equal, of_other}
-use Rattle.mark_history.proofs.Told.{IsToldIn, TellsOn, having_said, next_course, next_mark, said_more, step_made, telling, telling_mark, tells_plainly, told_asked, told_behind_push, told_later, told_push}
+use Rattle.mark_history.proofs.Deeds.{IsStep}
+use Rattle.mark_history.proofs.Told.{IsToldIn, TellsOn, having_said, next_mark, said_more, telling, telling_mark, tells_plainly, told_asked, told_behind_push, told_later}
+use Rattle.mark_history.proofs.Told.{told_push}
 
 abbrev pub said_of : Tale → ℕ → ℕ
 said_of tale conn = length (tale.talk.answers conn)
@@ -33,7 +34,7 @@ pub record IsToldByLast (setting : Setting) (now : ℕ) (marks : List Mark) (tal
   -- the marks without those of steps that only saw their command
   pub acting : List Mark
   pub leaves : LeavesOut (said_of tale) marks acting
-  pub is_told : IsToldIn ⊤ setting now acting tale.talk tale.told tale.course
+  pub is_told : IsToldIn setting now acting tale.talk tale.told tale.course
   -- each connection's session before its last step that acts
   pub earlier : ℕ → Sess
   pub from : CarriesFrom setting tale.talk first_course first_course.sessions acting tale.course earlier
@@ -92,11 +93,11 @@ still_saw said now more stays either = λ mark next saw. by mark next saw (is_of
 
 -- ---- a step acts on the next command, or tells its client at once
 
-abbrev pub tale_said : Setting → Tale → (ℕ → List Answer) → ℕ → Request → ℕ → Tale
-tale_said setting tale later_told conn request serial = record {
-  talk = having_said tale.talk conn (carried_out setting tale.course conn request serial).answer serial;
+abbrev pub tale_said : Tale → (ℕ → List Answer) → ℕ → Answered → ℕ → Tale
+tale_said tale later_told conn done serial = record {
+  talk = having_said tale.talk conn done.answer serial;
   told = later_told;
-  course = next_course setting tale.course conn request serial;
+  course = course_after tale.course conn done;
   before = with_session tale.before conn (tale.course.sessions conn);
 }
 
@@ -119,34 +120,30 @@ next_unreplied talk now conn kind answer = λ mark high other. ⊎_elim
     (λ (ne : conn_of mark ≢ conn). omega (arith, high, ap length (with_item-other talk.answers conn answer (conn_of mark) ne)))
     (cases_eq (conn_of mark) conn)
 
-pub push_by_last : (setting : Setting) (now : ℕ) (marks : List Mark) (tale : Tale) (later_told : ℕ → List Answer) (conn : ℕ) (request : Request) (serial : ℕ)
-    (kind : MarkKind) → acts kind ≡ true → TellsOn setting tale.talk conn kind tale.told later_told
-    → numbered (tale.talk.requests conn) (length (tale.talk.answers conn) + 1) ≡ Some request
-    → MayTake setting tale.course.store (tale.course.sessions conn) request serial
-    → (kind ≡ Home IfAnswered → (carried_out setting tale.course conn request serial).store ≡ tale.course.store)
+pub push_by_last : (setting : Setting) (now : ℕ) (marks : List Mark) (tale : Tale) (later_told : ℕ → List Answer) (conn : ℕ) (done : Answered) (serial : ℕ)
+    (kind : MarkKind) → TellsOn setting tale.talk conn kind tale.told later_told
+    → IsStep setting (having_said tale.talk conn done.answer serial) tale.course (next_mark now tale.talk conn kind) false done
     → IsToldByLast setting now marks tale
-    → IsToldByLast setting now (marks ++ next_mark now tale.talk conn kind ∷ []) (tale_said setting tale later_told conn request serial)
-push_by_last setting now marks tale later_told conn request serial kind acting on asked free unless is =
-    let answer : Answer = (carried_out setting tale.course conn request serial).answer in
-    let longer : Talk = having_said tale.talk conn answer serial in
+    → IsToldByLast setting now (marks ++ next_mark now tale.talk conn kind ∷ []) (tale_said tale later_told conn done serial)
+push_by_last setting now marks tale later_told conn done serial kind on step is =
+    let longer : Talk = having_said tale.talk conn done.answer serial in
     let mark : Mark = next_mark now tale.talk conn kind in
     let was : Sess = tale.course.sessions conn in
     record {
       acting = is.acting ++ mark ∷ [];
       leaves = leaves_push (said_of tale) (λ c. length (longer.answers c)) marks is.acting mark is.leaves
-          (still_saw (said_of tale) (λ c. length (longer.answers c)) mark (next_unreplied tale.talk now conn kind answer) (inl acting));
-      is_told = told_push setting now is.acting tale.talk tale.told later_told tale.course conn request serial kind acting on asked free unless is.is_told;
+          (still_saw (said_of tale) (λ c. length (longer.answers c)) mark (next_unreplied tale.talk now conn kind done.answer) (inl step.acting));
+      is_told = told_push setting now is.acting tale.talk tale.told later_told tale.course conn done serial kind on step is.is_told;
       earlier = with_session is.earlier conn was;
-      from = from_push setting longer first_course tale.course first_course.sessions is.earlier is.acting mark
-          (carried_out setting tale.course conn request serial)
-          (from_on setting tale.talk longer (said_more tale.talk conn answer serial) first_course tale.course first_course.sessions is.earlier is.acting
+      from = from_push setting longer first_course tale.course first_course.sessions is.earlier is.acting mark done
+          (from_on setting tale.talk longer (said_more tale.talk conn done.answer serial) first_course tale.course first_course.sessions is.earlier is.acting
           is.from)
-          (step_made setting tale.talk tale.course conn request serial now kind acting asked free unless (is.is_told.serials conn));
+          step;
       before = λ c more. ⊎_elim
           (λ (e : c ≡ conn). ap (with_session tale.before conn was) e ∙ with_session_at tale.before conn was
           ∙ sym (ap (with_session is.earlier conn was) e ∙ with_session_at is.earlier conn was))
           (λ (ne : c ≢ conn). with_session_elsewhere tale.before conn was c (λ x. ne (sym x))
-          ∙ is.before c (omega (arith, more, ap length (on.others c ne), ap length (with_item-other tale.talk.answers conn answer c ne)))
+          ∙ is.before c (omega (arith, more, ap length (on.others c ne), ap length (with_item-other tale.talk.answers conn done.answer c ne)))
           ∙ sym (with_session_elsewhere is.earlier conn was c (λ x. ne (sym x))))
           (cases_eq c conn);
     }

@@ -7,10 +7,10 @@ use Rattle.std.proofs.lemmas.Bool.Decides.{nat_tests}
 use Rattle.std.proofs.lemmas.List.Elements.{All-head, All-nil, All-tail, Contains-append_right}
 use Rattle.link_msg.specs.declared.counts.Counts.TheVariants.{Always, IfAnswered}
 use Rattle.link_msg.specs.declared.how.How.{How}
-use Rattle.link_msg.specs.declared.how.How.TheVariants.{Here, Behind, Reserved}
+use Rattle.link_msg.specs.declared.how.How.TheVariants.{Here, Behind, Reserved, Unreached}
 use Rattle.mur_base.specs.declared.point.Point.{Point}
 use Rattle.mur_base.specs.declared.point.What.{What}
-use Rattle.mur_base.specs.declared.point.What.TheVariants.{Reply as replied, Lost as lost}
+use Rattle.mur_base.specs.declared.point.What.TheVariants.{Reply as replied, Lost as lost, Unreached as unreached}
 use Rattle.mur_model.specs.declared.setting.Setting.{Setting}
 use Rattle.mark_history.specs.declared.mark.Mark.{Mark}
 use Rattle.mark_history.specs.declared.mark.MarkKind.{MarkKind}
@@ -43,15 +43,21 @@ unfolding counts_as untold_as refused_as
 none_lost None what e is = cc
 none_lost (Some (Home counts)) what e is = cc
 none_lost (Some (Told Here)) what e is = cc
+none_lost (Some (Told (Unreached node))) what e is = cc
 none_lost (Some (Told Behind)) what e is = (let no : Some replied ≡ Some lost = e ∙ ap {B = Option What} (λ w. Some w) is in cc)
 none_lost (Some (Told Reserved)) what e is = (let no : Some (refused_as IfAnswered) ≡ Some lost = e ∙ ap {B = Option What} (λ w. Some w) is in cc)
 
--- what a frontend answers by itself is a reply, and nothing else that it tells is a point
-pub here_replies : (how : How) (next : Option MarkKind) (what : What) → counts_as (Told how) next ≡ Some what → (how ≡ Here) × (what ≡ replied)
+-- what a frontend answers by itself is a reply, or says that a node isn't reached; nothing else that it tells is a point
+pub data TellsPoint (how : How) (what : What) : Type 0 where
+  here_replies : how ≡ Here → what ≡ replied → TellsPoint how what
+  here_unreached : (node : List ℕ) → how ≡ Unreached node → what ≡ unreached node → TellsPoint how what
+
+pub told_points : (how : How) (next : Option MarkKind) (what : What) → counts_as (Told how) next ≡ Some what → TellsPoint how what
 unfolding counts_as
-here_replies Here next what e = (refl, (let is : replied ≡ what = cc in sym is))
-here_replies Behind next what e = cc
-here_replies Reserved next what e = cc
+told_points Here next what e = here_replies refl (let is : replied ≡ what = cc in sym is)
+told_points (Unreached node) next what e = here_unreached node refl (let is : unreached node ≡ what = cc in sym is)
+told_points Behind next what e = cc
+told_points Reserved next what e = cc
 
 -- ---- of each mark
 
@@ -68,6 +74,7 @@ always_by (Home Always) (Some (Told Behind)) true e fit = refl
 always_by (Home Always) (Some (Told Behind)) false e fit = cc
 always_by (Home Always) (Some (Told Reserved)) told e fit = cc
 always_by (Home Always) (Some (Told Here)) told e fit = cc
+always_by (Home Always) (Some (Told (Unreached node))) told e fit = cc
 always_by (Home Always) (Some (Home counts)) told e fit = cc
 always_by (Home IfAnswered) next told e fit = cc
 always_by (Told how) next told e fit = cc
@@ -79,6 +86,7 @@ open_by (Home IfAnswered) None e fit = refl
 open_by (Home IfAnswered) (Some (Told Behind)) e fit = cc
 open_by (Home IfAnswered) (Some (Told Reserved)) e fit = cc
 open_by (Home IfAnswered) (Some (Told Here)) e fit = cc
+open_by (Home IfAnswered) (Some (Told (Unreached node))) e fit = cc
 open_by (Home IfAnswered) (Some (Home counts)) e fit = cc
 open_by (Home Always) next e fit = cc
 open_by (Told how) next e fit = cc

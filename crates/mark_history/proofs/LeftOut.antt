@@ -4,7 +4,7 @@ use Rattle.std.proofs.Common.{if◌then◌else◌}
 use Rattle.std.specs.Prelude.{All}
 use Rattle.std.proofs.lemmas.List.Elements.{All-head, All-tail}
 use Rattle.link_msg.specs.declared.counts.Counts.TheVariants.{IfAnswered}
-use Rattle.link_msg.specs.declared.how.How.TheVariants.{Here, Behind, Reserved}
+use Rattle.link_msg.specs.declared.how.How.TheVariants.{Here, Behind, Reserved, Unreached}
 use Rattle.mur_base.specs.declared.point.AskId.{AskId}
 use Rattle.mark_history.specs.declared.mark.Mark.{Mark}
 use Rattle.mark_history.specs.declared.mark.MarkKind.{MarkKind}
@@ -39,6 +39,7 @@ counts_alike (Home counts) one other same = ap (counts_as (Home counts)) (same r
 counts_alike (Told Here) one other same = refl
 counts_alike (Told Behind) one other same = refl
 counts_alike (Told Reserved) one other same = refl
+counts_alike (Told (Unreached node)) one other same = refl
 
 pub counts_not : (next : Option MarkKind) (replied : Bool) → only_saw next replied ≡ true → counts_as (Home IfAnswered) next ≡ None
 unfolding only_saw counts_as untold_as acts
@@ -47,6 +48,7 @@ counts_not (Some (Home counts)) replied saw = refl
 counts_not (Some (Told Here)) replied saw = refl
 counts_not (Some (Told Behind)) replied saw = cc
 counts_not (Some (Told Reserved)) replied saw = cc
+counts_not (Some (Told (Unreached node))) replied saw = refl
 
 no_point : (mark : Mark) → points_by mark None ≡ []
 unfolding points_by

@@ -13,7 +13,8 @@ use Rattle.mark_history.specs.declared.mark.Mark.{Mark}
 use Rattle.mark_history.specs.FirstCourse.{first_course}
 use Rattle.mark_history.specs.History.{points_of}
 use Rattle.mark_history.specs.Marked.{IsLegalTo}
-use Rattle.mark_history.proofs.Marks.{IsOf, Later, NoMore, Replied, all_points, answering_points, counts_of, losing_points, marks_follow, none_behind, pairs_of_points, told_talk}
+use Rattle.mark_history.proofs.Marks.{IsOf, Later, NoMore, Replied, all_points, answering_points, counts_of, losing_points, marks_follow, none_behind, pairs_of_points}
+use Rattle.mark_history.proofs.StepPoints.{told_talk}
 use Rattle.mark_history.proofs.Tally.{command_of, conn_of}
 use Rattle.mark_history.proofs.Told.{IsToldIn}
 
@@ -63,16 +64,16 @@ unanswered talk told mark point is = λ loss. omega (
 )
 
 -- the commands of the marks were replied to, of which at most one that no client was told of
-replied_to : {may : Type 0} (setting : Setting) (now : ℕ) (marks : List Mark) (talk : Talk) (told : ℕ → List Answer) (course : Course)
-    → IsToldIn may setting now marks talk told course → ((conn : ℕ) → IsToldSo (told conn) (talk.answers conn))
+replied_to : (setting : Setting) (now : ℕ) (marks : List Mark) (talk : Talk) (told : ℕ → List Answer) (course : Course)
+    → IsToldIn setting now marks talk told course → ((conn : ℕ) → IsToldSo (told conn) (talk.answers conn))
     → Replied (counts_of told) (λ conn. length (talk.answers conn)) marks
 replied_to setting now marks talk told course is so = record {
   numbers = is.numbers;
   few = λ conn. omega (arith, ap length (so conn).parts, length-append (told conn) (so conn).rest, (so conn).few);
 }
 
-pub legal_marks : {may : Type 0} (setting : Setting) (now : ℕ) (marks : List Mark) (talk : Talk) (told : ℕ → List Answer) (course : Course)
-    → IsToldIn may setting now marks talk told course → ((conn : ℕ) → IsToldSo (told conn) (talk.answers conn))
+pub legal_marks : (setting : Setting) (now : ℕ) (marks : List Mark) (talk : Talk) (told : ℕ → List Answer) (course : Course)
+    → IsToldIn setting now marks talk told course → ((conn : ℕ) → IsToldSo (told conn) (talk.answers conn))
     → IsLegalTo setting (told_talk talk told) (points_of marks) course.store
 legal_marks setting now marks talk told course is so =
     let none : AllPairs (NoMore (counts_of told)) marks =

@@ -1,6 +1,6 @@
 pub mod Tally
 pub mod NextMarks
-pub mod EachPoint
+pub mod Numbers
 pub mod Deeds
 pub mod StepPoints
 pub mod Marks

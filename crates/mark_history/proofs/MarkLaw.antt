@@ -5,13 +5,17 @@ use Rattle.std.proofs.lemmas.Bool.{cases_eq}
 use Rattle.std.proofs.lemmas.Bool.Decides.{nat_tests}
 use Rattle.link_msg.specs.declared.counts.Counts.{Counts}
 use Rattle.link_msg.specs.declared.counts.Counts.TheVariants.{IfAnswered}
-use Rattle.link_msg.specs.declared.how.How.TheVariants.{Here, Behind, Reserved}
+use Rattle.link_msg.specs.declared.how.How.TheVariants.{Here, Behind, Reserved, Unreached}
+use Rattle.imap_types.specs.declared.reply.NoText.{NoText}
+use Rattle.imap_types.specs.declared.reply.NoText.TheVariants.{BeingMoved, NotReached}
 use Rattle.imap_types.specs.declared.command.Command.{Command}
 use Rattle.imap_types.specs.declared.command.Tag.{Tag}
 use Rattle.imap_types.specs.declared.request.Answer.{Answer}
 use Rattle.imap_types.specs.declared.request.Request.{Request}
 use Rattle.mur_model.specs.declared.setting.Setting.{Setting}
-use Rattle.mur_model.specs.History.{course_after, numbered, with_session}
+use Rattle.mur_base.specs.declared.point.What.TheVariants.{Unreached as unreached}
+use Rattle.mur_model.specs.Answer.{Answered}
+use Rattle.mur_model.specs.History.{IsRefused, course_after, numbered, with_session}
 use Rattle.mur_model.proofs.HistoryGrows.{one_up_to}
 use Rattle.mur_model.proofs.Numbered.{with_item}
 use Rattle.mark_history.specs.declared.mark.Mark.{Mark}
@@ -19,17 +23,17 @@ use Rattle.mark_history.specs.declared.mark.MarkKind.{MarkKind}
 use Rattle.mark_history.specs.declared.mark.MarkKind.TheVariants.{Home, Told}
 use Rattle.mark_history.specs.FirstCourse.{first_course}
 use Rattle.mark_history.specs.History.{points_of}
-use Rattle.mark_history.specs.Marked.{AreMarked, CanAct, CanRefuse, IsLegalTo, IsUnreplied, IsUntold, MakesLegalHistories, Tale, acting, done, first_tale, last_of, mark_now, open_ask, refusal, refusing, talk_told, taking_back, telling, with_list}
-use Rattle.mark_history.specs.Marked.AreMarked.{nothing, a_step, asks, sees, carries_out, tells, tells_at_once, refuses, takes_back}
+use Rattle.mark_history.specs.Marked.{AreMarked, CanAct, CanRefuse, CanRefuseNow, IsLegalTo, IsUnreplied, IsUntold, MakesLegalHistories, Tale, acting, done, first_tale, last_of, mark_now, open_ask, refusal, refusing, talk_told, taking_back, telling, with_list}
+use Rattle.mark_history.specs.Marked.AreMarked.{nothing, a_step, asks, sees, carries_out, tells, tells_at_once, refuses, refuses_at_once, takes_back}
 use Rattle.mark_history.proofs.ByLast.{IsToldByLast, asked_by_last, later_by_last, push_by_last, seen_by_last, told_behind_by_last, points_by_last, tale_said}
 use Rattle.mark_history.proofs.CarriesFrom.{from_none, same_functions}
 use Rattle.mark_history.proofs.LeftOut.LeavesOut.{no_marks as none_left}
 use Rattle.mark_history.proofs.Legal.{IsToldSo, all_told, legal_marks}
 use Rattle.mark_history.proofs.Marks.Carries.{no_marks}
-use Rattle.mark_history.proofs.Tally.{acts, Fit}
+use Rattle.mark_history.proofs.Tally.{acts, Fit, reached_here, reached_home}
 use Rattle.mark_history.proofs.RefusedByLast.{IsInOrder, order_later, order_none, order_push, refused_by_last}
 use Rattle.mark_history.proofs.TakenBack.{taken_back_by_last, list_at, list_elsewhere}
-use Rattle.mark_history.proofs.Told.{next_course, next_mark, still_told, tells_here}
+use Rattle.mark_history.proofs.Told.{next_mark, step_made, step_refused, still_told, tells_now}
 
 -- ---- the same steps, as the law has them
 
@@ -49,24 +53,37 @@ as_open : (P : Mark → Type 0) (now : ℕ) (tale : Tale) (conn : ℕ) (kind : M
 as_open P now tale conn kind unreplied holds =
     subst (λ (l : List Answer). P (record { step = now; ask = record { conn = conn; command = length l + 1 }; kind = kind })) unreplied holds
 
-abbrev said_so : Setting → Tale → (ℕ → List Answer) → (ℕ → List ℕ) → (ℕ → List Answer) → ℕ → Request → ℕ → Tale
-said_so setting tale answers serials told conn request serial = record {
+abbrev said_so : Tale → (ℕ → List Answer) → (ℕ → List ℕ) → (ℕ → List Answer) → ℕ → Answered → Tale
+said_so tale answers serials told conn answered = record {
   talk = record { requests = tale.talk.requests; answers = answers; serials = serials; moving = tale.talk.moving };
   told = told;
-  course = next_course setting tale.course conn request serial;
+  course = course_after tale.course conn answered;
   before = with_session tale.before conn (tale.course.sessions conn);
 }
 
-as_acting : (setting : Setting) (now : ℕ) (marks : List Mark) (tale : Tale) (told : ℕ → List Answer) (conn : ℕ) (request : Request) (serial : ℕ)
-    → IsUnreplied tale conn → IsToldByLast setting now marks (tale_said setting tale told conn request serial)
-    → IsToldByLast setting now marks (record (acting setting tale conn request serial) { told = told })
-as_acting setting now marks tale told conn request serial unreplied is =
-    let answer : Answer = (done setting tale conn request serial).answer in
+abbrev listed_so : Tale → (ℕ → List Answer) → ℕ → Answered → ℕ → Tale
+listed_so tale told conn answered serial = said_so tale (with_list tale.talk.answers conn (tale.told conn ++ answered.answer ∷ []))
+    (with_list tale.talk.serials conn (tale.talk.serials conn ++ serial ∷ [])) told conn answered
+
+-- the open command has this answer
+as_listed : (setting : Setting) (now : ℕ) (marks : List Mark) (tale : Tale) (told : ℕ → List Answer) (conn : ℕ) (answered : Answered) (serial : ℕ)
+    → IsUnreplied tale conn → IsToldByLast setting now marks (tale_said tale told conn answered serial)
+    → IsToldByLast setting now marks (listed_so tale told conn answered serial)
+as_listed setting now marks tale told conn answered serial unreplied is =
     subst (λ s. IsToldByLast setting now marks
-    (said_so setting tale (with_list tale.talk.answers conn (tale.told conn ++ answer ∷ [])) s told conn request serial))
+    (said_so tale (with_list tale.talk.answers conn (tale.told conn ++ answered.answer ∷ [])) s told conn answered))
     (more_listed tale.talk.serials (tale.talk.serials conn) conn serial refl)
-    (subst (λ a. IsToldByLast setting now marks (said_so setting tale a (with_item tale.talk.serials conn serial) told conn request serial))
-    (more_listed tale.talk.answers (tale.told conn) conn answer unreplied) is)
+    (subst (λ a. IsToldByLast setting now marks (said_so tale a (with_item tale.talk.serials conn serial) told conn answered))
+    (more_listed tale.talk.answers (tale.told conn) conn answered.answer unreplied) is)
+
+-- and its client is told of it
+as_told : (setting : Setting) (now : ℕ) (marks : List Mark) (tale : Tale) (conn : ℕ) (answered : Answered) (serial : ℕ) → IsUnreplied tale conn
+    → IsToldByLast setting now marks (tale_said tale (with_item tale.told conn answered.answer) conn answered serial)
+    → IsToldByLast setting now marks (listed_so tale (with_list tale.told conn (tale.told conn ++ answered.answer ∷ [])) conn answered serial)
+as_told setting now marks tale conn answered serial unreplied is =
+    subst (λ (t : ℕ → List Answer). IsToldByLast setting now marks (listed_so tale t conn answered serial))
+    (more_listed tale.told (tale.told conn) conn answered.answer refl)
+    (as_listed setting now marks tale (with_item tale.told conn answered.answer) conn answered serial unreplied is)
 
 -- a step carries the open command out
 home_acts : (counts : Counts) → acts (Home counts) ≡ true
@@ -87,10 +104,13 @@ pub acts_by_last : (setting : Setting) (now : ℕ) (marks : List Mark) (tale : T
     → IsToldByLast setting now (marks ++ mark_now now tale conn (Home counts) ∷ []) (acting setting tale conn request serial)
 acts_by_last setting now marks tale conn counts request serial can unless is =
     as_open (λ m. IsToldByLast setting now (marks ++ m ∷ []) (acting setting tale conn request serial)) now tale conn (Home counts) can.unreplied
-    (as_acting setting now (marks ++ next_mark now tale.talk conn (Home counts) ∷ []) tale tale.told conn request serial can.unreplied
-    (push_by_last setting now marks tale tale.told conn request serial (Home counts) (home_acts counts)
+    (as_listed setting now (marks ++ next_mark now tale.talk conn (Home counts) ∷ []) tale tale.told conn (done setting tale conn request serial) serial
+    can.unreplied
+    (push_by_last setting now marks tale tale.told conn (done setting tale conn request serial) serial (Home counts)
     (still_told setting tale.talk conn counts tale.told (omega (arith, ap length can.unreplied)))
-    (next_asked setting tale conn request serial can) can.free (λ kind. unless (just kind)) is))
+    (step_made setting tale.talk tale.course conn request serial now (Home counts) (home_acts counts) (reached_home counts)
+    (next_asked setting tale conn request serial can) can.free (λ kind. unless (just kind)) (is.is_told.serials conn))
+    is))
 
 -- what was replied is taken back, and the command is carried out anew
 pub anew_by_last : (setting : Setting) (now : ℕ) (marks : List Mark) (tale : Tale) (conn : ℕ) (answer : Answer) (counts : Counts)
@@ -112,16 +132,32 @@ at_once_by_last : (setting : Setting) (now : ℕ) (marks : List Mark) (tale : Ta
     → IsToldByLast setting now (marks ++ mark_now now tale conn (Told Here) ∷ [])
     (telling (acting setting tale conn request serial) conn (done setting tale conn request serial).answer)
 at_once_by_last setting now marks tale conn request serial can is =
-    let answer : Answer = (done setting tale conn request serial).answer in
-    subst (λ (t : ℕ → List Answer). IsToldByLast setting now (marks ++ mark_now now tale conn (Told Here) ∷ [])
-    (record (acting setting tale conn request serial) { told = t }))
-    (more_listed tale.told (tale.told conn) conn answer refl)
-    (as_open (λ m. IsToldByLast setting now (marks ++ m ∷ []) (record (acting setting tale conn request serial) { told = with_item tale.told conn answer })) now
-    tale conn (Told Here) can.unreplied
-    (as_acting setting now (marks ++ next_mark now tale.talk conn (Told Here) ∷ []) tale (with_item tale.told conn answer) conn request serial can.unreplied
-    (push_by_last setting now marks tale (with_item tale.told conn answer) conn request serial (Told Here) here_acts
-    (tells_here setting tale.talk conn tale.told answer (ap length can.unreplied)) (next_asked setting tale conn request serial can) can.free
-    (λ kind. cc) is)))
+    let its : Answered = done setting tale conn request serial in
+    as_open (λ m. IsToldByLast setting now (marks ++ m ∷ []) (telling (acting setting tale conn request serial) conn its.answer)) now tale conn (Told Here)
+    can.unreplied
+    (as_told setting now (marks ++ next_mark now tale.talk conn (Told Here) ∷ []) tale conn its serial can.unreplied
+    (push_by_last setting now marks tale (with_item tale.told conn its.answer) conn its serial (Told Here)
+    (tells_now setting tale.talk conn Here tale.told its.answer (ap length can.unreplied))
+    (step_made setting tale.talk tale.course conn request serial now (Told Here) here_acts reached_here (next_asked setting tale conn request serial can)
+    can.free (λ kind. cc) (is.is_told.serials conn))
+    is))
+
+-- the open command is refused, as a node isn't reached, and its client is told at once
+unreached_by_last : (setting : Setting) (now : ℕ) (marks : List Mark) (tale : Tale) (conn : ℕ) (tag : Tag) (it : Command) (node : List ℕ) (serial : ℕ)
+    → CanRefuseNow setting tale now conn tag it node → IsToldByLast setting now marks tale
+    → IsToldByLast setting now (marks ++ mark_now now tale conn (Told (Unreached node)) ∷ [])
+    (telling (refusing tale conn tag it NotReached serial) conn (refusal tale conn tag it NotReached).answer)
+unreached_by_last setting now marks tale conn tag it node serial can is =
+    let its : Answered = refusal tale conn tag it NotReached in
+    as_open (λ m. IsToldByLast setting now (marks ++ m ∷ []) (telling (refusing tale conn tag it NotReached serial) conn its.answer)) now tale conn
+    (Told (Unreached node)) can.unreplied
+    (as_told setting now (marks ++ next_mark now tale.talk conn (Told (Unreached node)) ∷ []) tale conn its serial can.unreplied
+    (push_by_last setting now marks tale (with_item tale.told conn its.answer) conn its serial (Told (Unreached node))
+    (tells_now setting tale.talk conn (Unreached node) tale.told its.answer (ap length can.unreplied))
+    (step_refused setting tale.talk tale.course conn serial now tag it node
+    (subst (λ (l : List Answer). IsRefused setting tale.talk tale.course now conn (length l + 1) tag it (unreached node) NotReached) (sym can.unreplied)
+    can.refused))
+    is))
 
 tells_by_last : (setting : Setting) (now : ℕ) (marks : List Mark) (tale : Tale) (conn : ℕ) (answer : Answer) → IsUntold tale conn answer
     → IsToldByLast setting now marks tale
@@ -154,7 +190,6 @@ first_by_last setting moving = record {
     serials = λ conn. refl;
     ahead = λ conn. omega arith;
     fit = fits_none;
-    refused = λ k d h. λ _. tt;
   };
   earlier = first_course.sessions;
   from = from_none first_course first_course.sessions;
@@ -207,42 +242,23 @@ telling_more tale conn answer other = ⊎_elim
     (λ (ne : other ≢ conn). omega (arith, ap length (list_elsewhere tale.told conn (tale.told conn ++ answer ∷ []) other ne)))
     (cases_eq other conn)
 
-refusing_one : (tale : Tale) (conn : ℕ) (tag : Tag) (it : Command) (serial : ℕ) → HasOne tale → HasOne (refusing tale conn tag it serial)
-refusing_one tale conn tag it serial so = λ c. ⊎_elim
-    (λ (e : c ≡ conn). one_more (tale.told c) _ (refusal tale conn tag it).answer
-    (ap (with_list tale.talk.answers conn (tale.told conn ++ (refusal tale conn tag it).answer ∷ [])) e
-    ∙ list_at tale.talk.answers conn (tale.told conn ++ (refusal tale conn tag it).answer ∷ [])
-    ∙ ap (λ x. tale.told x ++ (refusal tale conn tag it).answer ∷ []) (sym e)))
+refusing_one : (tale : Tale) (conn : ℕ) (tag : Tag) (it : Command) (why : NoText) (serial : ℕ) → HasOne tale → HasOne (refusing tale conn tag it why serial)
+refusing_one tale conn tag it why serial so = λ c. ⊎_elim
+    (λ (e : c ≡ conn). one_more (tale.told c) _ (refusal tale conn tag it why).answer
+    (ap (with_list tale.talk.answers conn (tale.told conn ++ (refusal tale conn tag it why).answer ∷ [])) e
+    ∙ list_at tale.talk.answers conn (tale.told conn ++ (refusal tale conn tag it why).answer ∷ [])
+    ∙ ap (λ x. tale.told x ++ (refusal tale conn tag it why).answer ∷ []) (sym e)))
     (λ (ne : c ≢ conn). subst (λ l. IsToldSo (tale.told c) l) (sym (list_elsewhere tale.talk.answers conn _ c ne)) (so c))
     (cases_eq c conn)
-
-abbrev refused_so : Tale → (ℕ → List Answer) → (ℕ → List ℕ) → (ℕ → List Answer) → ℕ → Tag → Command → Tale
-refused_so tale answers serials told conn tag it = record {
-  talk = record { requests = tale.talk.requests; answers = answers; serials = serials; moving = tale.talk.moving };
-  told = told;
-  course = course_after tale.course conn (refusal tale conn tag it);
-  before = with_session tale.before conn (tale.course.sessions conn);
-}
 
 -- the open command is refused
 refuses_by_last : (setting : Setting) (now : ℕ) (marks : List Mark) (tale : Tale) (conn : ℕ) (tag : Tag) (it : Command) (serial : ℕ)
     → CanRefuse setting marks tale conn tag it → IsInOrder now marks tale.told → IsToldByLast setting now marks tale
     → IsToldByLast setting now (marks ++ mark_now now tale conn (Told Reserved) ∷ [])
-    (telling (refusing tale conn tag it serial) conn (refusal tale conn tag it).answer)
+    (telling (refusing tale conn tag it BeingMoved serial) conn (refusal tale conn tag it BeingMoved).answer)
 refuses_by_last setting now marks tale conn tag it serial can order is =
-    let answer : Answer = (refusal tale conn tag it).answer in
-    let those : List Mark = marks ++ mark_now now tale conn (Told Reserved) ∷ [] in
-    let own : List Answer = tale.told conn ++ answer ∷ [] in
-    subst (λ t. IsToldByLast setting now those (refused_so tale (with_list tale.talk.answers conn own)
-    (with_list tale.talk.serials conn (tale.talk.serials conn ++ serial ∷ [])) t conn tag it))
-    (more_listed tale.told (tale.told conn) conn answer refl)
-    (subst (λ s. IsToldByLast setting now those
-    (refused_so tale (with_list tale.talk.answers conn own) s (with_item tale.told conn answer) conn tag it))
-    (more_listed tale.talk.serials (tale.talk.serials conn) conn serial refl)
-    (subst (λ a. IsToldByLast setting now those
-    (refused_so tale a (with_item tale.talk.serials conn serial) (with_item tale.told conn answer) conn tag it))
-    (more_listed tale.talk.answers (tale.told conn) conn answer can.unreplied)
-    (refused_by_last setting now marks tale conn tag it serial can order is)))
+    as_told setting now (marks ++ mark_now now tale conn (Told Reserved) ∷ []) tale conn (refusal tale conn tag it BeingMoved) serial can.unreplied
+    (refused_by_last setting now marks tale conn tag it serial can order is)
 
 pub record Holds (setting : Setting) (now : ℕ) (marks : List Mark) (tale : Tale) : Type 0 where
   pub so : HasOne tale
@@ -292,12 +308,21 @@ holds setting now marks tale (tells_at_once at those its conn request serial can
     }
 holds setting now marks tale (refuses at those its conn tag it serial can made) =
     let before = holds setting at those its made in
-    let answer : Answer = (refusal its conn tag it).answer in
+    let answer : Answer = (refusal its conn tag it BeingMoved).answer in
     record {
-      so = telling_one (refusing its conn tag it serial) conn answer (list_at its.talk.answers conn (its.told conn ++ answer ∷ []))
-          (refusing_one its conn tag it serial before.so);
+      so = telling_one (refusing its conn tag it BeingMoved serial) conn answer (list_at its.talk.answers conn (its.told conn ++ answer ∷ []))
+          (refusing_one its conn tag it BeingMoved serial before.so);
       law = refuses_by_last setting at those its conn tag it serial can before.order before.law;
       order = order_push at those its conn (Told Reserved) _ (telling_more its conn answer) before.order;
+    }
+holds setting now marks tale (refuses_at_once at those its conn tag it node serial can made) =
+    let before = holds setting at those its made in
+    let answer : Answer = (refusal its conn tag it NotReached).answer in
+    record {
+      so = telling_one (refusing its conn tag it NotReached serial) conn answer (list_at its.talk.answers conn (its.told conn ++ answer ∷ []))
+          (refusing_one its conn tag it NotReached serial before.so);
+      law = unreached_by_last setting at those its conn tag it node serial can before.law;
+      order = order_push at those its conn (Told (Unreached node)) _ (telling_more its conn answer) before.order;
     }
 holds setting now marks tale (takes_back at those its conn answer untold last made) =
     let before = holds setting at those its made in

@@ -1,6 +1,6 @@
 -- The marks of a run carry out their requests one after another, and what history they make.
 use Rattle.std.proofs.Common.{◌≡◌, ◌≢◌, ℕ, zero, suc, ◌+◌, ◌≤◌, ◌<◌, ◌&&◌, Bool, true, false, cond, nat_eq, nat_le, List, [], ◌∷◌, ◌++◌, length}
-use Rattle.std.proofs.Common.{get_or, if◌then◌else◌, Option, Some, ◌⊎◌, refl, sym, ◌∙◌, ap, subst, arith}
+use Rattle.std.proofs.Common.{get_or, if◌then◌else◌, Option, Some, refl, sym, ◌∙◌, ap, subst, arith}
 use Rattle.std.specs.Prelude.{All, AllPairs, count_by, slice_get}
 use Rattle.std.proofs.Math.Logic.{⊎_elim}
 use Rattle.std.proofs.lemmas.Bool.{cases_eq}
@@ -9,31 +9,27 @@ use Rattle.std.proofs.lemmas.List.Elements.{All-push, All-cons, All-nil}
 use Rattle.std.proofs.lemmas.List.Kept.{AllPairs-cons}
 use Rattle.std.proofs.lemmas.List.Sums.{sum_by-append}
 use Rattle.link_msg.specs.declared.counts.Counts.TheVariants.{Always, IfAnswered}
-use Rattle.link_msg.specs.declared.how.How.TheVariants.{Reserved}
+use Rattle.link_msg.specs.declared.how.How.TheVariants.{Unreached}
 use Rattle.mur_base.specs.declared.point.Point.{Point}
-use Rattle.mur_base.specs.declared.point.What.TheVariants.{Reply as replied, Lost as lost, Reserved as reserved}
-use Rattle.imap_types.specs.declared.command.Command.{Command}
-use Rattle.imap_types.specs.declared.command.Tag.{Tag}
-use Rattle.imap_types.specs.declared.reply.NoText.TheVariants.{BeingMoved}
+use Rattle.mur_base.specs.declared.point.What.TheVariants.{Reply as replied, Lost as lost, Reserved as reserved, Unreached as unreached}
 use Rattle.imap_types.specs.declared.request.Answer.{Answer}
-use Rattle.imap_types.specs.declared.request.Request.{Request}
 use Rattle.mur_model.specs.declared.session.Sess.{Sess}
 use Rattle.mur_model.specs.declared.setting.Setting.{Setting}
 use Rattle.mur_model.specs.declared.store.Store.{Store}
 use Rattle.mur_model.specs.Answer.{Answered}
-use Rattle.mur_model.specs.History.{Course, Talk, TalkGoesOn, IsRefused, Takes, numbered, with_session, carried_out, course_after, refused_out, Follows, answers_its_command, loses, reads, is_about}
+use Rattle.mur_model.specs.History.{Course, Talk, TalkGoesOn, numbered, with_session, course_after, Follows, answers_its_command, loses, reads, is_about}
 use Rattle.mur_model.specs.History.Follows.{no_points}
 use Rattle.mur_model.proofs.HistoryGrows.{one_up_to}
 use Rattle.mark_history.specs.declared.mark.Mark.{Mark}
 use Rattle.mark_history.specs.declared.mark.MarkKind.{MarkKind}
 use Rattle.mark_history.specs.declared.mark.MarkKind.TheVariants.{Home, Told}
 use Rattle.mark_history.specs.History.{is_of, next_of, counts_as, point_as, points_by, points_of}
-use Rattle.mark_history.proofs.Deeds.{IsDeed, IsStep, refused_with, same_step, step_as, step_on}
-use Rattle.mark_history.proofs.Deeds.IsDeed.{carries_it_out, is_refused}
-use Rattle.mark_history.proofs.StepPoints.{loss_point, refusal_point, reply_point}
-use Rattle.mark_history.proofs.EachPoint.{beyond, count_cons, within}
-use Rattle.mark_history.proofs.Tally.{acts, conn_of, command_of, Fit, IsUnrefusedBy, Verdict, acting_unrefused, none_next, of_both, still_unrefused, tells_refusal, verdict}
-use Rattle.mark_history.proofs.Tally.Verdict.{replies, refuses, is_lost, is_open, tells}
+use Rattle.mark_history.proofs.Deeds.{IsStep, same_step, step_as, step_on}
+use Rattle.mark_history.proofs.StepPoints.{answered_point, lost_point, refused_point, told_talk, unreached_point}
+use Rattle.mark_history.proofs.Numbers.{beyond, count_cons, within}
+use Rattle.mark_history.proofs.Tally.{acts, conn_of, command_of, Fit, IsUnrefusedBy, Verdict, acting_unrefused, none_next, of_both, still_unrefused}
+use Rattle.mark_history.proofs.Tally.{tells_refusal, unreached_acts, verdict}
+use Rattle.mark_history.proofs.Tally.Verdict.{replies, refuses, is_unreached, is_lost, is_open, tells}
 
 -- each mark of a step that acts carries out its request, or is refused behind it, and its answer is this step's; one that counts only for an answered
 -- command leaves the store as it was. A mark behind a home's answer carries out nothing.
@@ -96,13 +92,6 @@ pub record IsTold_of (talk : Talk) (told : ℕ → List Answer) : Type 0 where
   pub rest : ℕ → List Answer
   pub parts : (conn : ℕ) → talk.answers conn ≡ told conn ++ rest conn
 
-abbrev pub told_talk : Talk → (ℕ → List Answer) → Talk
-told_talk talk told = record { requests = talk.requests; answers = told; serials = talk.serials; moving = talk.moving }
-
-told_takes : (setting : Setting) (talk : Talk) (told : ℕ → List Answer) (course : Course) (conn number : ℕ) (request : Request) (serial : ℕ)
-    → Takes setting talk course conn number request serial → Takes setting (told_talk talk told) course conn number request serial
-told_takes setting talk told course conn number request serial takes = record { asked = takes.asked; given = takes.given; free = takes.free }
-
 -- each point is of its mark, whose step acts, and a loss of a command that wasn't told of
 pub record IsOf (told : ℕ → ℕ) (mark : Mark) (point : Point) : Type 0 where
   pub same_step : point.step ≡ mark.step
@@ -118,6 +107,11 @@ its_reply told mark acting low = record { same_step = refl; same_ask = refl; act
 its_refusal : (told : ℕ → ℕ) (mark : Mark) → acts mark.kind ≡ true → IsOf told mark (point_as mark reserved)
 unfolding loses reads
 its_refusal told mark acting = record { same_step = refl; same_ask = refl; acting = acting; if_lost = λ k. cc; unread = refl }
+
+its_unreached : (told : ℕ → ℕ) (mark : Mark) (node : List ℕ) → mark.kind ≡ Told (Unreached node) → IsOf told mark (point_as mark (unreached node))
+unfolding loses reads
+its_unreached told mark node kind =
+    record { same_step = refl; same_ask = refl; acting = unreached_acts mark.kind node kind; if_lost = λ k. cc; unread = refl }
 
 its_loss : (told : ℕ → ℕ) (mark : Mark) → acts mark.kind ≡ true → told (conn_of mark) < command_of mark → IsOf told mark (point_as mark lost)
 unfolding reads
@@ -137,7 +131,9 @@ all_by : (told : ℕ → ℕ) (mark : Mark) (P : Point → Type 0) (points : Lis
 unfolding points_by
 all_by told mark P points of rest b h next (refuses t kind after is) = subst (λ w. All P (points_by mark w ++ points)) (sym is)
     (All-cons P _ points (of _ (its_refusal told mark (acting_if mark kind))) rest)
-all_by told mark P points of rest b h next (replies t acting plain is) = subst (λ w. All P (points_by mark w ++ points)) (sym is)
+all_by told mark P points of rest b h next (is_unreached node t kind is) = subst (λ w. All P (points_by mark w ++ points)) (sym is)
+    (All-cons P _ points (of _ (its_unreached told mark node kind)) rest)
+all_by told mark P points of rest b h next (replies t acting reached plain is) = subst (λ w. All P (points_by mark w ++ points)) (sym is)
     (All-cons P _ points (of _ (its_reply told mark acting (within told mark b h t))) rest)
 all_by told mark P points of rest b h next (is_lost t always none is) = subst (λ w. All P (points_by mark w ++ points)) (sym is)
     (All-cons P _ points (of _ (its_loss told mark (acting_always mark always) (beyond told mark b h t))) rest)
@@ -167,7 +163,9 @@ pairs_by : (told : ℕ → ℕ) (mark : Mark) (R : Point → Point → Type 0) (
 unfolding points_by
 pairs_by told mark R points of rest b h next (refuses t kind after is) = subst (λ w. AllPairs R (points_by mark w ++ points)) (sym is)
     (AllPairs-cons R _ points (of _ (its_refusal told mark (acting_if mark kind))) rest)
-pairs_by told mark R points of rest b h next (replies t acting plain is) = subst (λ w. AllPairs R (points_by mark w ++ points)) (sym is)
+pairs_by told mark R points of rest b h next (is_unreached node t kind is) = subst (λ w. AllPairs R (points_by mark w ++ points)) (sym is)
+    (AllPairs-cons R _ points (of _ (its_unreached told mark node kind)) rest)
+pairs_by told mark R points of rest b h next (replies t acting reached plain is) = subst (λ w. AllPairs R (points_by mark w ++ points)) (sym is)
     (AllPairs-cons R _ points (of _ (its_reply told mark acting (within told mark b h t))) rest)
 pairs_by told mark R points of rest b h next (is_lost t always none is) = subst (λ w. AllPairs R (points_by mark w ++ points)) (sym is)
     (AllPairs-cons R _ points (of _ (its_loss told mark (acting_always mark always) (beyond told mark b h t))) rest)
@@ -207,7 +205,9 @@ none_of_it told said mark later few behind low other high = λ e.
 none_behind_by : (told said : ℕ → ℕ) (mark : Mark) (marks : List Mark) → ((conn : ℕ) → said conn ≤ told conn + 1) → All (Later mark) marks
     → All (λ (m : Mark). command_of m ≤ said (conn_of m)) marks → (b : Bool) → nat_le (command_of mark) (told (conn_of mark)) ≡ b
     → (next : Option MarkKind) → next_of mark.ask marks ≡ next → Verdict b mark.kind next → All (NoMore told mark) marks
-none_behind_by told said mark marks few later numbers b h next is (replies t acting plain counted) =
+none_behind_by told said mark marks few later numbers b h next is (replies t acting reached plain counted) =
+    λ k d at. λ a high. absurd (omega (arith, high, within told mark b h t))
+none_behind_by told said mark marks few later numbers b h next is (is_unreached node t kind counted) =
     λ k d at. λ a high. absurd (omega (arith, high, within told mark b h t))
 none_behind_by told said mark marks few later numbers b h next is (refuses t kind after counted) =
     λ k d at. λ a high. absurd (omega (arith, high, within told mark b h t))
@@ -270,43 +270,6 @@ IsFollowed setting talk marks course store = (other : Course) → Agrees marks c
 abbrev pub counts_of : (ℕ → List Answer) → ℕ → ℕ
 counts_of told conn = length (told conn)
 
--- by what the mark counts as
-answered_point : (setting : Setting) (talk : Talk) (told : ℕ → List Answer) (course last : Course) (mark : Mark) (done : Answered) (points : List Point)
-    (next : Option MarkKind) → IsDeed setting talk course mark (tells_refusal next) done → (mark.kind ≡ Home IfAnswered → tells_refusal next ≡ false)
-    → numbered (told (conn_of mark)) (command_of mark) ≡ Some done.answer
-    → Follows setting (told_talk talk told) (course_after course (conn_of mark) done) points last
-    → Follows setting (told_talk talk told) course (point_as mark replied ∷ points) last
-answered_point setting talk told course last mark done points next (carries_it_out request serial unrefused takes is) plain answer later =
-    reply_point setting (told_talk talk told) course last mark request serial done points
-    (told_takes setting talk told course (conn_of mark) (command_of mark) request serial takes) is answer later
-answered_point setting talk told course last mark done points next (is_refused tag it refusing kind may is) plain answer later =
-    (let both : true ≡ false = sym refusing ∙ plain kind in cc)
-
-lost_point : (setting : Setting) (talk : Talk) (told : ℕ → List Answer) (course last : Course) (mark : Mark) (done : Answered) (points : List Point)
-    (refused : Bool) → IsDeed setting talk course mark refused done → mark.kind ≡ Home Always
-    → Follows setting (told_talk talk told) (course_after course (conn_of mark) done) points last
-    → Follows setting (told_talk talk told) course (point_as mark lost ∷ points) last
-lost_point setting talk told course last mark done points refused (carries_it_out request serial unrefused takes is) always later =
-    loss_point setting (told_talk talk told) course last mark request serial done points
-    (told_takes setting talk told course (conn_of mark) (command_of mark) request serial takes) is later
-lost_point setting talk told course last mark done points refused (is_refused tag it refusing kind may is) always later =
-    (let both : Home Always ≡ Home IfAnswered = sym always ∙ kind in cc)
-
-pub refuses_next : (next : Option MarkKind) → next ≡ Some (Told Reserved) → tells_refusal next ≡ true
-unfolding tells_refusal
-refuses_next next after = ap tells_refusal after
-
-refused_point : (setting : Setting) (talk : Talk) (told : ℕ → List Answer) (course last : Course) (mark : Mark) (done : Answered) (points : List Point)
-    (next : Option MarkKind) → IsDeed setting talk course mark (tells_refusal next) done → next ≡ Some (Told Reserved)
-    → numbered (told (conn_of mark)) (command_of mark) ≡ Some done.answer
-    → Follows setting (told_talk talk told) (course_after course (conn_of mark) done) points last
-    → Follows setting (told_talk talk told) course (point_as mark reserved ∷ points) last
-refused_point setting talk told course last mark done points next (carries_it_out request serial unrefused takes is) after answer later =
-    (let both : false ≡ true = sym unrefused ∙ refuses_next next after in cc)
-refused_point setting talk told course last mark done points next (is_refused tag it refusing kind may is) after answer later =
-    refusal_point setting (told_talk talk told) course last mark tag it done points
-    (refused_with setting talk (told_talk talk told) course mark.step (conn_of mark) (command_of mark) tag it may.asked refl may) is answer later
-
 -- the history that the marks make is followed by the store, of which the clients were told the answers that they were given
 follows_by : (setting : Setting) (talk : Talk) (told : ℕ → List Answer) → IsTold_of talk told
     → (course other : Course) (store : Store) (mark : Mark) (done : Answered) (marks : List Mark) (next : Option MarkKind)
@@ -333,19 +296,26 @@ follows_by setting talk told of course other store mark done marks next step agr
         (ap (λ l. numbered l (command_of mark)) (sym (of.parts (conn_of mark))) ∙ step.answer)
 
     by : Verdict b mark.kind next → FollowsTo setting (told_talk talk told) other (points_by mark (counts_as mark.kind next) ++ points_of marks) store
-    by (replies t a plain is) =
+    by (replies t a reached plain is) =
         subst (λ w. FollowsTo setting (told_talk talk told) other (points_by mark w ++ points_of marks) store) (sym is)
         (record {
           end = rest.end;
           same_store = rest.same_store;
-          follows = answered_point setting talk told other rest.end mark done (points_of marks) next its.deed plain (told_answer t) rest.follows;
+          follows = answered_point setting talk told other rest.end mark done (points_of marks) next its.deed reached plain (told_answer t) rest.follows;
         })
     by (refuses t kind after is) =
         subst (λ w. FollowsTo setting (told_talk talk told) other (points_by mark w ++ points_of marks) store) (sym is)
         (record {
           end = rest.end;
           same_store = rest.same_store;
-          follows = refused_point setting talk told other rest.end mark done (points_of marks) next its.deed after (told_answer t) rest.follows;
+          follows = refused_point setting talk told other rest.end mark done (points_of marks) next its.deed kind after (told_answer t) rest.follows;
+        })
+    by (is_unreached node t kind is) =
+        subst (λ w. FollowsTo setting (told_talk talk told) other (points_by mark w ++ points_of marks) store) (sym is)
+        (record {
+          end = rest.end;
+          same_store = rest.same_store;
+          follows = unreached_point setting talk told other rest.end mark done (points_of marks) _ node its.deed kind (told_answer t) rest.follows;
         })
     by (is_lost t always none is) =
         subst (λ w. FollowsTo setting (told_talk talk told) other (points_by mark w ++ points_of marks) store) (sym is)
@@ -372,7 +342,9 @@ told_by : (setting : Setting) (talk : Talk) (other : Course) (store : Store) (ma
     → FollowsTo setting talk other (points_of marks) store → (b : Bool) (next : Option MarkKind) → Verdict b mark.kind next
     → FollowsTo setting talk other (points_by mark (counts_as mark.kind next) ++ points_of marks) store
 unfolding points_by
-told_by setting talk other store mark marks telling rest b next (replies t acting plain is) = (let both : false ≡ true = sym telling ∙ acting in cc)
+told_by setting talk other store mark marks telling rest b next (is_unreached node t kind is) =
+    (let both : false ≡ true = sym telling ∙ unreached_acts mark.kind node kind in cc)
+told_by setting talk other store mark marks telling rest b next (replies t acting reached plain is) = (let both : false ≡ true = sym telling ∙ acting in cc)
 told_by setting talk other store mark marks telling rest b next (refuses t kind after is) =
     (let both : false ≡ true = sym telling ∙ acting_if mark kind in cc)
 told_by setting talk other store mark marks telling rest b next (is_lost t always none is) =
@@ -505,6 +477,14 @@ refusal_counted conn number mark true a true s = rw (a, s) refl
 refusal_counted conn number mark true a false s = rw (a, s) refl
 refusal_counted conn number mark false a same s = rw a refl
 
+unreached_counted : (conn number : ℕ) (mark : Mark) (node : List ℕ) (at : Bool) → nat_eq (conn_of mark) conn ≡ at
+    → (same : Bool) → nat_eq (command_of mark) number ≡ same
+    → count_by (is_about answers_its_command conn number) (point_as mark (unreached node) ∷ []) ≡ cond (at && same) 1 0
+unfolding answers_its_command
+unreached_counted conn number mark node true a true s = rw (a, s) refl
+unreached_counted conn number mark node true a false s = rw (a, s) refl
+unreached_counted conn number mark node false a same s = rw a refl
+
 loss_counted : (conn number : ℕ) (mark : Mark) (at : Bool) → nat_eq (conn_of mark) conn ≡ at → (same : Bool) → nat_eq (command_of mark) number ≡ same
     → count_by (is_about loses conn number) (point_as mark lost ∷ []) ≡ cond (at && same) 1 0
 unfolding loses
@@ -531,7 +511,11 @@ answers_by told conn number mark low b h next (refuses t kind after is) =
     ap (λ w. count_by (is_about answers_its_command conn number) (points_by mark w)) is
     ∙ refusal_counted conn number mark (nat_eq (conn_of mark) conn) refl (nat_eq (command_of mark) number) refl
     ∙ ap (λ t. cond t 1 0) (sym (acting_mark conn number mark (acting_if mark kind)))
-answers_by told conn number mark low b h next (replies t acting plain is) =
+answers_by told conn number mark low b h next (is_unreached node t kind is) =
+    ap (λ w. count_by (is_about answers_its_command conn number) (points_by mark w)) is
+    ∙ unreached_counted conn number mark node (nat_eq (conn_of mark) conn) refl (nat_eq (command_of mark) number) refl
+    ∙ ap (λ t. cond t 1 0) (sym (acting_mark conn number mark (unreached_acts mark.kind node kind)))
+answers_by told conn number mark low b h next (replies t acting reached plain is) =
     ap (λ w. count_by (is_about answers_its_command conn number) (points_by mark w)) is
     ∙ reply_counted conn number mark (nat_eq (conn_of mark) conn) refl (nat_eq (command_of mark) number) refl
     ∙ ap (λ t. cond t 1 0) (sym (acting_mark conn number mark acting))
@@ -563,7 +547,8 @@ losses_by : (conn number : ℕ) (mark : Mark) (b : Bool) (next : Option MarkKind
     → count_by (is_about loses conn number) (points_by mark (counts_as mark.kind next)) ≤ cond (is_mark conn number mark) 1 0
 unfolding points_by loses
 losses_by conn number mark b next (refuses t kind after is) = omega (arith, ap (λ w. count_by (is_about loses conn number) (points_by mark w)) is)
-losses_by conn number mark b next (replies t acting plain is) = omega (arith, ap (λ w. count_by (is_about loses conn number) (points_by mark w)) is)
+losses_by conn number mark b next (is_unreached node t kind is) = omega (arith, ap (λ w. count_by (is_about loses conn number) (points_by mark w)) is)
+losses_by conn number mark b next (replies t acting reached plain is) = omega (arith, ap (λ w. count_by (is_about loses conn number) (points_by mark w)) is)
 losses_by conn number mark b next (is_lost t always none is) = omega (
   arith,
   ap (λ w. count_by (is_about loses conn number) (points_by mark w)) is,

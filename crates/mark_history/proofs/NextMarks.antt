@@ -1,5 +1,5 @@
--- The next mark of each command, kept while the marks are walked from the last to the first, and the points found so far.
-use Rattle.std.proofs.Common.{◌≡◌, ◌≢◌, ℕ, Bool, true, false, ◌&&◌, nat_eq, List, [], ◌∷◌, ◌++◌, length, drop, get_or, if◌then◌else◌, Option, None, Some, reverse, refl, sym, ◌∙◌, ap, subst, arith}
+-- What the next mark of each command says, kept while the marks are walked from the last to the first, and the points found so far.
+use Rattle.std.proofs.Common.{◌≡◌, ◌≢◌, ℕ, Bool, true, false, ◌&&◌, nat_eq, List, [], ◌∷◌, ◌++◌, length, drop, get_or, if◌then◌else◌, Option, None, Some, option_map, reverse, refl, sym, ◌∙◌, ap, subst, arith}
 use Rattle.std.proofs.Common.{◌<◌, ◌≤◌, ◌+◌, ◌-◌}
 use Rattle.std.proofs.Math.Logic.{⊎_elim}
 use Rattle.std.proofs.lemmas.Bool.Decides.{nat_tests}
@@ -14,9 +14,13 @@ use Rattle.mur_base.specs.declared.point.AskId.{AskId}
 use Rattle.mur_base.specs.declared.point.Point.{Point}
 use Rattle.mur_base.specs.declared.point.What.{What}
 use Rattle.mur_base.proofs.MapLaws.{TellsApart, same_or_other, value_at-with_entry, value_at-with_entry-other}
+use Rattle.link_msg.specs.declared.how.How.TheVariants.{Here, Behind, Reserved, Unreached}
+use Rattle.mark_history.specs.declared.history.Later.{Later}
 use Rattle.mark_history.specs.declared.mark.Mark.{Mark}
 use Rattle.mark_history.specs.declared.mark.MarkKind.{MarkKind}
+use Rattle.mark_history.specs.declared.mark.MarkKind.TheVariants.{Home, Told}
 use Rattle.mark_history.specs.History.{is_of, next_of, counts_as, points_by, points_of}
+use Rattle.mark_history.specs.Laters.{counts_by, later_of}
 use Rattle.mark_history.proofs.Tally.{conn_of, command_of}
 
 -- commands in the order of their connections, and then of their numbers
@@ -37,9 +41,23 @@ asks_apart = record {
 abbrev pub key_of : Mark → ℕ × ℕ
 key_of mark = (conn_of mark, command_of mark)
 
--- the map has the next mark of each command among these marks
-abbrev pub HasNext : List ((ℕ × ℕ) × MarkKind) → List Mark → Type 0
-HasNext next marks = (ask : AskId) → value_at ask_cmp next (ask.conn, ask.command) ≡ next_of ask marks
+-- the map has what the next mark of each command says among these marks
+abbrev pub HasNext : List ((ℕ × ℕ) × Later) → List Mark → Type 0
+HasNext next marks = (ask : AskId) → value_at ask_cmp next (ask.conn, ask.command) ≡ option_map later_of (next_of ask marks)
+
+-- which is enough
+counts_so : (kind : MarkKind) (next : Option MarkKind) → counts_by kind (option_map later_of next) ≡ counts_as kind next
+unfolding counts_by counts_as later_of
+counts_so (Told Here) next = refl
+counts_so (Told Behind) next = refl
+counts_so (Told Reserved) next = refl
+counts_so (Told (Unreached node)) next = refl
+counts_so (Home counts) None = refl
+counts_so (Home counts) (Some (Told Here)) = refl
+counts_so (Home counts) (Some (Told Behind)) = refl
+counts_so (Home counts) (Some (Told Reserved)) = refl
+counts_so (Home counts) (Some (Told (Unreached node))) = refl
+counts_so (Home counts) (Some (Home other)) = refl
 
 same_key : (ask : AskId) (mark : Mark) → (ask.conn, ask.command) ≡ key_of mark → is_of ask mark ≡ true
 same_key ask mark e =
@@ -67,17 +85,17 @@ other_key ask mark true h ne = by (nat_eq (conn_of mark) ask.conn) refl (nat_eq 
 other_key ask mark false h ne = refl
 
 -- it does with one mark more in front
-pub has_next : (next : List ((ℕ × ℕ) × MarkKind)) (mark : Mark) (marks : List Mark) → HasNext next marks
-    → HasNext (with_entry ask_cmp next (key_of mark) mark.kind) (mark ∷ marks)
+pub has_next : (next : List ((ℕ × ℕ) × Later)) (mark : Mark) (marks : List Mark) → HasNext next marks
+    → HasNext (with_entry ask_cmp next (key_of mark) (later_of mark.kind)) (mark ∷ marks)
 unfolding next_of
 has_next next mark marks has = λ ask. ⊎_elim
     (λ (e : (ask.conn, ask.command) ≡ key_of mark).
-    ap (value_at ask_cmp (with_entry ask_cmp next (key_of mark) mark.kind)) e
-    ∙ value_at-with_entry ask_cmp asks_apart next (key_of mark) mark.kind
-    ∙ sym (ap (λ b. if b then Some mark.kind else next_of ask marks) (same_key ask mark e)))
+    ap (value_at ask_cmp (with_entry ask_cmp next (key_of mark) (later_of mark.kind))) e
+    ∙ value_at-with_entry ask_cmp asks_apart next (key_of mark) (later_of mark.kind)
+    ∙ sym (ap (λ b. option_map later_of (if b then Some mark.kind else next_of ask marks)) (same_key ask mark e)))
     (λ (ne : (ask.conn, ask.command) ≢ key_of mark).
-    value_at-with_entry-other ask_cmp asks_apart next (key_of mark) (ask.conn, ask.command) mark.kind ne ∙ has ask
-    ∙ sym (ap (λ b. if b then Some mark.kind else next_of ask marks) (other_key ask mark (is_of ask mark) refl ne)))
+    value_at-with_entry-other ask_cmp asks_apart next (key_of mark) (ask.conn, ask.command) (later_of mark.kind) ne ∙ has ask
+    ∙ sym (ap (λ b. option_map later_of (if b then Some mark.kind else next_of ask marks)) (other_key ask mark (is_of ask mark) refl ne)))
     (same_or_other ask_cmp asks_apart (ask.conn, ask.command) (key_of mark))
 
 pub has_none : HasNext [] []
@@ -90,17 +108,18 @@ reversed_by mark None = refl
 reversed_by mark (Some what) = refl
 
 -- the points found so far, from the last to the first, with those of one mark more in front
-pub points_on : (found : List Point) (mark : Mark) (marks : List Mark) (later : Option MarkKind) → reverse found ≡ points_of marks
-    → later ≡ next_of mark.ask marks → reverse (found ++ points_by mark (counts_as mark.kind later)) ≡ points_of (mark ∷ marks)
+pub points_on : (found : List Point) (mark : Mark) (marks : List Mark) (later : Option Later) → reverse found ≡ points_of marks
+    → later ≡ option_map later_of (next_of mark.ask marks) → reverse (found ++ points_by mark (counts_by mark.kind later)) ≡ points_of (mark ∷ marks)
 unfolding points_of
 points_on found mark marks later is e =
-    reverse-append found (points_by mark (counts_as mark.kind later))
-    ∙ ap (λ l. l ++ reverse found) (reversed_by mark (counts_as mark.kind later))
-    ∙ ap (λ l. points_by mark (counts_as mark.kind l) ++ reverse found) e
+    reverse-append found (points_by mark (counts_by mark.kind later))
+    ∙ ap (λ l. l ++ reverse found) (reversed_by mark (counts_by mark.kind later))
+    ∙ ap (λ l. points_by mark (counts_by mark.kind l) ++ reverse found) e
+    ∙ ap (λ w. points_by mark w ++ reverse found) (counts_so mark.kind (next_of mark.ask marks))
     ∙ ap (λ l. points_by mark (counts_as mark.kind (next_of mark.ask marks)) ++ l) is
 
 -- behind the last mark there is none
-pub walked_none : (marks : List Mark) (next : List ((ℕ × ℕ) × MarkKind)) (found : List Point) → next ≡ [] → found ≡ []
+pub walked_none : (marks : List Mark) (next : List ((ℕ × ℕ) × Later)) (found : List Point) → next ≡ [] → found ≡ []
     → HasNext next (drop (length marks) marks) × (reverse found ≡ points_of (drop (length marks) marks))
 unfolding points_of
 walked_none marks next found n f =
@@ -110,16 +129,15 @@ walked_none marks next found n f =
     )
 
 -- and one mark back
-pub walked : (marks : List Mark) (left : ℕ) (d : Mark) (next later_next : List ((ℕ × ℕ) × MarkKind)) (found now : List Point) (later : Option MarkKind)
-    → 0 < left → left ≤ length marks → HasNext next (drop left marks) → reverse found ≡ points_of (drop left marks)
-    → later ≡ value_at ask_cmp next (key_of (get_or marks (left - 1) d))
-    → later_next ≡ with_entry ask_cmp next (key_of (get_or marks (left - 1) d)) (get_or marks (left - 1) d).kind
-    → now ≡ found ++ points_by (get_or marks (left - 1) d) (counts_as (get_or marks (left - 1) d).kind later)
+pub walked : (marks : List Mark) (left : ℕ) (mark d : Mark) (next later_next : List ((ℕ × ℕ) × Later)) (found now : List Point) (later : Option Later)
+    → mark ≡ get_or marks (left - 1) d → 0 < left → left ≤ length marks → HasNext next (drop left marks) → reverse found ≡ points_of (drop left marks)
+    → later ≡ value_at ask_cmp next (key_of mark) → later_next ≡ with_entry ask_cmp next (key_of mark) (later_of mark.kind)
+    → now ≡ found ++ points_by mark (counts_by mark.kind later)
     → HasNext later_next (drop (left - 1) marks) × (reverse now ≡ points_of (drop (left - 1) marks))
-walked marks left d next later_next found now later some within has is l n f =
-    let mark : Mark = get_or marks (left - 1) d in
+walked marks left mark d next later_next found now later at some within has is l n f =
     let again : left - 1 + 1 ≡ left = omega arith in
-    let parts : drop (left - 1) marks ≡ mark ∷ drop left marks = drop_more marks (left - 1) d (omega arith) ∙ ap (λ k. mark ∷ drop k marks) again in (
+    let parts : drop (left - 1) marks ≡ mark ∷ drop left marks =
+    drop_more marks (left - 1) d (omega arith) ∙ ap (λ k. get_or marks (left - 1) d ∷ drop k marks) again ∙ ap (λ m. m ∷ drop left marks) (sym at) in (
       subst (HasNext later_next) (sym parts) (subst (λ m. HasNext m (mark ∷ drop left marks)) (sym n) (has_next next mark (drop left marks) has)),
       ap reverse f ∙ points_on found mark (drop left marks) later is (l ∙ has mark.ask) ∙ ap points_of (sym parts),
     )

@@ -25,7 +25,8 @@ use Rattle.mark_history.proofs.CarriesFrom.{CarriesBeside, CarriesFrom, IsElsewh
 use Rattle.mark_history.proofs.CarriesFrom.CarriesFrom.{from_none, from_step, from_telling}
 use Rattle.mark_history.proofs.Deeds.{same_is_refused, step_as}
 use Rattle.mark_history.proofs.Deeds.IsDeed.{is_refused}
-use Rattle.mark_history.proofs.Marks.{Later, head_pairs, refuses_next, tail_pairs, with_session_elsewhere}
+use Rattle.mark_history.proofs.Marks.{Later, head_pairs, tail_pairs, with_session_elsewhere}
+use Rattle.mark_history.proofs.StepPoints.{refuses_next}
 use Rattle.mark_history.proofs.Tally.{IsUnrefusedBy, acts, command_of, conn_of, its_kind, next_or, next_push, of_other, still_unrefused, tells_refusal}
 use Rattle.mark_history.proofs.Without.{IsBefore, Without, acts_home, next_without, none_of}
 use Rattle.mark_history.proofs.Without.Without.{here, behind}
@@ -93,7 +94,8 @@ module _ (setting : Setting) (talk : Talk) (mark tell : Mark) (last : Course) (e
                   (refuses_next _ (next_alone mark.ask less tell
                   (none_of mark.ask less (λ k d h. of_other mark (get_or less k d) _ refl (λ c n. absurd (omega (arith, earlier k d h (sym c), n))))) own
                   ∙ ap {B = Option MarkKind} (λ k. Some k) tells))
-                  kind (same_is_refused setting talk last course mark.step conn (command_of mark) tag it (sym kept) refused) refl;
+                  kind
+                  (same_is_refused setting talk last course mark.step conn (command_of mark) tag it reserved BeingMoved (sym kept) refused) refl;
               answer = answer ∙ ap {B = Option Answer} (λ s. Some (after_refusal last.store s tag it BeingMoved).answer) kept;
               unless = λ k. refl;
             })

@@ -1,20 +1,21 @@
 -- The marks so far are those of one store, where the open command is refused and its client told: the mark that saw it last is put back in.
 use Rattle.std.proofs.Common.{◌≡◌, ◌≢◌, ℕ, ◌+◌, ◌≤◌, ◌<◌, Bool, true, false, nat_le, List, [], ◌∷◌, ◌++◌, length, get_or, if◌then◌else◌, Option, None, Some, inr, refl, sym, ◌∙◌, ap, subst, arith}
-use Rattle.std.specs.Prelude.{⊤, All, AllPairs}
+use Rattle.std.specs.Prelude.{All, AllPairs}
 use Rattle.std.proofs.Math.Logic.{⊎_elim}
 use Rattle.std.proofs.lemmas.Bool.{cases_eq}
 use Rattle.std.proofs.lemmas.Bool.Decides.{nat_tests}
 use Rattle.std.proofs.lemmas.List.Elements.{All-push, All-weaker}
 use Rattle.link_msg.specs.declared.counts.Counts.TheVariants.{IfAnswered}
-use Rattle.link_msg.specs.declared.how.How.TheVariants.{Here, Behind, Reserved}
+use Rattle.link_msg.specs.declared.how.How.TheVariants.{Here, Behind, Reserved, Unreached}
 use Rattle.imap_types.specs.declared.command.Command.{Command}
 use Rattle.imap_types.specs.declared.command.Tag.{Tag}
+use Rattle.imap_types.specs.declared.reply.NoText.{NoText}
 use Rattle.imap_types.specs.declared.reply.NoText.TheVariants.{BeingMoved}
 use Rattle.imap_types.specs.declared.request.Answer.{Answer}
 use Rattle.mur_base.specs.declared.point.AskId.{AskId}
 use Rattle.mur_base.specs.declared.point.What.TheVariants.{Reserved as reserved}
 use Rattle.mur_model.specs.declared.setting.Setting.{Setting}
-use Rattle.mur_model.specs.History.{Talk, IsRefused, course_after, numbered, with_session}
+use Rattle.mur_model.specs.History.{Talk, IsRefused, course_after, numbered}
 use Rattle.mur_model.proofs.Numbered.{with_item, with_item-lengths, with_item-longer, with_item-other, length_with_item, numbered_new}
 use Rattle.mark_history.specs.declared.mark.Mark.{Mark}
 use Rattle.mark_history.specs.declared.mark.MarkKind.{MarkKind}
@@ -22,7 +23,7 @@ use Rattle.mark_history.specs.declared.mark.MarkKind.TheVariants.{Home, Told}
 use Rattle.mark_history.specs.FirstCourse.{first_course}
 use Rattle.mark_history.specs.History.{is_of, next_of}
 use Rattle.mark_history.specs.Marked.{CanRefuse, IsUnreplied, Tale, last_mark, mark_now, open_ask, refusal}
-use Rattle.mark_history.proofs.ByLast.{IsToldByLast, said_of, still_saw}
+use Rattle.mark_history.proofs.ByLast.{IsToldByLast, said_of, still_saw, tale_said}
 use Rattle.mark_history.proofs.CarriesFrom.{CarriesBeside, carries_of, from_on}
 use Rattle.mark_history.proofs.Deeds.{refused_with}
 use Rattle.mark_history.proofs.LastMarks.{none_last}
@@ -30,7 +31,7 @@ use Rattle.mark_history.proofs.LeftOut.{LeavesOut, leaves_push}
 use Rattle.mark_history.proofs.Marks.{Later, counts_of, marked_once_telling, marks_push, with_session_elsewhere}
 use Rattle.mark_history.proofs.PutIn.{PutIn, StillUnreplied, each_left, each_with, fit_with, once_with, pairs_left, put_in}
 use Rattle.mark_history.proofs.Refused.{from_refused}
-use Rattle.mark_history.proofs.Tally.{StillFits, acts, command_of, conn_of, fit_push, fits, fits_apart, may_refuse, next_or, of_ask, of_both, of_other}
+use Rattle.mark_history.proofs.Tally.{StillFits, acts, command_of, conn_of, fit_push, fits, fits_apart, may_refuse, next_or, of_ask, of_both, of_other, told_fits}
 use Rattle.mark_history.proofs.Told.{IsToldIn, having_said, said_more}
 use Rattle.mark_history.proofs.Without.{IsBefore, acts_home}
 
@@ -81,6 +82,7 @@ refused_now None h = refl
 refused_now (Some (Told Behind)) h = cc
 refused_now (Some (Told Reserved)) h = cc
 refused_now (Some (Told Here)) h = cc
+refused_now (Some (Told (Unreached node))) h = cc
 refused_now (Some (Home other)) h = cc
 
 fits_refused : (told now : ℕ → ℕ) (tell first : Mark) → tell.kind ≡ Told Reserved → first.kind ≡ Home IfAnswered → is_of first.ask tell ≡ true
@@ -96,10 +98,6 @@ seen_fits : (kind : MarkKind) (told : Bool) → kind ≡ Home IfAnswered → tol
 unfolding fits
 seen_fits kind told k t = ap (λ x. fits x None told) k ∙ ap (fits (Home IfAnswered) None) t
 
-told_fits : (told : Bool) → told ≡ true → fits (Told Reserved) None told ≡ true
-unfolding fits
-told_fits told t = t
-
 reserved_acts : acts (Told Reserved) ≡ false
 unfolding acts
 reserved_acts = refl
@@ -114,16 +112,9 @@ none_some e = cc
 
 -- ---- the refusal
 
-abbrev pub refused_tale : Tale → ℕ → Tag → Command → ℕ → Tale
-refused_tale tale conn tag it serial = record {
-  talk = having_said tale.talk conn (refusal tale conn tag it).answer serial;
-  told = with_item tale.told conn (refusal tale conn tag it).answer;
-  course = course_after tale.course conn (refusal tale conn tag it);
-  before = with_session tale.before conn (tale.course.sessions conn);
-}
-
-abbrev now_said : Tale → ℕ → Tag → Command → ℕ → ℕ → ℕ
-now_said tale conn tag it serial c = length ((refused_tale tale conn tag it serial).talk.answers c)
+abbrev pub refused_tale : Tale → ℕ → Tag → Command → NoText → ℕ → Tale
+refused_tale tale conn tag it why serial =
+    tale_said tale (with_item tale.told conn (refusal tale conn tag it why).answer) conn (refusal tale conn tag it why) serial
 
 module _ (setting : Setting) (now : ℕ) (marks : List Mark) (tale : Tale) (tag : Tag) (it : Command) (serial : ℕ)
     (is : IsToldByLast setting now marks tale) (order : IsInOrder now marks tale.told) (ask : AskId)
@@ -134,7 +125,7 @@ module _ (setting : Setting) (now : ℕ) (marks : List Mark) (tale : Tale) (tag 
   conn = ask.conn
 
   abbrev answer : Answer
-  answer = (refusal tale conn tag it).answer
+  answer = (refusal tale conn tag it BeingMoved).answer
 
   abbrev longer : Talk
   longer = having_said tale.talk conn answer serial
@@ -174,7 +165,7 @@ module _ (setting : Setting) (now : ℕ) (marks : List Mark) (tale : Tale) (tag 
       ∙ numbered_new tale.talk.answers conn answer (length (tale.talk.answers conn)) refl
 
   in_longer : IsRefused setting longer tale.course step conn ask.command tag it reserved BeingMoved
-  in_longer = refused_with setting tale.talk longer tale.course step conn ask.command tag it refused.asked refl refused
+  in_longer = refused_with setting tale.talk longer tale.course step conn ask.command tag it reserved BeingMoved refused.asked refl refused
 
   now_told : (c : ℕ) → c ≢ conn → with_item tale.told conn answer c ≡ tale.told c
   now_told c ne = with_item-other tale.told conn answer c ne
@@ -203,13 +194,13 @@ module _ (setting : Setting) (now : ℕ) (marks : List Mark) (tale : Tale) (tag 
     apart_of = λ k d h. of_other its.mark (get_or is.acting k d) _ refl (λ c n. absurd (omega (arith, before_it k d h (sym c), n)))
 
     others : CarriesBeside setting longer first_course first_course.sessions (its.more ++ tell ∷ [])
-        (course_after tale.course conn (refusal tale conn tag it)) conn is.earlier
+        (course_after tale.course conn (refusal tale conn tag it BeingMoved)) conn is.earlier
     others = subst (λ c. CarriesBeside setting longer first_course first_course.sessions (its.more ++ tell ∷ [])
-        (course_after tale.course c (refusal tale c tag it)) c is.earlier) conn_same
+        (course_after tale.course c (refusal tale c tag it BeingMoved)) c is.earlier) conn_same
         (from_refused setting longer its.mark tell tale.course is.earlier tag it its.kind refl reserved_acts (sym its.its_ask)
         (subst (λ n. IsRefused setting longer tale.course n (conn_of its.mark) (command_of its.mark) tag it reserved BeingMoved) (sym step_same)
         (subst (λ (a : AskId). IsRefused setting longer tale.course step a.conn a.command tag it reserved BeingMoved) (sym its.its_ask) in_longer))
-        (subst (λ (a : AskId). numbered (longer.answers a.conn) a.command ≡ Some (refusal tale a.conn tag it).answer) (sym its.its_ask) its_answer)
+        (subst (λ (a : AskId). numbered (longer.answers a.conn) a.command ≡ Some (refusal tale a.conn tag it BeingMoved).answer) (sym its.its_ask) its_answer)
         first_course first_course.sessions its.more is.acting its.out
         (from_on setting tale.talk longer (said_more tale.talk conn answer serial) first_course tale.course first_course.sessions is.earlier is.acting is.from)
         (pairs_left Later (λ c. length (longer.answers c)) marks its.more its.leaves order.later) before_it)
@@ -256,8 +247,8 @@ module _ (setting : Setting) (now : ℕ) (marks : List Mark) (tale : Tale) (tag 
         (with_item tale.told conn answer)) (sym number)
         (order_push now marks tale conn (Told Reserved) (with_item tale.told conn answer) (λ c. with_item-longer tale.told conn answer c) order)
 
-    told_in : IsToldIn ⊤ setting now (its.more ++ tell ∷ []) longer (with_item tale.told conn answer)
-        (course_after tale.course conn (refusal tale conn tag it))
+    told_in : IsToldIn setting now (its.more ++ tell ∷ []) longer (with_item tale.told conn answer)
+        (course_after tale.course conn (refusal tale conn tag it BeingMoved))
     told_in = record {
       carries = carries_of setting longer first_course _ first_course.sessions others.ends (its.more ++ tell ∷ []) others.from;
       once = marked_once_telling (λ c. length (longer.answers c)) its.more tell reserved_acts
@@ -291,11 +282,10 @@ module _ (setting : Setting) (now : ℕ) (marks : List Mark) (tale : Tale) (tag 
           (fits_refused (counts_of tale.told) (counts_of (with_item tale.told conn answer)) tell its.mark refl its.kind
           (of_both its.mark tell (sym conn_same) (sym command_same)) untold told_now)
           (λ k d h. fits_other (get_or is.acting k d) (is.is_told.numbers k d h)))
-          (told_fits _ own_told);
-      refused = λ k d h. λ _. tt;
+          (told_fits Reserved None _ own_told);
     }
 
-    told_with : IsToldByLast setting now (marks ++ tell ∷ []) (refused_tale tale conn tag it serial)
+    told_with : IsToldByLast setting now (marks ++ tell ∷ []) (refused_tale tale conn tag it BeingMoved serial)
     told_with = record {
       acting = its.more ++ tell ∷ [];
       leaves = leaves;
@@ -316,7 +306,7 @@ module _ (setting : Setting) (now : ℕ) (marks : List Mark) (tale : Tale) (tag 
           (cases_eq c conn);
     }
 
-  pub refused_at : IsToldByLast setting now (marks ++ tell ∷ []) (refused_tale tale conn tag it serial)
+  pub refused_at : IsToldByLast setting now (marks ++ tell ∷ []) (refused_tale tale conn tag it BeingMoved serial)
   refused_at = told_with (put_in (said_of tale) (λ c. length (longer.answers c)) ask still marks is.acting apart is.leaves (λ none. some_last none))
     where
       some_last : next_of ask marks ≡ None → ⊥
@@ -324,6 +314,6 @@ module _ (setting : Setting) (now : ℕ) (marks : List Mark) (tale : Tale) (tag 
 
 pub refused_by_last : (setting : Setting) (now : ℕ) (marks : List Mark) (tale : Tale) (conn : ℕ) (tag : Tag) (it : Command) (serial : ℕ)
     → CanRefuse setting marks tale conn tag it → IsInOrder now marks tale.told → IsToldByLast setting now marks tale
-    → IsToldByLast setting now (marks ++ mark_now now tale conn (Told Reserved) ∷ []) (refused_tale tale conn tag it serial)
+    → IsToldByLast setting now (marks ++ mark_now now tale conn (Told Reserved) ∷ []) (refused_tale tale conn tag it BeingMoved serial)
 refused_by_last setting now marks tale conn tag it serial can order is =
     refused_at setting now marks tale tag it serial is order (open_ask tale conn) can.unreplied refl can.step can.saw can.refused

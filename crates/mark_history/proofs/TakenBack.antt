@@ -1,13 +1,13 @@
 -- A reply of which its client wasn't told is taken back, where its step counts only if the client is told.
 use Rattle.std.proofs.Common.{◌≡◌, ◌≢◌, ℕ, zero, suc, ◌+◌, ◌≤◌, ◌<◌, ◌&&◌, Bool, true, false, cond, nat_eq, nat_le, List, [], ◌∷◌, ◌++◌, length, take, drop, get_or, if◌then◌else◌, Option, None, Some, refl, sym, ◌∙◌, ap, subst, arith, length-append}
-use Rattle.std.specs.Prelude.{All, count_by, slice_get, ⊤}
+use Rattle.std.specs.Prelude.{All, count_by, slice_get}
 use Rattle.std.proofs.Math.Logic.{⊎_elim}
 use Rattle.std.proofs.lemmas.Bool.{cases_eq}
 use Rattle.std.proofs.lemmas.Bool.Decides.{nat_tests}
 use Rattle.std.proofs.lemmas.List.{length-take-le, take-append-drop}
 use Rattle.std.proofs.lemmas.List.Elements.{All-cons, All-nil}
 use Rattle.link_msg.specs.declared.counts.Counts.TheVariants.{Always, IfAnswered}
-use Rattle.link_msg.specs.declared.how.How.TheVariants.{Here, Behind, Reserved}
+use Rattle.link_msg.specs.declared.how.How.TheVariants.{Here, Behind, Reserved, Unreached}
 use Rattle.imap_types.specs.declared.request.Answer.{Answer}
 use Rattle.mur_base.specs.declared.point.AskId.{AskId}
 use Rattle.mur_model.specs.declared.session.Sess.{Sess}
@@ -22,7 +22,7 @@ use Rattle.mark_history.specs.History.{is_of, next_of}
 use Rattle.mark_history.specs.Marked.{IsUntold, Tale, last_from, last_of, open_ask, said_by, taking_back, with_list}
 use Rattle.mark_history.proofs.ByLast.{IsToldByLast, said_of}
 use Rattle.mark_history.proofs.CarriesFrom.{CarriesFrom, CarriesBeside, HasActs, beside, carries_of, from_with, from_without}
-use Rattle.mark_history.proofs.EachPoint.{count_cons}
+use Rattle.mark_history.proofs.Numbers.{count_cons}
 use Rattle.mark_history.proofs.LeftOut.{LeavesOut}
 use Rattle.mark_history.proofs.LeftOut.LeavesOut.{no_marks, stays, left_out}
 use Rattle.mark_history.proofs.Legal.{answered_once, at_most_one}
@@ -55,11 +55,13 @@ unfolding fits may_refuse
 none_untold (Told Here) next fit = cc
 none_untold (Told Behind) next fit = cc
 none_untold (Told Reserved) next fit = cc
+none_untold (Told (Unreached node)) next fit = cc
 none_untold (Home counts) None fit = refl
 none_untold (Home counts) (Some (Told Behind)) fit = cc
 none_untold (Home Always) (Some (Told Reserved)) fit = cc
 none_untold (Home IfAnswered) (Some (Told Reserved)) fit = cc
 none_untold (Home counts) (Some (Told Here)) fit = cc
+none_untold (Home counts) (Some (Told (Unreached node))) fit = cc
 none_untold (Home counts) (Some (Home other)) fit = cc
 
 last_by : (ask : AskId) (earlier : Option MarkKind) (mark : Mark) (marks : List Mark) (b : Bool)
@@ -157,7 +159,7 @@ untold_high : (number count : ℕ) → number ≡ count + 1 → nat_le number co
 untold_high number count e = grind (arith, nat_tests)
 
 module _ (setting : Setting) (now : ℕ) (tale : Tale) (acting less : List Mark) (mark : Mark) (answer : Answer)
-    (told : IsToldIn ⊤ setting now acting tale.talk tale.told tale.course) (out : Without mark acting less) (kind : mark.kind ≡ Home IfAnswered)
+    (told : IsToldIn setting now acting tale.talk tale.told tale.course) (out : Without mark acting less) (kind : mark.kind ≡ Home IfAnswered)
     (its : command_of mark ≡ length (tale.told (conn_of mark)) + 1) (untold : IsUntold tale (conn_of mark) answer) where
   abbrev conn : ℕ
   conn = conn_of mark
@@ -226,7 +228,7 @@ module _ (setting : Setting) (now : ℕ) (tale : Tale) (acting less : List Mark)
         (λ k d h. has_acts (get_or less k d) (λ c. omega (arith, before_it k d h c, its)))
         (subst (λ s. CarriesFrom setting tale.talk first_course first_course.sessions less (beside tale.course conn s) others.ends) (sym was) others.from)
 
-    told_back : IsToldIn ⊤ setting now less back.talk back.told back.course
+    told_back : IsToldIn setting now less back.talk back.told back.course
     told_back = record {
       carries = carries_of setting back.talk first_course back.course first_course.sessions others.ends less carries_back;
       once = once_without (λ c. length (tale.talk.answers c)) (λ c. length (back.talk.answers c)) mark acting less out (acts_home mark kind)
@@ -249,7 +251,6 @@ module _ (setting : Setting) (now : ℕ) (tale : Tale) (acting less : List Mark)
           (cases_eq c conn);
       fit = fit_without (counts_of tale.told) mark acting less out
           (λ k d h. of_other (get_or less k d) mark _ refl (λ c n. apart k d h c n)) told.fit;
-      refused = λ k d h. λ _. tt;
     }
 
     pub taken_back_to : (marks : List Mark) → LeavesOut (said_of tale) marks acting

@@ -3,12 +3,13 @@ use Rattle.std.proofs.Common.{◌≡◌, ℕ, suc, ◌<◌, ◌&&◌, Bool, true
 use Rattle.std.proofs.Common.{arith}
 use Rattle.std.specs.Prelude.{All, ⊤}
 use Rattle.std.proofs.lemmas.Bool.Decides.{nat_tests}
-use Rattle.std.proofs.lemmas.List.Elements.{All-cons, All-head, All-nil, All-tail}
+use Rattle.std.proofs.lemmas.List.Elements.{All-cons, All-nil}
 use Rattle.link_msg.specs.declared.counts.Counts.{Counts}
 use Rattle.link_msg.specs.declared.counts.Counts.TheVariants.{Always, IfAnswered}
-use Rattle.link_msg.specs.declared.how.How.TheVariants.{Here, Behind, Reserved}
+use Rattle.link_msg.specs.declared.how.How.{How}
+use Rattle.link_msg.specs.declared.how.How.TheVariants.{Here, Behind, Reserved, Unreached}
 use Rattle.mur_base.specs.declared.point.AskId.{AskId}
-use Rattle.mur_base.specs.declared.point.What.TheVariants.{Reply as replied, Lost as lost, Reserved as reserved}
+use Rattle.mur_base.specs.declared.point.What.TheVariants.{Reply as replied, Lost as lost, Reserved as reserved, Unreached as unreached}
 use Rattle.mark_history.specs.declared.mark.Mark.{Mark}
 use Rattle.mark_history.specs.declared.mark.MarkKind.{MarkKind}
 use Rattle.mark_history.specs.declared.mark.MarkKind.TheVariants.{Home, Told}
@@ -24,8 +25,17 @@ command_of mark = (mark.ask).command
 unfoldable pub acts : MarkKind → Bool
 acts (Home counts) = true
 acts (Told Here) = true
+acts (Told (Unreached node)) = true
 acts (Told Behind) = false
 acts (Told Reserved) = false
+
+-- whether a client is told that a node isn't reached
+unfoldable pub tells_unreached : MarkKind → Bool
+tells_unreached (Home counts) = false
+tells_unreached (Told Here) = false
+tells_unreached (Told (Unreached node)) = true
+tells_unreached (Told Behind) = false
+tells_unreached (Told Reserved) = false
 
 -- whether the client of a command may be told that it was refused, by whether the step that answered always counts, and whether the client is told at all
 unfoldable pub may_refuse : Counts → Bool → Bool
@@ -39,12 +49,14 @@ tells_refusal (Some (Home counts)) = false
 tells_refusal (Some (Told Here)) = false
 tells_refusal (Some (Told Behind)) = false
 tells_refusal (Some (Told Reserved)) = true
+tells_refusal (Some (Told (Unreached node))) = false
 
 -- whether a mark may have this next mark of its command, by whether its client was told of the command
 unfoldable pub fits : MarkKind → Option MarkKind → Bool → Bool
 fits (Told Here) next told = told
 fits (Told Behind) next told = told
 fits (Told Reserved) next told = told
+fits (Told (Unreached node)) next told = told
 fits (Home counts) None told = not told
 fits (Home counts) (Some (Told Behind)) told = told
 fits (Home counts) (Some (Told Reserved)) told = may_refuse counts told
@@ -57,25 +69,29 @@ Fit told (mark ∷ marks) = (fits mark.kind (next_of mark.ask marks) (nat_le (co
 
 -- what a mark that fits counts as
 pub data Verdict (told : Bool) (kind : MarkKind) (next : Option MarkKind) : Type 0 where
-  replies : told ≡ true → acts kind ≡ true → (kind ≡ Home IfAnswered → tells_refusal next ≡ false) → counts_as kind next ≡ Some replied
-      → Verdict told kind next
+  replies : told ≡ true → acts kind ≡ true → tells_unreached kind ≡ false → (kind ≡ Home IfAnswered → tells_refusal next ≡ false)
+      → counts_as kind next ≡ Some replied → Verdict told kind next
   refuses : told ≡ true → kind ≡ Home IfAnswered → next ≡ Some (Told Reserved) → counts_as kind next ≡ Some reserved → Verdict told kind next
+  is_unreached : (node : List ℕ) → told ≡ true → kind ≡ Told (Unreached node) → counts_as kind next ≡ Some (unreached node) → Verdict told kind next
   is_lost : told ≡ false → kind ≡ Home Always → next ≡ None → counts_as kind next ≡ Some lost → Verdict told kind next
   is_open : told ≡ false → kind ≡ Home IfAnswered → next ≡ None → counts_as kind next ≡ None → Verdict told kind next
   tells : acts kind ≡ false → counts_as kind next ≡ None → Verdict told kind next
 
 pub verdict : (kind : MarkKind) (next : Option MarkKind) (told : Bool) → fits kind next told ≡ true → Verdict told kind next
-unfolding fits counts_as untold_as refused_as acts may_refuse tells_refusal
-verdict (Told Here) next true h = replies refl refl (λ k. cc) refl
+unfolding fits counts_as untold_as refused_as acts may_refuse tells_refusal tells_unreached
+verdict (Told Here) next true h = replies refl refl refl (λ k. cc) refl
 verdict (Told Here) next false h = cc
 verdict (Told Behind) next told h = tells refl refl
 verdict (Told Reserved) next told h = tells refl refl
-verdict (Home counts) (Some (Told Behind)) true h = replies refl refl (λ k. refl) refl
+verdict (Told (Unreached node)) next true h = is_unreached node refl refl refl
+verdict (Told (Unreached node)) next false h = cc
+verdict (Home counts) (Some (Told Behind)) true h = replies refl refl refl (λ k. refl) refl
 verdict (Home counts) (Some (Told Behind)) false h = cc
 verdict (Home IfAnswered) (Some (Told Reserved)) true h = refuses refl refl refl refl
 verdict (Home IfAnswered) (Some (Told Reserved)) false h = cc
 verdict (Home Always) (Some (Told Reserved)) told h = cc
 verdict (Home counts) (Some (Told Here)) told h = cc
+verdict (Home counts) (Some (Told (Unreached node))) told h = cc
 verdict (Home counts) (Some (Home other)) told h = cc
 verdict (Home counts) None true h = cc
 verdict (Home Always) None false h = is_lost refl refl refl refl
@@ -196,34 +212,45 @@ unfolding acts tells_refusal
 acting_unrefused (Home counts) acting = refl
 acting_unrefused (Told Here) acting = refl
 acting_unrefused (Told Behind) acting = refl
+acting_unrefused (Told (Unreached node)) acting = refl
 acting_unrefused (Told Reserved) acting = cc
 
--- of these marks each that tells of a refusal may be
-abbrev pub RefusesIf : Type 0 → Mark → Type 0
-RefusesIf may mark = mark.kind ≡ Told Reserved → may
+-- what the client of a command is told of it fits, where it was told of it
+pub told_fits : (how : How) (next : Option MarkKind) (told : Bool) → told ≡ true → fits (Told how) next told ≡ true
+unfolding fits
+told_fits Here next told e = e
+told_fits Behind next told e = e
+told_fits Reserved next told e = e
+told_fits (Unreached node) next told e = e
 
-next_refuses_by : {may : Type 0} (ask : AskId) (mark : Mark) (marks : List Mark) → (next_of ask marks ≡ Some (Told Reserved) → may) → RefusesIf may mark
-    → (b : Bool) → (if b then Some mark.kind else next_of ask marks) ≡ Some (Told Reserved) → may
-next_refuses_by ask mark marks rest own true e = own (let its : mark.kind ≡ Told Reserved = cc in its)
-next_refuses_by ask mark marks rest own false e = rest e
+pub unreached_acts : (kind : MarkKind) (node : List ℕ) → kind ≡ Told (Unreached node) → acts kind ≡ true
+unfolding acts
+unreached_acts kind node e = ap acts e
 
-pub next_refuses : {may : Type 0} (ask : AskId) (marks : List Mark) → All (RefusesIf may) marks → next_of ask marks ≡ Some (Told Reserved) → may
-unfolding next_of
-next_refuses ask [] all e = cc
-next_refuses {may} ask (mark ∷ marks) all e =
-    next_refuses_by ask mark marks (next_refuses ask marks (All-tail (RefusesIf may) mark marks all)) (All-head (RefusesIf may) mark marks all)
-    (is_of ask mark) e
+pub reached_home : (counts : Counts) → tells_unreached (Home counts) ≡ false
+unfolding tells_unreached
+reached_home counts = refl
+
+pub reached_here : tells_unreached (Told Here) ≡ false
+unfolding tells_unreached
+reached_here = refl
+
+pub unreached_tells : (kind : MarkKind) (node : List ℕ) → kind ≡ Told (Unreached node) → tells_unreached kind ≡ true
+unfolding tells_unreached
+unreached_tells kind node e = ap tells_unreached e
 
 told_now : (kind : MarkKind) (next : Option MarkKind) → fits kind next false ≡ true → fits kind (next_or next (Some (Told Behind))) true ≡ true
 unfolding fits next_or may_refuse
 told_now (Told Here) next h = cc
 told_now (Told Behind) next h = refl
 told_now (Told Reserved) next h = refl
+told_now (Told (Unreached node)) next h = cc
 told_now (Home counts) None h = refl
 told_now (Home counts) (Some (Told Behind)) h = cc
 told_now (Home Always) (Some (Told Reserved)) h = cc
 told_now (Home IfAnswered) (Some (Told Reserved)) h = cc
 told_now (Home counts) (Some (Told Here)) h = cc
+told_now (Home counts) (Some (Told (Unreached node))) h = cc
 told_now (Home counts) (Some (Home other)) h = cc
 
 -- and a mark of the command that its client is told of now

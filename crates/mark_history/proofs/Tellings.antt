@@ -6,6 +6,7 @@ use Rattle.std.proofs.Math.Logic.{⊎_elim}
 use Rattle.std.proofs.lemmas.Bool.{cases_eq}
 use Rattle.std.proofs.lemmas.List.Elements.{All-push, All-weaker, Contains-append_left, Contains-push}
 use Rattle.std.proofs.lemmas.Option.{slice_get_within}
+use Rattle.imap_types.specs.declared.reply.NoText.TheVariants.{BeingMoved, NotReached}
 use Rattle.imap_types.specs.declared.request.Answer.{Answer}
 use Rattle.imap_types.specs.declared.request.Request.{Request}
 use Rattle.mur_model.specs.declared.setting.Setting.{Setting}
@@ -14,7 +15,7 @@ use Rattle.mark_history.specs.declared.mark.Mark.{Mark}
 use Rattle.mark_history.specs.declared.mark.MarkKind.{MarkKind}
 use Rattle.mark_history.specs.declared.mark.MarkKind.TheVariants.{Home, Told}
 use Rattle.mark_history.specs.Marked.{AreMarked, Tale, acting, asking, done, first_tale, mark_now, refusal, refusing, telling, with_list}
-use Rattle.mark_history.specs.Marked.AreMarked.{nothing, a_step, asks, sees, carries_out, tells, tells_at_once, refuses, takes_back}
+use Rattle.mark_history.specs.Marked.AreMarked.{nothing, a_step, asks, sees, carries_out, tells, tells_at_once, refuses, refuses_at_once, takes_back}
 use Rattle.mark_history.proofs.Marks.{marks_push}
 use Rattle.mark_history.proofs.Tally.{command_of, conn_of}
 use Rattle.mark_history.proofs.TakenBack.{list_at, list_elsewhere}
@@ -244,12 +245,21 @@ has_tellings setting now marks tale (tells_at_once at those its conn request ser
     (said_now its conn answer open_asked before.replied)
 has_tellings setting now marks tale (refuses at those its conn tag it serial can made) =
     let before = has_tellings setting at those its made in
-    let answer : Answer = (refusal its conn tag it).answer in
+    let answer : Answer = (refusal its conn tag it BeingMoved).answer in
     let open_asked : length (its.told conn) < length (its.talk.requests conn) =
     omega (arith, numbered_within (its.talk.requests conn) (length (its.told conn) + 1) _ can.refused.asked) in
-    put_behind at those its (telling (refusing its conn tag it serial) conn answer) conn (Told _) before
-    (subst (λ b. TellsBy b its (telling (refusing its conn tag it serial) conn answer) conn) (sym (a_client _))
-    (tells_one its (telling (refusing its conn tag it serial) conn answer) conn answer refl refl)) open_asked
+    put_behind at those its (telling (refusing its conn tag it BeingMoved serial) conn answer) conn (Told _) before
+    (subst (λ b. TellsBy b its (telling (refusing its conn tag it BeingMoved serial) conn answer) conn) (sym (a_client _))
+    (tells_one its (telling (refusing its conn tag it BeingMoved serial) conn answer) conn answer refl refl)) open_asked
+    (said_now its conn answer open_asked before.replied)
+has_tellings setting now marks tale (refuses_at_once at those its conn tag it node serial can made) =
+    let before = has_tellings setting at those its made in
+    let answer : Answer = (refusal its conn tag it NotReached).answer in
+    let open_asked : length (its.told conn) < length (its.talk.requests conn) =
+    omega (arith, numbered_within (its.talk.requests conn) (length (its.told conn) + 1) _ can.refused.asked) in
+    put_behind at those its (telling (refusing its conn tag it NotReached serial) conn answer) conn (Told _) before
+    (subst (λ b. TellsBy b its (telling (refusing its conn tag it NotReached serial) conn answer) conn) (sym (a_client _))
+    (tells_one its (telling (refusing its conn tag it NotReached serial) conn answer) conn answer refl refl)) open_asked
     (said_now its conn answer open_asked before.replied)
 has_tellings setting now marks tale (takes_back at those its conn answer untold last made) =
     let before = has_tellings setting at those its made in

@@ -7,12 +7,17 @@ use Rattle.std.proofs.lemmas.Bool.Decides.{nat_tests}
 use Rattle.std.proofs.lemmas.List.Elements.{All-push, All-weaker}
 use Rattle.link_msg.specs.declared.counts.Counts.{Counts}
 use Rattle.link_msg.specs.declared.counts.Counts.TheVariants.{IfAnswered}
-use Rattle.link_msg.specs.declared.how.How.TheVariants.{Here, Behind, Reserved}
+use Rattle.link_msg.specs.declared.how.How.{How}
+use Rattle.link_msg.specs.declared.how.How.TheVariants.{Behind, Unreached}
+use Rattle.imap_types.specs.declared.command.Command.{Command}
+use Rattle.imap_types.specs.declared.command.Tag.{Tag}
+use Rattle.imap_types.specs.declared.reply.NoText.TheVariants.{NotReached}
 use Rattle.imap_types.specs.declared.request.Answer.{Answer}
 use Rattle.imap_types.specs.declared.request.Request.{Request}
+use Rattle.mur_base.specs.declared.point.What.TheVariants.{Unreached as unreached}
 use Rattle.mur_model.specs.declared.setting.Setting.{Setting}
-use Rattle.mur_model.specs.Answer.{MayTake}
-use Rattle.mur_model.specs.History.{Course, Talk, GoesOn, TalkGoesOn, numbered, carried_out, course_after}
+use Rattle.mur_model.specs.Answer.{Answered, MayTake}
+use Rattle.mur_model.specs.History.{Course, Talk, GoesOn, TalkGoesOn, IsRefused, numbered, carried_out, course_after, refused_out}
 use Rattle.mur_model.proofs.HistoryGrows.{same_lists, item_more}
 use Rattle.mur_model.proofs.Numbered.{with_item, with_item-other, length_with_item, numbered_new, with_item-lengths, with_item-longer}
 use Rattle.mark_history.specs.declared.mark.Mark.{Mark}
@@ -21,13 +26,14 @@ use Rattle.mark_history.specs.declared.mark.MarkKind.TheVariants.{Home, Told}
 use Rattle.mark_history.specs.FirstCourse.{first_course}
 use Rattle.mark_history.specs.History.{is_of}
 use Rattle.mark_history.specs.Marked.{talk_asking}
-use Rattle.mark_history.proofs.Deeds.{IsStep}
-use Rattle.mark_history.proofs.Deeds.IsDeed.{carries_it_out}
+use Rattle.mark_history.proofs.Deeds.{IsStep, refused_with}
+use Rattle.mark_history.proofs.Deeds.IsDeed.{carries_it_out, is_unreached}
 use Rattle.mark_history.proofs.Marks.{Carries, carries_on, carries_push, carries_telling, MarkedOnce, marked_once_push, marked_once_telling, marks_push}
 use Rattle.mark_history.proofs.Marks.{Later, counts_of}
-use Rattle.mark_history.proofs.Tally.{acts, conn_of, command_of, Fit, RefusesIf, fits, fit_push, fits_apart, fits_told, StillFits, of_another, of_both, tells_refusal}
+use Rattle.mark_history.proofs.Tally.{acts, conn_of, command_of, Fit, fits, fit_push, fits_apart, fits_told, StillFits, of_another, of_both, tells_refusal}
+use Rattle.mark_history.proofs.Tally.{tells_unreached, told_fits, unreached_acts}
 
-pub record IsToldIn (may : Type 0) (setting : Setting) (now : ℕ) (marks : List Mark) (talk : Talk) (told : ℕ → List Answer) (course : Course) : Type 0 where
+pub record IsToldIn (setting : Setting) (now : ℕ) (marks : List Mark) (talk : Talk) (told : ℕ → List Answer) (course : Course) : Type 0 where
   pub carries : Carries setting talk first_course marks course
   pub once : MarkedOnce (λ conn. length (talk.answers conn)) marks
   pub later : AllPairs Later marks
@@ -37,12 +43,6 @@ pub record IsToldIn (may : Type 0) (setting : Setting) (now : ℕ) (marks : List
   -- no more was told than was replied
   pub ahead : (conn : ℕ) → length (told conn) ≤ length (talk.answers conn)
   pub fit : Fit (counts_of told) marks
-  -- clients may be told of refusals
-  pub refused : All (RefusesIf may) marks
-
--- no client is told of a refusal
-abbrev pub IsTold : Setting → ℕ → List Mark → Talk → (ℕ → List Answer) → Course → Type 0
-IsTold = IsToldIn ⊥
 
 -- one answer more at a connection
 abbrev pub having_said : Talk → ℕ → Answer → ℕ → Talk
@@ -65,9 +65,6 @@ said_more talk conn answer serial = record {
 abbrev pub next_mark : ℕ → Talk → ℕ → MarkKind → Mark
 next_mark now talk conn kind = record { step = now; ask = record { conn = conn; command = length (talk.answers conn) + 1 }; kind = kind }
 
-abbrev pub next_course : Setting → Course → ℕ → Request → ℕ → Course
-next_course setting course conn request serial = course_after course conn (carried_out setting course conn request serial)
-
 -- the clients are told more, or nothing: of each command up to those that were replied to it is the same whether its client was told
 pub record TellsOn (setting : Setting) (talk : Talk) (conn : ℕ) (kind : MarkKind) (told now : ℕ → List Answer) : Type 0 where
   pub others : (other : ℕ) → other ≢ conn → now other ≡ told other
@@ -89,17 +86,17 @@ fits_still setting talk conn kind told now on mark first its number low = ⊎_el
     (ap (λ l. nat_le (command_of first) (length l)) (on.others (conn_of first) ne)))
     (cases_eq (conn_of first) conn)
 
--- the step of the next command
+-- the step that carries the next command out
 pub step_made : (setting : Setting) (talk : Talk) (course : Course) (conn : ℕ) (request : Request) (serial now : ℕ) (kind : MarkKind) → acts kind ≡ true
-    → numbered (talk.requests conn) (length (talk.answers conn) + 1) ≡ Some request
+    → tells_unreached kind ≡ false → numbered (talk.requests conn) (length (talk.answers conn) + 1) ≡ Some request
     → MayTake setting course.store (course.sessions conn) request serial
     → (kind ≡ Home IfAnswered → (carried_out setting course conn request serial).store ≡ course.store)
     → length (talk.serials conn) ≡ length (talk.answers conn)
     → IsStep setting (having_said talk conn (carried_out setting course conn request serial).answer serial) course (next_mark now talk conn kind) false
     (carried_out setting course conn request serial)
-step_made setting talk course conn request serial now kind acting asked free unless serials = record {
+step_made setting talk course conn request serial now kind acting reached asked free unless serials = record {
   acting = acting;
-  deed = carries_it_out request serial refl
+  deed = carries_it_out request serial refl reached
       (record {
         asked = asked;
         given = numbered_new talk.serials conn serial (length (talk.answers conn)) (sym serials);
@@ -110,28 +107,35 @@ step_made setting talk course conn request serial now kind acting asked free unl
   unless = unless;
 }
 
--- what acts is no refusal
-not_refused : {may : Type 0} (kind : MarkKind) → acts kind ≡ true → kind ≡ Told Reserved → may
-unfolding acts
-not_refused kind acting is = (let both : true ≡ false = sym acting ∙ ap acts is in cc)
+-- the step that refuses the next command, as a node isn't reached
+pub step_refused : (setting : Setting) (talk : Talk) (course : Course) (conn serial now : ℕ) (tag : Tag) (it : Command) (node : List ℕ)
+    → IsRefused setting talk course now conn (length (talk.answers conn) + 1) tag it (unreached node) NotReached
+    → IsStep setting (having_said talk conn (refused_out course conn tag it NotReached).answer serial) course (next_mark now talk conn (Told (Unreached node)))
+    false (refused_out course conn tag it NotReached)
+step_refused setting talk course conn serial now tag it node refused = record {
+  acting = unreached_acts (Told (Unreached node)) node refl;
+  deed = is_unreached tag it node refl
+      (refused_with setting talk (having_said talk conn (refused_out course conn tag it NotReached).answer serial) course now conn
+      (length (talk.answers conn) + 1) tag it (unreached node) NotReached refused.asked refl refused) refl;
+  answer = numbered_new talk.answers conn (refused_out course conn tag it NotReached).answer (length (talk.answers conn)) refl;
+  unless = λ k. cc;
+}
 
-pub told_push : {may : Type 0} (setting : Setting) (now : ℕ) (marks : List Mark) (talk : Talk) (told later_told : ℕ → List Answer) (course : Course)
-    (conn : ℕ) (request : Request) (serial : ℕ) (kind : MarkKind) → acts kind ≡ true → TellsOn setting talk conn kind told later_told
-    → numbered (talk.requests conn) (length (talk.answers conn) + 1) ≡ Some request
-    → MayTake setting course.store (course.sessions conn) request serial
-    → (kind ≡ Home IfAnswered → (carried_out setting course conn request serial).store ≡ course.store)
-    → IsToldIn may setting now marks talk told course
-    → IsToldIn may setting now (marks ++ next_mark now talk conn kind ∷ [])
-    (having_said talk conn (carried_out setting course conn request serial).answer serial) later_told (next_course setting course conn request serial)
-told_push {may} setting now marks talk told later_told course conn request serial kind acting on asked free unless is =
-    let answer : Answer = (carried_out setting course conn request serial).answer in
+-- the next command gets an answer
+pub told_push : (setting : Setting) (now : ℕ) (marks : List Mark) (talk : Talk) (told later_told : ℕ → List Answer) (course : Course)
+    (conn : ℕ) (done : Answered) (serial : ℕ) (kind : MarkKind) → TellsOn setting talk conn kind told later_told
+    → IsStep setting (having_said talk conn done.answer serial) course (next_mark now talk conn kind) false done
+    → IsToldIn setting now marks talk told course
+    → IsToldIn setting now (marks ++ next_mark now talk conn kind ∷ []) (having_said talk conn done.answer serial) later_told
+    (course_after course conn done)
+told_push setting now marks talk told later_told course conn done serial kind on step is =
+    let answer : Answer = done.answer in
     let longer : Talk = having_said talk conn answer serial in
     let mark : Mark = next_mark now talk conn kind in
     record {
-      carries = carries_push setting longer first_course course marks mark (carried_out setting course conn request serial)
-          (carries_on setting talk longer (said_more talk conn answer serial) first_course course marks is.carries)
-          (step_made setting talk course conn request serial now kind acting asked free unless (is.serials conn));
-      once = marked_once_push (λ c. length (talk.answers c)) (λ c. length (longer.answers c)) marks mark acting refl
+      carries = carries_push setting longer first_course course marks mark done
+          (carries_on setting talk longer (said_more talk conn answer serial) first_course course marks is.carries) step;
+      once = marked_once_push (λ c. length (talk.answers c)) (λ c. length (longer.answers c)) marks mark step.acting refl
           (length_with_item talk.answers conn answer) (λ other ne. ap length (with_item-other talk.answers conn answer other ne)) is.once;
       later = marks_push Later marks mark is.later (λ k d h. (
         λ e. omega (arith, is.numbers k d h, ap (λ c. length (talk.answers c)) e),
@@ -160,7 +164,6 @@ told_push {may} setting now marks talk told later_told course conn request seria
           (cases_eq other conn);
       fit = fit_push (counts_of told) (counts_of later_told) marks mark is.fit
           (λ k d h. fits_still setting talk conn kind told later_told on mark (get_or marks k d) refl refl (is.numbers k d h)) on.own;
-      refused = All-push (RefusesIf may) marks mark is.refused (not_refused kind acting);
     }
 
 abbrev pub telling_mark : ℕ → (ℕ → List Answer) → ℕ → Mark
@@ -177,15 +180,14 @@ still_told setting talk conn counts told ahead = record {
   own = let high : nat_le (length (talk.answers conn) + 1) (length (told conn)) ≡ false = grind (arith, nat_tests) in rw high refl;
 }
 
--- the frontend answers the next command by itself
-pub tells_here : (setting : Setting) (talk : Talk) (conn : ℕ) (told : ℕ → List Answer) (answer : Answer) → length (talk.answers conn) ≡ length (told conn)
-    → TellsOn setting talk conn (Told Here) told (with_item told conn answer)
-unfolding fits
-tells_here setting talk conn told answer said = record {
+-- the frontend tells the client of the next command
+pub tells_now : (setting : Setting) (talk : Talk) (conn : ℕ) (how : How) (told : ℕ → List Answer) (answer : Answer)
+    → length (talk.answers conn) ≡ length (told conn) → TellsOn setting talk conn (Told how) told (with_item told conn answer)
+tells_now setting talk conn how told answer said = record {
   others = λ other ne. with_item-other told conn answer other ne;
   before = λ command low. let count = length_with_item told conn answer in grind (arith, nat_tests);
   at_most = omega (arith, said, length_with_item told conn answer);
-  own = let count = length_with_item told conn answer in grind (arith, nat_tests);
+  own = told_fits how None _ (let count = length_with_item told conn answer in grind (arith, nat_tests));
 }
 
 pub telling : acts (Told Behind) ≡ false
@@ -224,10 +226,10 @@ fits_behind now talk told conn answer said first low = ⊎_elim
     (cases_eq (conn_of first) conn)
 
 -- a client is told behind a home's answer
-pub told_behind_push : {may : Type 0} (setting : Setting) (now : ℕ) (marks : List Mark) (talk : Talk) (told : ℕ → List Answer) (course : Course) (conn : ℕ)
-    (answer : Answer) → length (talk.answers conn) ≡ length (told conn) + 1 → IsToldIn may setting now marks talk told course
-    → IsToldIn may setting now (marks ++ telling_mark now told conn ∷ []) talk (with_item told conn answer) course
-told_behind_push {may} setting now marks talk told course conn answer said is =
+pub told_behind_push : (setting : Setting) (now : ℕ) (marks : List Mark) (talk : Talk) (told : ℕ → List Answer) (course : Course) (conn : ℕ)
+    (answer : Answer) → length (talk.answers conn) ≡ length (told conn) + 1 → IsToldIn setting now marks talk told course
+    → IsToldIn setting now (marks ++ telling_mark now told conn ∷ []) talk (with_item told conn answer) course
+told_behind_push setting now marks talk told course conn answer said is =
     let mark : Mark = telling_mark now told conn in
     record {
       carries = carries_telling setting talk first_course course marks mark telling tells_plainly is.carries;
@@ -252,14 +254,13 @@ told_behind_push {may} setting now marks talk told course conn answer said is =
       fit = fit_push (counts_of told) (counts_of (with_item told conn answer)) marks mark is.fit
           (λ k d h. fits_behind now talk told conn answer said (get_or marks k d) (is.numbers k d h))
           (fits_now (length (told conn) + 1) (length (with_item told conn answer conn)) (omega (arith, length_with_item told conn answer)));
-      refused = All-push (RefusesIf may) marks mark is.refused (λ kind. cc);
     }
 
 -- more is asked
-pub told_asked : {may : Type 0} (setting : Setting) (now : ℕ) (marks : List Mark) (talk : Talk) (told : ℕ → List Answer) (course : Course)
-    (requests : ℕ → List Request) → GoesOn talk.requests requests → IsToldIn may setting now marks talk told course
-    → IsToldIn may setting now marks (talk_asking talk requests) told course
-told_asked {may} setting now marks talk told course requests more is = record {
+pub told_asked : (setting : Setting) (now : ℕ) (marks : List Mark) (talk : Talk) (told : ℕ → List Answer) (course : Course)
+    (requests : ℕ → List Request) → GoesOn talk.requests requests → IsToldIn setting now marks talk told course
+    → IsToldIn setting now marks (talk_asking talk requests) told course
+told_asked setting now marks talk told course requests more is = record {
   carries = carries_on setting talk (talk_asking talk requests)
       (record { requests = more; answers = same_lists talk.answers; serials = same_lists talk.serials; moving = refl }) first_course course marks is.carries;
   once = is.once;
@@ -269,13 +270,12 @@ told_asked {may} setting now marks talk told course requests more is = record {
   serials = is.serials;
   ahead = is.ahead;
   fit = is.fit;
-  refused = is.refused;
 }
 
 -- a step begins
-pub told_later : {may : Type 0} (setting : Setting) (now next : ℕ) (marks : List Mark) (talk : Talk) (told : ℕ → List Answer) (course : Course) → now ≤ next
-    → IsToldIn may setting now marks talk told course → IsToldIn may setting next marks talk told course
-told_later {may} setting now next marks talk told course le is = record {
+pub told_later : (setting : Setting) (now next : ℕ) (marks : List Mark) (talk : Talk) (told : ℕ → List Answer) (course : Course) → now ≤ next
+    → IsToldIn setting now marks talk told course → IsToldIn setting next marks talk told course
+told_later setting now next marks talk told course le is = record {
   carries = is.carries;
   once = is.once;
   later = is.later;
@@ -284,5 +284,4 @@ told_later {may} setting now next marks talk told course le is = record {
   serials = is.serials;
   ahead = is.ahead;
   fit = is.fit;
-  refused = is.refused;
 }

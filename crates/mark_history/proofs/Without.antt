@@ -6,13 +6,13 @@ use Rattle.std.proofs.lemmas.Bool.Decides.{nat_tests}
 use Rattle.std.proofs.lemmas.List.Elements.{All-cons, All-head, All-nil, All-tail}
 use Rattle.std.proofs.lemmas.List.Kept.{AllPairs-cons}
 use Rattle.link_msg.specs.declared.counts.Counts.TheVariants.{IfAnswered}
-use Rattle.link_msg.specs.declared.how.How.TheVariants.{Here, Behind, Reserved}
+use Rattle.link_msg.specs.declared.how.How.TheVariants.{Here, Behind, Reserved, Unreached}
 use Rattle.mur_base.specs.declared.point.AskId.{AskId}
 use Rattle.mark_history.specs.declared.mark.Mark.{Mark}
 use Rattle.mark_history.specs.declared.mark.MarkKind.{MarkKind}
 use Rattle.mark_history.specs.declared.mark.MarkKind.TheVariants.{Home, Told}
 use Rattle.mark_history.specs.History.{is_of, next_of}
-use Rattle.mark_history.proofs.EachPoint.{count_cons, none_are}
+use Rattle.mark_history.proofs.Numbers.{count_cons, none_are}
 use Rattle.mark_history.proofs.LeftOut.{LeavesOut, only_saw}
 use Rattle.mark_history.proofs.LeftOut.LeavesOut.{no_marks, stays, left_out}
 use Rattle.mark_history.proofs.Marks.{head_pairs, is_mark, tail_pairs}
@@ -71,6 +71,7 @@ acts_by (Home counts) next fit = refl
 acts_by (Told Here) next fit = refl
 acts_by (Told Behind) next fit = cc
 acts_by (Told Reserved) next fit = cc
+acts_by (Told (Unreached node)) next fit = refl
 
 -- a mark of a command that its client wasn't told of
 abbrev pub ActsUntold : (ℕ → ℕ) → Mark → Type 0

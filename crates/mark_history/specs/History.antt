@@ -2,11 +2,11 @@
 use Rattle.std.specs.Prelude.{◌==◌, Bool, ◌&&◌, if◌then◌else◌, List, [], ◌∷◌, ◌++◌, Option, None, Some}
 use Rattle.link_msg.specs.declared.counts.Counts.{Counts}
 use Rattle.link_msg.specs.declared.counts.Counts.TheVariants.{Always, IfAnswered}
-use Rattle.link_msg.specs.declared.how.How.TheVariants.{Here, Behind, Reserved}
+use Rattle.link_msg.specs.declared.how.How.TheVariants.{Here, Behind, Reserved, Unreached}
 use Rattle.mur_base.specs.declared.point.AskId.{AskId}
 use Rattle.mur_base.specs.declared.point.Point.{Point}
 use Rattle.mur_base.specs.declared.point.What.{What}
-use Rattle.mur_base.specs.declared.point.What.TheVariants.{Reply as replied, Lost as lost, Reserved as reserved}
+use Rattle.mur_base.specs.declared.point.What.TheVariants.{Reply as replied, Lost as lost, Reserved as reserved, Unreached as unreached}
 use Rattle.mark_history.specs.declared.mark.Mark.{Mark}
 use Rattle.mark_history.specs.declared.mark.MarkKind.{MarkKind}
 use Rattle.mark_history.specs.declared.mark.MarkKind.TheVariants.{Home, Told}
@@ -32,11 +32,12 @@ refused_as Always = lost
 refused_as IfAnswered = reserved
 
 -- what a mark counts as, by the next one of its command: a home's step is the point of a command whose client is told behind it, and the master's of
--- one that was refused behind its OK
+-- one that was refused behind its OK; what a frontend tells by itself is its own step's, so also that a node isn't reached
 unfoldable pub counts_as : MarkKind → Option MarkKind → Option What
 counts_as (Told Here) next = Some replied
 counts_as (Told Behind) next = None
 counts_as (Told Reserved) next = None
+counts_as (Told (Unreached node)) next = Some (unreached node)
 counts_as (Home counts) None = untold_as counts
 counts_as (Home counts) (Some (Told Behind)) = Some replied
 counts_as (Home counts) (Some (Told Reserved)) = Some (refused_as counts)

@@ -1,4 +1,5 @@
 pub mod History
+pub mod Laters
 pub mod FirstCourse
 pub mod Marked
 pub mod Reached

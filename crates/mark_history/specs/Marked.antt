@@ -1,18 +1,20 @@
 -- How marks come about. Of each connection the first command that its client wasn't told of is open: steps see it, and one may act on it. What a step did
 -- on condition that the client is told may be taken back as long as it isn't; then others see the command, or one acts on it anew. A command that was
--- only seen may be refused, as its mailbox is being moved; the step that saw it last is then its point.
+-- only seen may be refused, as its mailbox is being moved; the step that saw it last is then its point. One without a reply may be refused as a node isn't
+-- reached; that is a step of its own.
 use Rattle.std.specs.Prelude.{◌≡◌, ℕ, ◌+◌, ◌≤◌, ◌==◌, Bool, if◌then◌else◌, List, [], ◌∷◌, ◌++◌, length, take, Option, None, Some}
 use Rattle.imap_types.specs.declared.command.Command.{Command}
 use Rattle.imap_types.specs.declared.command.Tag.{Tag}
-use Rattle.imap_types.specs.declared.reply.NoText.TheVariants.{BeingMoved}
+use Rattle.imap_types.specs.declared.reply.NoText.{NoText}
+use Rattle.imap_types.specs.declared.reply.NoText.TheVariants.{BeingMoved, NotReached}
 use Rattle.imap_types.specs.declared.request.Answer.{Answer}
 use Rattle.imap_types.specs.declared.request.Request.{Request}
 use Rattle.link_msg.specs.declared.counts.Counts.{Counts}
 use Rattle.link_msg.specs.declared.counts.Counts.TheVariants.{IfAnswered}
-use Rattle.link_msg.specs.declared.how.How.TheVariants.{Here, Behind, Reserved}
+use Rattle.link_msg.specs.declared.how.How.TheVariants.{Here, Behind, Reserved, Unreached}
 use Rattle.mur_base.specs.declared.point.AskId.{AskId}
 use Rattle.mur_base.specs.declared.point.Point.{Point}
-use Rattle.mur_base.specs.declared.point.What.TheVariants.{Reserved as reserved}
+use Rattle.mur_base.specs.declared.point.What.TheVariants.{Reserved as reserved, Unreached as unreached}
 use Rattle.mur_model.specs.declared.session.Sess.{Sess}
 use Rattle.mur_model.specs.declared.setting.Setting.{Setting}
 use Rattle.mur_model.specs.declared.store.Store.{Store}
@@ -134,20 +136,25 @@ pub record CanRefuse (setting : Setting) (marks : List Mark) (tale : Tale) (conn
   pub saw : last_mark (open_ask tale conn) marks ≡ Some (record { step = step; ask = open_ask tale conn; kind = Home IfAnswered })
   pub refused : IsRefused setting tale.talk tale.course step conn (length (tale.told conn) + 1) tag it reserved BeingMoved
 
-abbrev pub refusal : Tale → ℕ → Tag → Command → Answered
-refusal tale conn tag it = refused_out tale.course conn tag it BeingMoved
+-- the open command was asked and has no reply, and may be refused in this step since this node isn't reached
+pub record CanRefuseNow (setting : Setting) (tale : Tale) (now conn : ℕ) (tag : Tag) (it : Command) (node : List ℕ) : Type 0 where
+  pub unreplied : IsUnreplied tale conn
+  pub refused : IsRefused setting tale.talk tale.course now conn (length (tale.told conn) + 1) tag it (unreached node) NotReached
+
+abbrev pub refusal : Tale → ℕ → Tag → Command → NoText → Answered
+refusal tale conn tag it why = refused_out tale.course conn tag it why
 
 -- the open command is refused: the store stays. A UIDVALIDITY was given to it, too, of which nothing comes.
-abbrev pub refusing : Tale → ℕ → Tag → Command → ℕ → Tale
-refusing tale conn tag it serial = record {
+abbrev pub refusing : Tale → ℕ → Tag → Command → NoText → ℕ → Tale
+refusing tale conn tag it why serial = record {
   talk = record {
     requests = tale.talk.requests;
-    answers = with_list tale.talk.answers conn (tale.told conn ++ (refusal tale conn tag it).answer ∷ []);
+    answers = with_list tale.talk.answers conn (tale.told conn ++ (refusal tale conn tag it why).answer ∷ []);
     serials = with_list tale.talk.serials conn (tale.talk.serials conn ++ serial ∷ []);
     moving = tale.talk.moving;
   };
   told = tale.told;
-  course = course_after tale.course conn (refusal tale conn tag it);
+  course = course_after tale.course conn (refusal tale conn tag it why);
   before = with_session tale.before conn (tale.course.sessions conn);
 }
 
@@ -179,7 +186,12 @@ pub data AreMarked (setting : Setting) : ℕ → List Mark → Tale → Type 0 w
   refuses : (now : ℕ) (marks : List Mark) (tale : Tale) (conn : ℕ) (tag : Tag) (it : Command) (serial : ℕ) → CanRefuse setting marks tale conn tag it
       → AreMarked setting now marks tale
       → AreMarked setting now (marks ++ mark_now now tale conn (Told Reserved) ∷ [])
-      (telling (refusing tale conn tag it serial) conn (refusal tale conn tag it).answer)
+      (telling (refusing tale conn tag it BeingMoved serial) conn (refusal tale conn tag it BeingMoved).answer)
+  -- the command is refused, as a node isn't reached, and its client is told at once: this step is the point
+  refuses_at_once : (now : ℕ) (marks : List Mark) (tale : Tale) (conn : ℕ) (tag : Tag) (it : Command) (node : List ℕ) (serial : ℕ)
+      → CanRefuseNow setting tale now conn tag it node → AreMarked setting now marks tale
+      → AreMarked setting now (marks ++ mark_now now tale conn (Told (Unreached node)) ∷ [])
+      (telling (refusing tale conn tag it NotReached serial) conn (refusal tale conn tag it NotReached).answer)
   -- a reply that the client wasn't told of is taken back, if its step doesn't always count
   takes_back : (now : ℕ) (marks : List Mark) (tale : Tale) (conn : ℕ) (answer : Answer) → IsUntold tale conn answer
       → last_of (open_ask tale conn) marks ≡ Some (Home IfAnswered)

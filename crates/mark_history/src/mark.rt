@@ -3,7 +3,7 @@ use link_msg::{Counts, How};
 use mur_base::AskId;
 
 /// What a step says of a command.
-#[derive(Clone, Copy)]
+#[derive(Drop)]
 pub struct Mark {
     /// The number of the step, from 1.
     pub step: u64,
@@ -12,7 +12,7 @@ pub struct Mark {
 }
 
 /// What a mark says of its command. It counts by the next mark of the same command.
-#[derive(Clone, Copy)]
+#[derive(Drop)]
 pub enum MarkKind {
     /// A home answered the command.
     Home(Counts),

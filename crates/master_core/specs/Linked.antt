@@ -1,9 +1,10 @@
 -- What a message of a node does at the master.
-use Rattle.std.specs.Prelude.{ℕ, nat_eq, Bool, true, false, List, []}
+use Rattle.std.specs.Prelude.{ℕ, nat_eq, Bool, true, false, List, [], Option, None}
 use Rattle.std.specs.List.{list_any}
 use Rattle.std.specs.Cmp.Lexicographic.{pointwise}
 use Rattle.link_msg.specs.declared.message.LinkMsg.{LinkMsg}
 use Rattle.link_msg.specs.declared.message.LinkMsg.TheVariants.{End, Line}
+use Rattle.node_record.specs.declared.master.MasterRecord.{MasterRecord}
 use Rattle.master_core.specs.declared.master.Master.{Master}
 use Rattle.master_core.specs.declared.sender.Sender.{Sender}
 use Rattle.master_core.specs.declared.sender.Sender.TheVariants.{Backend, Frontend}
@@ -27,3 +28,8 @@ unfoldable pub node_says : Master → List ℕ → LinkMsg → Stepped
 node_says master node (Line bytes) = let_out (line_step master (sender_of master node) bytes)
 node_says master node End = record { master = without master (sender_of master node); outs = [] }
 node_says master node message = still master
+
+-- the entry of the master's disk that it makes: that of a line
+abbrev pub node_entry : Master → List ℕ → LinkMsg → Option MasterRecord
+node_entry master node (Line bytes) = (line_step master (sender_of master node) bytes).entry
+node_entry master node message = None

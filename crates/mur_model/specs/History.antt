@@ -16,8 +16,7 @@ use Rattle.mur_model.specs.declared.setting.Setting.{Setting}
 use Rattle.mur_model.specs.declared.store.Store.{Store}
 use Rattle.mur_model.specs.Act.{need_of}
 use Rattle.mur_model.specs.Answer.{Answered, answer_of, MayTake}
-use Rattle.mur_model.specs.Needed.{Mailbox, Work}
-use Rattle.mur_model.specs.Relocation.{after_refusal, cause_text}
+use Rattle.mur_model.specs.Relocation.{MayBeRefused, after_refusal, cause_text}
 
 -- the one store and the sessions of all connections, between two points
 pub record Course : Type 0 where
@@ -71,15 +70,12 @@ pub record Takes (setting : Setting) (talk : Talk) (course : Course) (conn numbe
 abbrev pub refused_out : Course → ℕ → Tag → Command → NoText → Answered
 refused_out course conn tag it why = after_refusal course.store (course.sessions conn) tag it why
 
--- a command by its number, which needs a mailbox, and is refused in this step for the cause that its point tells: `reserved` for a mailbox that is being
--- moved then
+-- a command by its number, which is refused in this step for the cause that its point tells: `reserved` for a mailbox that is being moved then,
+-- `unreached` for a server that has what the command needs
 pub record IsRefused (setting : Setting) (talk : Talk) (course : Course) (step conn number : ℕ) (tag : Tag) (it : Command) (what : What) (why : NoText) : Type 0 where
   pub asked : numbered (talk.requests conn) number ≡ Some (a_command tag it)
-  pub name : List ℕ
-  pub work : Work
-  pub need : need_of setting (course.sessions conn) it ≡ Mailbox name work
   pub cause : cause_text what ≡ Some why
-  pub moves : what ≡ reserved → talk.moving step name ≡ true
+  pub may : MayBeRefused talk.moving step what (need_of setting (course.sessions conn) it)
 
 abbrev pub point_of : ℕ → ℕ → ℕ → What → Point
 point_of step conn number what = record { step = step; ask = record { conn = conn; command = number }; what = what }

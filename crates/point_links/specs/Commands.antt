@@ -8,7 +8,6 @@ use Rattle.asking_core.specs.Laws.{AsksOn}
 use Rattle.imap_types.specs.declared.command.Command.{Command}
 use Rattle.mur_base.specs.declared.point.AskId.{AskId}
 use Rattle.mur_base.specs.declared.point.What.TheVariants.{Reserved}
-use Rattle.mur_model.specs.declared.need.Need.TheVariants.{Reply}
 use Rattle.mur_model.specs.declared.session.Sess.{Sess}
 use Rattle.mur_model.specs.declared.session.Turn.{Turn}
 use Rattle.mur_model.specs.declared.setting.Setting.{Setting}
@@ -37,7 +36,7 @@ told_turn c turn =
 
 -- it is refused since its name is reserved, and its client is given the reply of this turn
 abbrev pub refused_turn : ClientCommand → Turn → WentOn
-refused_turn c turn = went (session_after c.was turn.session) c.waiting (then.Refused Reserved (Reply turn.reply))
+refused_turn c turn = went (session_after c.was turn.session) c.waiting (then.Refused Reserved turn.reply)
 
 -- it isn't at its end: something more is sent for it, what is asked stays what it was, and so does its session
 pub record WaitsOn (master : List ℕ) (c : ClientCommand) (next : WentOn) : Type 0 where

@@ -5,6 +5,9 @@ use Rattle.mur_model.specs.Needed.{Needed, Refusal, Turned, Mailbox, Names}
 use Rattle.imap_types.specs.declared.reply.BadText.TheVariants.{State}
 use Rattle.imap_types.specs.declared.reply.Verdict.TheVariants.{Bad as bad_reply}
 use Rattle.imap_types.specs.declared.reply.Reply.{Reply}
+use Rattle.mur_base.specs.declared.point.What.{What}
+use Rattle.mur_model.specs.declared.need.Awaited.{Awaited}
+use Rattle.mur_model.specs.declared.need.Awaited.TheVariants as awaited
 use Rattle.mur_model.specs.declared.session.Sess.{Sess}
 use Rattle.mur_model.specs.declared.session.Sess.TheVariants.{Off, In, Selected, Ended}
 use Rattle.mur_model.specs.declared.session.Turn.{Turn}
@@ -14,6 +17,7 @@ use Rattle.mur_model.specs.Traits.{is_in}
 use Rattle.mur_model.specs.declared.need.Need.{Need}
 use Rattle.session_core.specs.Begin.{begin, HasBegun, MayNeed}
 use Rattle.session_core.specs.Finish.{Finished, finished_by}
+use Rattle.session_core.specs.Relocated.{moved_turn, relocated}
 use Rattle.session_core.proofs.AtOnceLaw.{IsAtOnce, off-needs}
 use Rattle.mur_model.specs.declared.need.Begun.{Begun}
 use Rattle.mur_model.specs.Need.{begun_of, told_with}
@@ -74,3 +78,9 @@ some_fits finished session need is fits = subst (λ (f : Finished). IfSome f.nee
 pub finish_fits : (before session : Sess) (turn : Option Turn) (need : Option Need) → record { session = session; need = need } ≡ finished_by before turn
     → IfSome need (λ it. MayNeed session it)
 finish_fits before session turn need is = some_fits (finished_by before turn) session need is (may_need_behind before turn)
+
+-- a refusal ends no session
+pub relocated_begun : (session : Sess) (it : Awaited) (what : What) → HasBegun session → HasBegun (relocated session it what).session
+unfolding moved_turn HasBegun
+relocated_begun session (awaited.Select name it) what begun = tt
+relocated_begun session it what begun = begun

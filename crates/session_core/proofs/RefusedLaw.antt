@@ -10,23 +10,22 @@ use Rattle.imap_types.specs.declared.command.Command.{Command}
 use Rattle.imap_types.specs.declared.command.Command.TheVariants as command
 use Rattle.imap_types.specs.declared.reply.NoText.{NoText}
 use Rattle.imap_types.specs.declared.reply.NoText.TheVariants.{BeingMoved, NotReached}
+use Rattle.mur_model.specs.declared.commands.list.Listing.{Listing}
 use Rattle.mur_model.specs.declared.commands.select.Opening.{Opening}
-use Rattle.mur_model.specs.declared.need.Awaited.TheVariants as awaited
 use Rattle.mur_model.specs.declared.session.Sess.{Sess}
 use Rattle.mur_model.specs.declared.session.Sess.TheVariants.{Off, In, Selected as selected, Ended}
-use Rattle.mur_model.specs.declared.session.Turn.{Turn}
 use Rattle.mur_model.specs.declared.setting.Setting.{Setting}
 use Rattle.mur_model.specs.declared.view.View.{View}
 use Rattle.mur_model.specs.Act.{need_begun, need_in, need_of, need_selected, need_taken}
 use Rattle.mur_model.specs.Asking.{asked_for}
-use Rattle.mur_model.specs.Need.{told_with}
+use Rattle.mur_model.specs.Left.{replied}
 use Rattle.mur_model.specs.Needed.{Needed, Refusal, Turned, Mailbox, Names, Work, Make, Delete, Append, Status, Select, Viewed}
 use Rattle.mur_model.specs.Relocation.{cause_text, refused_for}
 use Rattle.mur_model.specs.Rights.{has_rights}
 use Rattle.mur_model.specs.Select.{opening, select, select_as, select_by}
 use Rattle.mur_model.specs.Traits.{is_in, may_be, traits_of}
 use Rattle.mur_model.proofs.EachNeed.{OfAnswers, OfBegun, OfViewed, each_need, of_refusals, selecting}
-use Rattle.session_core.specs.Need.{Behind, told_reply}
+use Rattle.imap_types.specs.Reply.{refused}
 use Rattle.session_core.specs.Relocated.{goes_on, moved_turn, relocated, why_moved}
 
 -- the text is the cause's
@@ -38,17 +37,14 @@ its_text replied_to why e = cc
 its_text read why e = cc
 its_text lost why e = cc
 
-abbrev told_turn : Sess → Turn → Behind
-told_turn session turn = told_reply session turn.reply turn.session
-
 -- what is told for work that a command of a session needs, for each text
 abbrev Refuses : Sess → Command → List ℕ → Work → Type 0
-Refuses session it name work = (why : NoText) → told_turn session (moved_turn (asked_for name work).awaited why) ≡ goes_on session (refused_for session it why)
+Refuses session it name work = (why : NoText) → goes_on session (moved_turn (asked_for name work).awaited why) ≡ goes_on session (refused_for session it why)
 
 abbrev RefusesNeeded : Sess → Command → Needed → Type 0
 RefusesNeeded session it (Refusal verdict) = ⊤
 RefusesNeeded session it (Turned turn) = ⊤
-RefusesNeeded session it (Names listing) = ⊤
+RefusesNeeded session it (Names listing) = (why : NoText) → refused_for session it why ≡ replied (refused why)
 RefusesNeeded session it (Mailbox name work) = Refuses session it name work
 
 -- ---- a SELECT, an EXAMINE
@@ -68,7 +64,7 @@ by_name setting session it user name is_writable was_selected None so =
     by_rights session it name (opening user name is_writable was_selected) (has_rights setting.users user name) so
 
 select_refuses : (setting : Setting) (session : Sess) (text : List ℕ) → RefusesNeeded session (command.Select text) (need_of setting session (command.Select text))
-unfolding need_of need_taken need_in need_selected need_begun select is_in may_be traits_of asked_for moved_turn told_with refused_for
+unfolding need_of need_taken need_in need_selected need_begun select is_in may_be traits_of asked_for moved_turn refused_for
 select_refuses setting Off text = tt
 select_refuses setting (In user) text =
     by_name setting (In user) (command.Select text) user (taken_name user text) true false (mail_name_fault (taken_name user text)) (λ why. refl)
@@ -78,7 +74,7 @@ select_refuses setting (selected view) text =
 select_refuses setting Ended text = tt
 
 examine_refuses : (setting : Setting) (session : Sess) (text : List ℕ) → RefusesNeeded session (command.Examine text) (need_of setting session (command.Examine text))
-unfolding need_of need_taken need_in need_selected need_begun select is_in may_be traits_of asked_for moved_turn told_with refused_for
+unfolding need_of need_taken need_in need_selected need_begun select is_in may_be traits_of asked_for moved_turn refused_for
 examine_refuses setting Off text = tt
 examine_refuses setting (In user) text =
     by_name setting (In user) (command.Examine text) user (taken_name user text) false false (mail_name_fault (taken_name user text)) (λ why. refl)
@@ -134,8 +130,8 @@ none_viewed view = record {
   search = λ it. tt;
 }
 
-stays_told : (session : Sess) (it : Command) (why : NoText) → SelectsNone it → goes_on session (refused_for session it why) ≡ told_turn session (moved_turn awaited.Create why)
-unfolding SelectsNone moved_turn told_with refused_for
+stays_told : (session : Sess) (it : Command) (why : NoText) → SelectsNone it → refused_for session it why ≡ replied (refused why)
+unfolding SelectsNone refused_for
 stays_told (selected view) (command.Select text) why none = absurd none
 stays_told (selected view) (command.Examine text) why none = absurd none
 stays_told session it why none = refl
@@ -144,13 +140,13 @@ other_refuses : (session : Sess) (it : Command) (needed : Needed) → SelectsNon
 unfolding NoSelecting asked_for moved_turn
 other_refuses session it (Refusal verdict) none selecting = tt
 other_refuses session it (Turned turn) none selecting = tt
-other_refuses session it (Names listing) none selecting = tt
-other_refuses session it (Mailbox name Make) none selecting = λ why. sym (stays_told session it why none)
-other_refuses session it (Mailbox name Delete) none selecting = λ why. sym (stays_told session it why none)
-other_refuses session it (Mailbox name (Append message)) none selecting = λ why. sym (stays_told session it why none)
-other_refuses session it (Mailbox name (Status shown items)) none selecting = λ why. sym (stays_told session it why none)
+other_refuses session it (Names listing) none selecting = λ why. stays_told session it why none
+other_refuses session it (Mailbox name Make) none selecting = λ why. ap (goes_on session) (sym (stays_told session it why none))
+other_refuses session it (Mailbox name Delete) none selecting = λ why. ap (goes_on session) (sym (stays_told session it why none))
+other_refuses session it (Mailbox name (Append message)) none selecting = λ why. ap (goes_on session) (sym (stays_told session it why none))
+other_refuses session it (Mailbox name (Status shown items)) none selecting = λ why. ap (goes_on session) (sym (stays_told session it why none))
 other_refuses session it (Mailbox name (Select opened)) none selecting = absurd selecting
-other_refuses session it (Mailbox name (Viewed view work)) none selecting = λ why. sym (stays_told session it why none)
+other_refuses session it (Mailbox name (Viewed view work)) none selecting = λ why. ap (goes_on session) (sym (stays_told session it why none))
 
 need_refuses : (setting : Setting) (session : Sess) (it : Command) → RefusesNeeded session it (need_of setting session it)
 unfolding SelectsNone
@@ -163,5 +159,9 @@ pub refused_as_told : (setting : Setting) (session : Sess) (it : Command) (name 
     → need_of setting session it ≡ Mailbox name work → cause_text what ≡ Some why
     → relocated session (asked_for name work).awaited what ≡ goes_on session (refused_for session it why)
 refused_as_told setting session it name work what why need cause =
-    ap (λ t. told_turn session (moved_turn (asked_for name work).awaited t)) (its_text what why cause)
+    ap (λ t. goes_on session (moved_turn (asked_for name work).awaited t)) (its_text what why cause)
     ∙ subst (λ n. RefusesNeeded session it n) need (need_refuses setting session it) why
+
+pub refused_list : (setting : Setting) (session : Sess) (it : Command) (listing : Listing) (why : NoText) → need_of setting session it ≡ Names listing
+    → refused_for session it why ≡ replied (refused why)
+refused_list setting session it listing why need = subst (λ n. RefusesNeeded session it n) need (need_refuses setting session it) why

@@ -1,11 +1,11 @@
--- The refusal of a command whose mailbox is on its way to another server, or whose server isn't reached: the session stays as it was and no news is
--- told, but that a SELECT or an EXAMINE leaves no mailbox selected, as where it is refused for another cause (RFC 9051, 6.3.2).
+-- The refusal of a command whose mailbox is on its way to another server, or that needs a server which isn't reached: the session stays as it was and no
+-- news is told, but that a SELECT or an EXAMINE leaves no mailbox selected, as where it is refused for another cause (RFC 9051, 6.3.2).
 use Rattle.std.specs.Prelude.{⊤}
 use Rattle.mur_base.specs.declared.point.What.{What}
 use Rattle.mur_base.specs.declared.point.What.TheVariants.{Reserved, Unreached}
 use Rattle.imap_types.specs.declared.reply.NoText.{NoText}
 use Rattle.imap_types.specs.declared.reply.NoText.TheVariants.{BeingMoved, NotReached}
-use Rattle.mur_model.specs.declared.need.Need.TheVariants.{Reply}
+use Rattle.imap_types.specs.declared.reply.Reply.{Reply}
 use Rattle.mur_model.specs.declared.session.Sess.{Sess}
 use Rattle.mur_model.specs.declared.session.Turn.{Turn}
 use Rattle.mur_model.specs.Act.{session_after}
@@ -14,7 +14,6 @@ use Rattle.imap_types.specs.Reply.{refused}
 use Rattle.mur_model.specs.Select.{unselected}
 use Rattle.mur_model.specs.declared.need.Awaited.{Awaited}
 use Rattle.mur_model.specs.declared.need.Awaited.TheVariants.{Select}
-use Rattle.session_core.specs.Need.{Behind, told_reply}
 
 -- why a command is refused so
 unfoldable pub IsRelocation : What → Type 0
@@ -30,11 +29,13 @@ unfoldable pub moved_turn : Awaited → NoText → Turn
 moved_turn (Select name it) why = unselected it.user it.was_selected why
 moved_turn awaited why = replied (refused why)
 
-abbrev pub relocated : Sess → Awaited → What → Behind
-relocated session awaited what =
-    let turn = moved_turn awaited (why_moved what) in
-    told_reply session turn.reply turn.session
+-- the session behind a refusal, and the reply that tells it
+pub record Refused : Type 0 where
+  pub session : Sess
+  pub reply : Reply
 
--- a reply is given, and the session goes on behind it
-abbrev pub goes_on : Sess → Turn → Behind
-goes_on session turn = record { session = session_after session turn.session; need = Reply turn.reply }
+abbrev pub goes_on : Sess → Turn → Refused
+goes_on session turn = record { session = session_after session turn.session; reply = turn.reply }
+
+abbrev pub relocated : Sess → Awaited → What → Refused
+relocated session awaited what = goes_on session (moved_turn awaited (why_moved what))

@@ -81,20 +81,20 @@ module _ (fixed : Fixed) (front : List ℕ) (replica : Replica) (conn : ℕ) (in
   next_is = ap (λ n. record { conn = conn; command = n + 1 }) heard.count ∙ sym ((heard.waiting).of).its
 
   turns_so : answer.id ≡ c.id
-      → answer_comes fixed.setting (ways_for fixed replica) conn connection answer
+      → answer_comes fixed.setting (ways_for fixed front replica) conn connection answer
       ≡ turned_by fixed front replica conn inputs held connection world story (place.is_answered server answer) heard next
   turns_so its =
-      fits fixed.setting (ways_for fixed replica) conn connection (heard.waiting).tag c.waiting answer
+      fits fixed.setting (ways_for fixed front replica) conn connection (heard.waiting).tag c.waiting answer
       (ap (λ (i : AskId). i.command) (its ∙ sym next_is)) (heard.waiting).stage
-      ∙ ap (λ i. goes_on_by fixed.setting (ways_for fixed replica) conn connection (heard.waiting).tag
+      ∙ ap (λ i. goes_on_by fixed.setting (ways_for fixed front replica) conn connection (heard.waiting).tag
       (answered fixed.master i connection.session c.waiting answer.body)) next_is
-      ∙ ap (λ s. goes_on_by fixed.setting (ways_for fixed replica) conn connection (heard.waiting).tag
+      ∙ ap (λ s. goes_on_by fixed.setting (ways_for fixed front replica) conn connection (heard.waiting).tag
       (answered fixed.master c.id s c.waiting answer.body)) (sym ((heard.waiting).of).was_is)
 
   by_knows : InputsCome fixed front replica conn inputs held world story → MaySend fixed front conn world story → NamesBackend (home_at world) answer.body
       → Knows fixed.master fixed.first front c (heard.waiting).tag (story.told conn) (story.talk.answers conn) (story.course.sessions conn)
       (place.is_answered server answer)
-      → StandsSo fixed front replica conn inputs held world story (answer_comes fixed.setting (ways_for fixed replica) conn connection answer)
+      → StandsSo fixed front replica conn inputs held world story (answer_comes fixed.setting (ways_for fixed front replica) conn connection answer)
   by_knows come may names (undecided said was tells) =
       subst (λ (t : Turned). StandsSo fixed front replica conn inputs held world story t) (sym (turns_so tells.0))
       (on_stands fixed front replica conn inputs held connection world story (place.is_answered server answer) heard may next
@@ -108,5 +108,5 @@ module _ (fixed : Fixed) (front : List ℕ) (replica : Replica) (conn : ℕ) (in
   -- WHAT THE ANSWER MAKES OF THE CONNECTION
   pub answer_turns : InputsCome fixed front replica conn inputs held world story → MaySend fixed front conn world story
       → NamesBackend (home_at world) answer.body
-      → StandsSo fixed front replica conn inputs held world story (answer_comes fixed.setting (ways_for fixed replica) conn connection answer)
+      → StandsSo fixed front replica conn inputs held world story (answer_comes fixed.setting (ways_for fixed front replica) conn connection answer)
   answer_turns come may names = by_knows come may names (heard.waiting).knows

@@ -166,8 +166,8 @@ module _ (fixed : Fixed) (world : World) (story : Tale) (node : List ℕ) (front
       subst (λ w. ClosedStep fixed world story fixed.master node front conn inputs w)
       (sym (front_comes (taken_from_link world fixed.master node) node (From fixed.master (Line bytes)) front before.whole (before.at).at
       ∙ ap (with_front (taken_from_link world fixed.master node) node)
-      (delivers_ok fixed front conn connection bytes id before.setting_is before.master_is before.first_is (before.at).has own reads_so
-      ∙ ap (with_turned front conn) (ok_ended fixed.setting (ways_for fixed front.replica) conn connection id gone.stage_is))))
+      (delivers_ok fixed node front conn connection bytes id before.setting_is before.master_is before.ways_is (before.at).has own reads_so
+      ∙ ap (with_turned front conn) (ok_ended fixed.setting (ways_for fixed node front.replica) conn connection id gone.stage_is))))
       (closed_so fixed world story fixed.master node front conn inputs connection before gone (released connection)
       (ended_released connection gone.stage_is) (released_count connection) is.over
       (λ other ne. ok_stays fixed world node bytes id rest other (before.may).frontend first reads_so (λ e. ne (e ∙ own))))

@@ -21,9 +21,11 @@ use Rattle.cluster_core.proofs.Answers.Keeps.{IsTakenBy, answer_stands, ok_stand
 use Rattle.cluster_core.proofs.Answers.OtherMessages.{idle_stands, news_stand}
 use Rattle.cluster_core.specs.Numbers.{NumbersFit}
 
--- a server that the message names is a backend
+-- a server that the message names is a backend, and it tells of no link
 abbrev pub MessageNamesBackend : Nodes → LinkMsg → Type 0
 MessageNamesBackend nodes (Answer answer) = NamesBackend nodes answer.body
+MessageNamesBackend nodes Up = ⊥
+MessageNamesBackend nodes End = ⊥
 MessageNamesBackend nodes message = Unit {0}
 
 -- A FRONTEND'S TAKING OF A MESSAGE KEEPS THE LAW
@@ -34,12 +36,6 @@ FrontTakesKeep = (config : Config) (heard : ℕ → Heard) (world : World) (law 
     → KeepsOn config law.story heard (taken_by config heard world law from message to)
 
 -- ---- by its kind
-
-up_is_none : IsLine Up → ⊥
-up_is_none is = (let no : Up ≡ Line is.0 = is.1 in cc)
-
-end_is_none : IsLine End → ⊥
-end_is_none is = (let no : End ≡ Line is.0 = is.1 in cc)
 
 ask_is_none : (ask : FrontAsk) → IsLine (Ask ask) → ⊥
 ask_is_none ask is = (let no : Ask ask ≡ Line is.0 = is.1 in cc)
@@ -69,14 +65,8 @@ module _ (config : Config) (heard : ℕ → Heard) (world : World) (law : KeepsL
       (line_by to front bytes (barrier_answered bytes) there (subst (λ f. IsTakenBy config heard world law f (Line bytes) to) e taken) numbers refl))
       (λ (ne : from ≢ master_of config). idle_stands config heard world law from to front (Line bytes) there taken ne ne)
       (same_name_or from (master_of config))
-  front_takes from to front Up there taken names numbers = ⊎_elim
-      (λ (e : from ≡ master_of config). absurd (up_is_none (a_line from to front Up there taken e)))
-      (λ (ne : from ≢ master_of config). idle_stands config heard world law from to front Up there taken ne tt)
-      (same_name_or from (master_of config))
-  front_takes from to front End there taken names numbers = ⊎_elim
-      (λ (e : from ≡ master_of config). absurd (end_is_none (a_line from to front End there taken e)))
-      (λ (ne : from ≢ master_of config). idle_stands config heard world law from to front End there taken ne tt)
-      (same_name_or from (master_of config))
+  front_takes from to front Up there taken names numbers = absurd names
+  front_takes from to front End there taken names numbers = absurd names
   front_takes from to front (Ask ask) there taken names numbers = ⊎_elim
       (λ (e : from ≡ master_of config). absurd (ask_is_none ask (a_line from to front (Ask ask) there taken e)))
       (λ (ne : from ≢ master_of config). idle_stands config heard world law from to front (Ask ask) there taken ne tt)

@@ -1,11 +1,17 @@
 -- What came of a command that waited makes its connection stand so: its client is told the store's reply or a refusal, or it waits on.
-use Rattle.std.proofs.Common.{◌≡◌, ℕ, ◌+◌, true, false, List, [], ◌∷◌, ◌++◌, length, Option, Some, refl, sym, ◌∙◌, ap, subst}
+use Rattle.std.proofs.Common.{◌≡◌, ℕ, ◌+◌, true, false, is_some, List, [], ◌∷◌, ◌++◌, length, Option, Some, refl, sym, ◌∙◌, ap, subst}
 use Rattle.asking_core.specs.Answered.{WentOn}
+use Rattle.asking_core.specs.Laws.{FitsAt}
 use Rattle.asking_core.specs.declared.then.Then.{Then}
+use Rattle.asking_core.specs.declared.waiting.At.{At}
+use Rattle.asking_core.specs.declared.waiting.At.TheVariants.{Home, Barrier as at_master}
+use Rattle.asking_core.specs.declared.waiting.Sent.{Sent}
+use Rattle.asking_core.specs.declared.waiting.Waiting.{Waiting as WaitingFor}
 use Rattle.feed_core.specs.declared.replica.Replica.{Replica}
 use Rattle.front_core.specs.declared.connection.Connection.{Connection}
-use Rattle.front_core.specs.Answered.{by_then, goes_on_by, need_behind}
+use Rattle.front_core.specs.Answered.{by_then, goes_on_by, need_behind, sends_if}
 use Rattle.front_core.specs.Taken.{Turned}
+use Rattle.front_core.specs.Ups.{Ups, is_up}
 use Rattle.imap_talk.specs.Inputs.{requests_in}
 use Rattle.imap_talk.specs.SessionEnds.{TurnEnds, has_ended}
 use Rattle.imap_talk.specs.Transcript.{ends, is_bye}
@@ -24,7 +30,10 @@ use Rattle.imap_types.specs.declared.request.Request.TheVariants.{Command as a_c
 use Rattle.link_msg.specs.declared.how.How.{How}
 use Rattle.link_msg.specs.declared.how.How.TheVariants.{Behind, Reserved}
 use Rattle.mark_history.specs.Marked.{CanRefuse, Tale}
+use Rattle.many_links.specs.Murder.{Nodes}
 use Rattle.master_core.specs.Refusals.{is_reserved}
+use Rattle.mur_base.specs.declared.point.AskId.{AskId}
+use Rattle.mur_base.specs.declared.point.What.TheVariants.{Reserved as reserved}
 use Rattle.node_record.specs.Table.{MailboxTable, record_at}
 use Rattle.cluster_core.proofs.Commands.Moving.{IsSeenBy}
 use Rattle.mur_model.specs.declared.session.Sess.{Sess}
@@ -34,7 +43,7 @@ use Rattle.mur_model.specs.declared.setting.Setting.{Setting}
 use Rattle.mur_model.specs.Act.{need_of, session_after}
 use Rattle.mur_model.specs.History.{numbered}
 use Rattle.mur_model.specs.Needed.{Mailbox}
-use Rattle.mur_model.specs.Relocation.{cause_text, refused_for}
+use Rattle.mur_model.specs.Relocation.{MayBeRefused, cause_text, refused_for}
 use Rattle.point_links.specs.Commands.{ClientCommand, WaitsOn, refused_turn, told_turn}
 use Rattle.route_links.specs.Answered.{IsNumbered}
 use Rattle.serve_law.specs.AsTheStore.{given_with}
@@ -45,6 +54,7 @@ use Rattle.cluster_core.proofs.Commands.Standing.{Fixed, next_id}
 use Rattle.cluster_core.proofs.Connections.ConnectionLaw.{StandsOn}
 use Rattle.cluster_core.proofs.Places.Stays.{IsFrontend}
 use Rattle.cluster_core.proofs.Connections.FrameLaw.{ways_for}
+use Rattle.cluster_core.proofs.Connections.KeepsLaw.{IsLinked}
 use Rattle.cluster_core.proofs.Answers.Replied.{InputsCome, IsHeard, IsHeardFor, ended_stands, heard_for, read_stands}
 use Rattle.cluster_core.proofs.Answers.Tells.{IsTold, behind_told, refusal_told}
 use Rattle.cluster_core.proofs.Answers.WaitsOn.{AsksBackend, waits_on_stands}
@@ -71,7 +81,15 @@ StandsSo fixed front replica conn inputs held world story turned =
 -- what a frontend knows of itself, and of a command that it may send on
 pub record MaySend (fixed : Fixed) (front : List ℕ) (conn : ℕ) (world : World) (story : Tale) : Type 0 where
   pub frontend : IsFrontend fixed.master (home_at world) front
+  pub up : IsLinked (fixed.ups front) fixed.master (λ server. is_some (home_at world server))
   pub is_numbered : IsNumbered (next_id conn (story.told conn))
+
+-- the link to whom a message of its goes is up
+sent_is_up : (ups : Ups) (nodes : Nodes) (master : List ℕ) (id : AskId) (session : Sess) (it : WaitingFor) (message : Sent) (at : At)
+    → IsLinked ups master (λ server. is_some (nodes server)) → FitsAt master id session it message at → AsksBackend nodes at → is_up ups message.to ≡ true
+sent_is_up ups nodes master id session it message (Home server) linked fits backend =
+    ap (is_up ups) fits.0 ∙ linked.to_backend server (ap is_some (backend server refl).1)
+sent_is_up ups nodes master id session it message (at_master cause) linked fits backend = ap (is_up ups) fits.0 ∙ linked.to_master
 
 module _ (fixed : Fixed) (front : List ℕ) (replica : Replica) (conn : ℕ) (inputs : List Input) (held : Option (List ℕ)) (connection : Connection)
     (world : World) (story : Tale) (here : Place) (heard : IsHeard fixed front replica conn inputs held connection world story here) where
@@ -80,7 +98,7 @@ module _ (fixed : Fixed) (front : List ℕ) (replica : Replica) (conn : ℕ) (in
 
   -- what comes of the command does this to its connection
   abbrev pub turned_by : WentOn → Turned
-  turned_by next = goes_on_by fixed.setting (ways_for fixed replica) conn connection (heard.waiting).tag next
+  turned_by next = goes_on_by fixed.setting (ways_for fixed front replica) conn connection (heard.waiting).tag next
 
   abbrev now : Sess → Connection
   now session = record connection { session = session }
@@ -97,7 +115,7 @@ module _ (fixed : Fixed) (front : List ℕ) (replica : Replica) (conn : ℕ) (in
       → IsTold fixed.setting world story conn how (record { tag = (heard.waiting).tag; reply = reply }) session
       → InputsCome fixed front replica conn inputs held world story
       → StandsSo fixed front replica conn inputs held world story
-      (need_behind fixed.setting (ways_for fixed replica) conn (now session) (heard.waiting).tag how (given_with reply session))
+      (need_behind fixed.setting (ways_for fixed front replica) conn (now session) (heard.waiting).tag how (given_with reply session))
   unfolding given_with
   given_stands how reply Off same told come =
       read_stands fixed front replica conn inputs held connection world story (heard.waiting).tag c.it its_heard how reply Off told refl (sym same) come
@@ -141,18 +159,15 @@ module _ (fixed : Fixed) (front : List ℕ) (replica : Replica) (conn : ℕ) (in
   can_refuse : story.talk.requests conn ≡ requests_in inputs → story.talk.answers conn ≡ story.told conn → c.was ≡ story.course.sessions conn
       → (table : MailboxTable) → IsSeenBy story.talk.moving world.marks (next_id conn (story.told conn)) table
       → is_reserved (record_at table c.name) ≡ true → CanRefuse fixed.setting world.marks story conn (heard.waiting).tag c.it
-  unfolding cause_text
+  unfolding cause_text MayBeRefused
   can_refuse requests said was table seen moves = record {
     unreplied = said;
     step = seen.step;
     saw = seen.saw;
     refused = record {
       asked = asked_so requests;
-      name = c.name;
-      work = c.work;
-      need = need_so was;
       cause = refl;
-      moves = λ what. seen.moves c.name ∙ moves;
+      may = subst (MayBeRefused story.talk.moving seen.step reserved) (sym (need_so was)) (seen.moves c.name ∙ moves);
     };
   }
 
@@ -177,5 +192,8 @@ module _ (fixed : Fixed) (front : List ℕ) (replica : Replica) (conn : ℕ) (in
       → StandsSo fixed front replica conn inputs held world story (turned_by next)
   on_stands may next on backend said was =
       subst (λ (t : Then). StandsSo fixed front replica conn inputs held world story
-      (by_then fixed.setting (ways_for fixed replica) conn (now next.session) (heard.waiting).tag next.waiting t)) (sym on.sends)
-      (waits_on_stands fixed front replica conn inputs held connection world story here heard may.frontend may.is_numbered said was next on backend)
+      (by_then fixed.setting (ways_for fixed front replica) conn (now next.session) (heard.waiting).tag next.waiting t)) (sym on.sends)
+      (subst (λ up. StandsSo fixed front replica conn inputs held world story
+      (sends_if up fixed.setting (ways_for fixed front replica) conn (now next.session) (heard.waiting).tag next.waiting on.sent))
+      (sym (sent_is_up (fixed.ups front) (home_at world) fixed.master c.id c.was c.waiting on.sent next.waiting.at may.up on.asks.fits backend))
+      (waits_on_stands fixed front replica conn inputs held connection world story here heard may.frontend may.is_numbered said was next on backend))

@@ -26,7 +26,7 @@ use Rattle.cluster_core.proofs.Connections.FrameLaw.{HasNumbersOf}
 use Rattle.cluster_core.proofs.Connections.KeepsFront.{front_keeps, with_connection}
 use Rattle.cluster_core.proofs.Connections.KeepsLaw.{ConnectionIs, FeedsHold, IsAt, KeepsLaw, KeepsOn, fixed_of, murder_of}
 use Rattle.cluster_core.proofs.Connections.KeepsLaw.ConnectionIs.{is_nobody, is_elsewhere, is_open, is_closed}
-use Rattle.cluster_core.proofs.Connections.MayAskAt.{may_ask}
+use Rattle.cluster_core.proofs.Connections.MayAskAt.{may_ask, ways_same_by}
 use Rattle.cluster_core.proofs.Connections.Stays.{is_not_closed}
 use Rattle.cluster_core.proofs.Places.FrontFirst.{about_ok, answer_tells, none_comes, ok_tells}
 use Rattle.cluster_core.proofs.Places.Stays.{IsFrontend}
@@ -78,7 +78,7 @@ module _ (config : Config) (heard : ℕ → Heard) (world : World) (law : KeepsL
         at = at;
         setting_is = is.setting_is;
         master_is = is.master_is;
-        first_is = is.first_is;
+        ways_is = ways_same_by config world law.master node front is;
         may = may_ask config heard world node front law at.at;
         numbers = numbers;
         is_told = law.is_told;

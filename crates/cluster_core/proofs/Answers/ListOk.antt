@@ -72,7 +72,7 @@ pub listed_turns : (fixed : Fixed) (front : List ℕ) (replica : Replica) (conn 
     → IsHeardFor fixed front replica conn inputs held connection world story it.tag it.it → InputsCome fixed front replica conn inputs held world story
     → replica ≡ replica_of table
     → StandsSo fixed front replica conn inputs held world story
-    (ok_comes fixed.setting (ways_for fixed replica) conn connection (next_id conn (story.told conn)))
+    (ok_comes fixed.setting (ways_for fixed front replica) conn connection (next_id conn (story.told conn)))
 listed_turns fixed front replica conn inputs held connection world story table it heard come has_all =
     let answer : Answer = listed_by it.tag it.listing table in
     let said = said_so it.tag it.listing connection.session (story.told conn) (story.talk.answers conn) (story.course.sessions conn) table it.knows in
@@ -80,8 +80,8 @@ listed_turns fixed front replica conn inputs held connection world story table i
     subst (λ (s : Sess). IsTold fixed.setting world story conn Behind answer s) (sym said.stays)
     (behind_told fixed.setting world story conn answer heard.is_told said.said_is) in
     subst (λ (t : Turned). StandsSo fixed front replica conn inputs held world story t)
-    (sym (fits_list fixed.setting (ways_for fixed replica) conn connection it.tag it.listing (next_id conn (story.told conn)) (ap (λ n. n + 1) (sym heard.count)) it.stage
-    ∙ ap (λ (r : Replica). reads_on fixed.setting (ways_for fixed replica) conn connection Behind
+    (sym (fits_list fixed.setting (ways_for fixed front replica) conn connection it.tag it.listing (next_id conn (story.told conn)) (ap (λ n. n + 1) (sym heard.count)) it.stage
+    ∙ ap (λ (r : Replica). reads_on fixed.setting (ways_for fixed front replica) conn connection Behind
     (reply_text it.tag (list_reply it.listing (mailbox_names r.records)))) has_all))
     (read_stands fixed front replica conn inputs held connection world story it.tag it.it heard Behind (list_reply it.listing (mailbox_names (recs_of table)))
     connection.session told it.lasts (list_ends it.listing (mailbox_names (recs_of table))) come)

@@ -84,14 +84,14 @@ module _ (fixed : Fixed) (front : List ℕ) (replica : Replica) (conn : ℕ) (in
   next_is = ap (λ n. record { conn = conn; command = n + 1 }) heard.count ∙ sym ((heard.waiting).of).its
 
   turns_so : (cause : Why) → (c.waiting).at ≡ at_master cause
-      → ok_comes fixed.setting (ways_for fixed replica) conn connection c.id
+      → ok_comes fixed.setting (ways_for fixed front replica) conn connection c.id
       ≡ turned_by fixed front replica conn inputs held connection world story here heard (next cause)
   turns_so cause at =
-      fits_ok fixed.setting (ways_for fixed replica) conn connection (heard.waiting).tag c.waiting c.id cause
+      fits_ok fixed.setting (ways_for fixed front replica) conn connection (heard.waiting).tag c.waiting c.id cause
       (ap (λ (i : AskId). i.command) (sym next_is)) (heard.waiting).stage at
-      ∙ ap (λ i. goes_on_by fixed.setting (ways_for fixed replica) conn connection (heard.waiting).tag
+      ∙ ap (λ i. goes_on_by fixed.setting (ways_for fixed front replica) conn connection (heard.waiting).tag
       (cleared replica.records fixed.master fixed.first i connection.session c.waiting cause)) next_is
-      ∙ ap (λ s. goes_on_by fixed.setting (ways_for fixed replica) conn connection (heard.waiting).tag
+      ∙ ap (λ s. goes_on_by fixed.setting (ways_for fixed front replica) conn connection (heard.waiting).tag
       (cleared replica.records fixed.master fixed.first c.id s c.waiting cause)) (sym ((heard.waiting).of).was_is)
 
   module _ (come : InputsCome fixed front replica conn inputs held world story) (may : MaySend fixed front conn world story)
@@ -113,7 +113,7 @@ module _ (fixed : Fixed) (front : List ℕ) (replica : Replica) (conn : ℕ) (in
 
     by_knows : (cause : Why) → (c.waiting).at ≡ at_master cause
         → Knows fixed.master fixed.first front c (heard.waiting).tag (story.told conn) (story.talk.answers conn) (story.course.sessions conn) here
-        → StandsSo fixed front replica conn inputs held world story (ok_comes fixed.setting (ways_for fixed replica) conn connection c.id)
+        → StandsSo fixed front replica conn inputs held world story (ok_comes fixed.setting (ways_for fixed front replica) conn connection c.id)
     by_knows cause at (undecided said was tells) =
         subst (λ (t : Turned). StandsSo fixed front replica conn inputs held world story t) (sym (turns_so cause at))
         (by_ok cause at said was (subst (GoesOnAtOk table fixed.master c) (sym (by_table cause)) (tells (c.waiting).at cause)))
@@ -123,7 +123,7 @@ module _ (fixed : Fixed) (front : List ℕ) (replica : Replica) (conn : ℕ) (in
         (by_table cause ∙ brings (c.waiting).at cause) said session both)
 
     -- WHAT THE OK MAKES OF THE CONNECTION
-    pub ok_turns : StandsSo fixed front replica conn inputs held world story (ok_comes fixed.setting (ways_for fixed replica) conn connection c.id)
+    pub ok_turns : StandsSo fixed front replica conn inputs held world story (ok_comes fixed.setting (ways_for fixed front replica) conn connection c.id)
     ok_turns =
         let at = at_barrier (c.waiting).at table (heard.waiting).at in
         by_knows at.cause at.is (heard.waiting).knows

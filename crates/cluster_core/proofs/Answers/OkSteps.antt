@@ -43,11 +43,11 @@ use Rattle.cluster_core.proofs.Answers.Steps.{IsBefore, inputs_may_come, may_sen
 
 -- ---- the frontend takes the OK of the command
 
-module _ (fixed : Fixed) (front : Front) (conn : ℕ) (connection : Connection) (bytes : List ℕ) (id : AskId) (setting_is : front.setting ≡ fixed.setting)
-    (master_is : front.master ≡ fixed.master) (first_is : front.first ≡ fixed.first) (has : connection_at front conn ≡ Some connection)
-    (own : id.conn ≡ conn) (reads_so : barrier_answered bytes ≡ Some id) where
+module _ (fixed : Fixed) (node : List ℕ) (front : Front) (conn : ℕ) (connection : Connection) (bytes : List ℕ) (id : AskId)
+    (setting_is : front.setting ≡ fixed.setting) (master_is : front.master ≡ fixed.master) (ways_is : ways_of front ≡ ways_for fixed node front.replica)
+    (has : connection_at front conn ≡ Some connection) (own : id.conn ≡ conn) (reads_so : barrier_answered bytes ≡ Some id) where
   pub delivers_ok : deliver front fixed.master (Line bytes)
-      ≡ with_turned front conn (ok_comes fixed.setting (ways_for fixed front.replica) conn connection id)
+      ≡ with_turned front conn (ok_comes fixed.setting (ways_for fixed node front.replica) conn connection id)
   unfolding deliver line_from ok_at
   delivers_ok =
       let from_master : pointwise nat_eq fixed.master front.master ≡ true =
@@ -56,10 +56,7 @@ module _ (fixed : Fixed) (front : Front) (conn : ℕ) (connection : Connection) 
       ∙ ap (ok_at front id) (ap (connection_at front) own ∙ has)
       ∙ ap (λ c. with_turned front c (ok_comes front.setting (ways_of front) c connection id)) own
       ∙ ap (λ (s : Setting). with_turned front conn (ok_comes s (ways_of front) conn connection id)) setting_is
-      ∙ ap (λ (m : List ℕ). with_turned front conn (ok_comes fixed.setting (record { recs = (front.replica).records; master = m; first = front.first }) conn
-      connection id)) master_is
-      ∙ ap (λ (f : List ℕ). with_turned front conn (ok_comes fixed.setting (record { recs = (front.replica).records; master = fixed.master; first = f }) conn
-      connection id)) first_is
+      ∙ ap (λ ways. with_turned front conn (ok_comes fixed.setting ways conn connection id)) ways_is
 
 module _ (fixed : Fixed) (world : World) (story : Tale) (node : List ℕ) (front : Front) (conn : ℕ) (inputs : List Input) (held : Option (List ℕ))
     (connection : Connection) (before : IsBefore fixed world story node front conn inputs connection)
@@ -84,8 +81,8 @@ module _ (fixed : Fixed) (world : World) (story : Tale) (node : List ℕ) (front
       (place.is_barred (barrier.answered table))
       → OpenStep fixed world story fixed.master node front conn inputs held connection
       (world_after (taken_from_link world fixed.master node) node front conn
-      (released (ok_comes fixed.setting (ways_for fixed front.replica) conn connection id).connection)
-      (ok_comes fixed.setting (ways_for fixed front.replica) conn connection id).outs)
+      (released (ok_comes fixed.setting (ways_for fixed node front.replica) conn connection id).connection)
+      (ok_comes fixed.setting (ways_for fixed node front.replica) conn connection id).outs)
   ok_by bytes id rest first reads_so own table over its has_all seen (of_mailbox waiting) =
       let here : Place = place.is_barred (barrier.answered table) in
       let base : World = taken_from_link world fixed.master node in
@@ -93,8 +90,8 @@ module _ (fixed : Fixed) (world : World) (story : Tale) (node : List ℕ) (front
       record { count = standing.count; client = standing.client; nothing = over; is_told = before.is_told; waiting = waiting } in
       let c : ClientCommand = waiting.c in
       turned_step fixed world story fixed.master node front conn inputs held connection before standing
-      (ok_comes fixed.setting (ways_for fixed front.replica) conn connection id) (waits_live connection waiting.tag c.waiting waiting.stage)
-      (subst (λ i. StandsSo fixed node front.replica conn inputs held base story (ok_comes fixed.setting (ways_for fixed front.replica) conn connection i))
+      (ok_comes fixed.setting (ways_for fixed node front.replica) conn connection id) (waits_live connection waiting.tag c.waiting waiting.stage)
+      (subst (λ i. StandsSo fixed node front.replica conn inputs held base story (ok_comes fixed.setting (ways_for fixed node front.replica) conn connection i))
       ((waiting.of).its ∙ sym its)
       (ok_turns fixed node front.replica conn inputs held connection base story table heard
       (inputs_may_come fixed world story node front conn inputs held connection before fixed.master)
@@ -103,19 +100,19 @@ module _ (fixed : Fixed) (world : World) (story : Tale) (node : List ℕ) (front
       before.requests seen has_all
       (λ cause at. cleared_backend (home_at world) (front.replica).records (before.may).knows fixed.first (before.may).first fixed.master c.id c.was c.waiting
       cause at)))
-      (ok_reader fixed.setting (ways_for fixed front.replica) conn connection id)
+      (ok_reader fixed.setting (ways_for fixed node front.replica) conn connection id)
       (λ other ne. ok_stays fixed world node bytes id rest other (before.may).frontend first reads_so (λ e. ne (e ∙ own)))
   ok_by bytes id rest first reads_so own table over its has_all seen (of_names it) =
       let base : World = taken_from_link world fixed.master node in
       let heard : IsHeardFor fixed node front.replica conn inputs held connection base story it.tag it.it =
       record { count = standing.count; client = standing.client; nothing = over; is_told = before.is_told; next = it.next } in
       turned_step fixed world story fixed.master node front conn inputs held connection before standing
-      (ok_comes fixed.setting (ways_for fixed front.replica) conn connection id) (lists_live connection it.tag it.listing it.stage)
-      (subst (λ i. StandsSo fixed node front.replica conn inputs held base story (ok_comes fixed.setting (ways_for fixed front.replica) conn connection i))
+      (ok_comes fixed.setting (ways_for fixed node front.replica) conn connection id) (lists_live connection it.tag it.listing it.stage)
+      (subst (λ i. StandsSo fixed node front.replica conn inputs held base story (ok_comes fixed.setting (ways_for fixed node front.replica) conn connection i))
       (sym its)
       (listed_turns fixed node front.replica conn inputs held connection base story table it heard
       (inputs_may_come fixed world story node front conn inputs held connection before fixed.master) has_all))
-      (ok_reader fixed.setting (ways_for fixed front.replica) conn connection id)
+      (ok_reader fixed.setting (ways_for fixed node front.replica) conn connection id)
       (λ other ne. ok_stays fixed world node bytes id rest other (before.may).frontend first reads_so (λ e. ne (e ∙ own)))
 
   pub ok_step : (bytes : List ℕ) (id : AskId) (rest : List LinkMsg) → on_link world.links fixed.master node ≡ Line bytes ∷ rest
@@ -128,9 +125,9 @@ module _ (fixed : Fixed) (world : World) (story : Tale) (node : List ℕ) (front
       let is = takes_ok fixed.master (home_at world) world.links node bytes id rest node front.replica next standing.here frontend first reads_so own
       standing.placed in
       let here : Place = place.is_barred (barrier.answered is.table) in
-      let turned : Turned = ok_comes fixed.setting (ways_for fixed front.replica) conn connection id in
+      let turned : Turned = ok_comes fixed.setting (ways_for fixed node front.replica) conn connection id in
       subst (λ w. OpenStep fixed world story fixed.master node front conn inputs held connection w)
-      (sym (ok_comes_so bytes turned (delivers_ok fixed front conn connection bytes id before.setting_is before.master_is before.first_is (before.at).has own
+      (sym (ok_comes_so bytes turned (delivers_ok fixed node front conn connection bytes id before.setting_is before.master_is before.ways_is (before.at).has own
       reads_so)))
       (ok_by bytes id rest first reads_so own is.table is.over is.own is.has_all
       (subst (IsMarkedAt story.talk.moving world.marks next) is.here_is standing.marked)

@@ -149,7 +149,7 @@ module _ (fixed : Fixed) (world : World) (story : Tale) (from node : List ℕ) (
 
   -- it counts, as it comes from the server that was asked
   delivers_answer : (answer : BackAnswer) (tag : Tag) (it : WaitingFor) → (answer.id).conn ≡ conn → connection.stage ≡ Waits tag it → it.at ≡ Home from
-      → deliver front from (Answer answer) ≡ with_turned front conn (answer_comes fixed.setting (ways_for fixed front.replica) conn connection answer)
+      → deliver front from (Answer answer) ≡ with_turned front conn (answer_comes fixed.setting (ways_for fixed node front.replica) conn connection answer)
   unfolding deliver answer_from answer_at waits_for has_asked
   delivers_answer answer tag it own stage asked =
       let there : connection_at front (answer.id).conn ≡ Some connection = ap (connection_at front) own ∙ (before.at).has in
@@ -158,10 +158,7 @@ module _ (fixed : Fixed) (world : World) (story : Tale) (from node : List ℕ) (
       ap (λ b. answer_from b front answer) waits_so ∙ ap (answer_at front answer) there
       ∙ ap (λ c. with_turned front c (answer_comes front.setting (ways_of front) c connection answer)) own
       ∙ ap (λ (s : Setting). with_turned front conn (answer_comes s (ways_of front) conn connection answer)) before.setting_is
-      ∙ ap (λ (m : List ℕ). with_turned front conn (answer_comes fixed.setting (record { recs = (front.replica).records; master = m; first = front.first }) conn
-      connection answer)) before.master_is
-      ∙ ap (λ (f : List ℕ). with_turned front conn (answer_comes fixed.setting (record { recs = (front.replica).records; master = fixed.master; first = f })
-      conn connection answer)) before.first_is
+      ∙ ap (λ ways. with_turned front conn (answer_comes fixed.setting ways conn connection answer)) before.ways_is
 
   answer_comes_so : (answer : BackAnswer) (turned : Turned) → deliver front from (Answer answer) ≡ with_turned front conn turned
       → comes (taken_from_link world from node) node (From from (Answer answer))
@@ -178,7 +175,7 @@ module _ (fixed : Fixed) (world : World) (story : Tale) (from node : List ℕ) (
       let frontend = (before.may).frontend in
       let is = takes_answer fixed.master (home_at world) world.links from node answer rest node front.replica id standing.here frontend first own
       standing.placed in
-      let turned : Turned = answer_comes fixed.setting (ways_for fixed front.replica) conn connection answer in
+      let turned : Turned = answer_comes fixed.setting (ways_for fixed node front.replica) conn connection answer in
       let base : World = taken_from_link world from node in
       let here : Place = place.is_answered from answer in
       let waiting = answer_of fixed node conn inputs held connection (story.told conn) (story.talk.answers conn) (story.course.sessions conn) from answer
@@ -191,5 +188,5 @@ module _ (fixed : Fixed) (world : World) (story : Tale) (from node : List ℕ) (
       (inputs_may_come fixed world story node front conn inputs held connection before from)
       (may_send fixed world story node front conn inputs held connection before from (story.talk.answers conn) (story.course.sessions conn) here waiting)
       names)
-      (answer_reader fixed.setting (ways_for fixed front.replica) conn connection answer)
+      (answer_reader fixed.setting (ways_for fixed node front.replica) conn connection answer)
       (λ other ne. answer_stays fixed world from node answer rest other frontend first (λ e. ne (e ∙ own))))

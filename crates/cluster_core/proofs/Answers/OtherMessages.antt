@@ -9,7 +9,7 @@ use Rattle.feed_core.specs.declared.replica.Replica.{Replica}
 use Rattle.feed_links.proofs.Names.{other_name}
 use Rattle.feed_links.specs.Replicas.{hears}
 use Rattle.front_core.specs.declared.front.Front.{Front}
-use Rattle.front_core.specs.Front.{deliver, hearing, line_by, line_from, still, up_from}
+use Rattle.front_core.specs.Front.{deliver, hearing, line_by, line_from, still}
 use Rattle.imap_talk.specs.Heard.{Heard}
 use Rattle.link_msg.specs.declared.message.LinkMsg.{LinkMsg}
 use Rattle.link_msg.specs.declared.message.LinkMsg.TheVariants.{Up, End, Line, Ask, Answer}
@@ -63,7 +63,7 @@ module _ (config : Config) (heard : ℕ → Heard) (world : World) (law : KeepsL
         law = record {
           master = law.master;
           nodes = front_cores config world next law.master law.nodes to front later there (record { me = refl; master = refl; first = refl; setting = refl })
-              (moved_so replica);
+              refl (moved_so replica);
           whole = law.whole;
           story = law.story;
           given = law.given;
@@ -158,11 +158,6 @@ news_stand config heard world law to front bytes there taken none =
 
 -- ---- what changes nothing
 
-not_up : (front : Front) (same : Bool) → same ≡ false → up_from same front ≡ still front
-unfolding up_from
-not_up front false e = refl
-not_up front true e = cc
-
 not_line : (front : Front) (bytes : List ℕ) (same : Bool) → same ≡ false → line_from same front bytes ≡ still front
 unfolding line_from
 not_line front bytes false e = refl
@@ -170,8 +165,8 @@ not_line front bytes true e = cc
 
 pub idles : (front : Front) (from : List ℕ) (message : LinkMsg) → from ≢ front.master → IsIdle front.master from message → deliver front from message ≡ still front
 unfolding deliver
-idles front from Up ne idle = not_up front (pointwise nat_eq from front.master) (other_name from front.master ne)
-idles front from End ne idle = refl
+idles front from Up ne idle = absurd idle
+idles front from End ne idle = absurd idle
 idles front from (Ask ask) ne idle = refl
 idles front from (Line bytes) ne idle = not_line front bytes (pointwise nat_eq from front.master) (other_name from front.master ne)
 idles front from (Answer answer) ne idle = absurd idle

@@ -1,39 +1,79 @@
 -- What comes of an answer, or of the master's OK, leaves the reader of its connection as it was.
-use Rattle.std.proofs.Common.{◌≡◌, ℕ, Bool, true, false, refl}
+use Rattle.std.proofs.Common.{◌≡◌, ℕ, Bool, true, false, List, [], refl, ◌∙◌}
+use Rattle.asking_core.specs.Begins.{Begun, first_sent}
 use Rattle.asking_core.specs.declared.then.Then.{Then}
 use Rattle.asking_core.specs.declared.then.Then.TheVariants as then
 use Rattle.asking_core.specs.declared.waiting.At.{At}
 use Rattle.asking_core.specs.declared.waiting.At.TheVariants.{Home, Barrier}
+use Rattle.asking_core.specs.declared.waiting.Sent.{Sent}
 use Rattle.asking_core.specs.declared.waiting.Waiting.{Waiting}
 use Rattle.front_core.specs.declared.connection.Connection.{Connection}
 use Rattle.front_core.specs.declared.connection.Stage.{Stage}
 use Rattle.front_core.specs.declared.connection.Stage.TheVariants.{Reading, Waits, Lists, Ended}
-use Rattle.front_core.specs.Answered.{answer_by, answer_comes, by_then, clears_at, need_behind, ok_by, ok_comes, reading_again}
-use Rattle.front_core.specs.Taken.{Turned, Ways}
+use Rattle.front_core.specs.Answered.{answer_by, answer_comes, by_then, clears_at, need_behind, ok_by, ok_comes, reading_again, refused_behind, sends_if}
+use Rattle.front_core.specs.Answered.{waiting_come}
+use Rattle.front_core.specs.Taken.{Turned, Ways, asks, begins_if, lists, lists_if, next_of, to_begin, told_now}
+use Rattle.front_core.specs.Ups.{is_up}
 use Rattle.imap_types.specs.declared.command.Tag.{Tag}
 use Rattle.link_msg.specs.declared.answer.BackAnswer.{BackAnswer}
 use Rattle.link_msg.specs.declared.how.How.{How}
-use Rattle.link_msg.specs.declared.how.How.TheVariants.{Behind, Reserved}
+use Rattle.link_msg.specs.declared.how.How.TheVariants.{Behind}
 use Rattle.mur_base.specs.declared.point.AskId.{AskId}
+use Rattle.mur_base.specs.declared.point.What.TheVariants.{Unreached as unreached}
+use Rattle.mur_model.specs.declared.commands.list.Listing.{Listing}
 use Rattle.mur_model.specs.declared.need.Need.{Need}
 use Rattle.mur_model.specs.declared.need.Need.TheVariants as needs
 use Rattle.mur_model.specs.declared.setting.Setting.{Setting}
+use Rattle.session_core.specs.Relocated.{Refused, relocated}
 use Rattle.cluster_core.proofs.Connections.KeepsData.{inputs_keep_reader}
 
 abbrev pub KeepsReader : Connection → Turned → Type 0
 KeepsReader connection turned = turned.connection.reader ≡ connection.reader
 
+begins_reader : (up : Bool) (conn : ℕ) (connection : Connection) (tag : Tag) (begun : Begun) → KeepsReader connection (begins_if up conn connection tag begun)
+unfolding told_now
+begins_reader true conn connection tag begun = refl
+begins_reader false conn connection tag begun = refl
+
+lists_reader : (up : Bool) (master : List ℕ) (conn : ℕ) (connection : Connection) (tag : Tag) (it : Listing)
+    → KeepsReader connection (lists_if up master conn connection tag it)
+unfolding told_now
+lists_reader true master conn connection tag it = refl
+lists_reader false master conn connection tag it = refl
+
 module _ (setting : Setting) (ways : Ways) (conn : ℕ) where
+  -- the inputs that waited come
+  come_reader : (connection : Connection) (turned : Turned) → KeepsReader connection turned
+      → KeepsReader connection (waiting_come setting ways conn turned)
+  come_reader connection turned kept =
+      inputs_keep_reader setting ways conn (record turned.connection { waiting = [] }) turned.connection.waiting ∙ kept
+
   need_reader : (connection : Connection) (tag : Tag) (how : How) (need : Need) → KeepsReader connection (need_behind setting ways conn connection tag how need)
   need_reader connection tag how (needs.Reply reply) = inputs_keep_reader setting ways conn (reading_again connection) connection.waiting
   need_reader connection tag how (needs.Leave reply) = refl
-  need_reader connection tag how (needs.Home name asking) = refl
-  need_reader connection tag how (needs.Names it) = refl
+  need_reader connection tag how (needs.Home name asking) =
+      let reads : Connection = record connection { stage = Reading } in
+      let begun : Begun = first_sent ways.recs ways.master ways.first (next_of conn reads) reads.session (to_begin name asking) in
+      come_reader connection (asks ways conn reads tag name asking) (begins_reader (is_up ways.ups begun.sent.to) conn reads tag begun)
+  need_reader connection tag how (needs.Names it) =
+      let reads : Connection = record connection { stage = Reading } in
+      come_reader connection (lists ways conn reads tag it) (lists_reader (is_up ways.ups ways.master) ways.master conn reads tag it)
+
+  refused_reader : (connection : Connection) (tag : Tag) (refused : Refused) (node : List ℕ)
+      → KeepsReader connection (refused_behind setting ways conn connection tag refused node)
+  refused_reader connection tag refused node =
+      inputs_keep_reader setting ways conn (reading_again (record connection { session = refused.session })) connection.waiting
+
+  sends_reader : (up : Bool) (connection : Connection) (tag : Tag) (it : Waiting) (sent : Sent)
+      → KeepsReader connection (sends_if up setting ways conn connection tag it sent)
+  sends_reader true connection tag it sent = refl
+  sends_reader false connection tag it sent =
+      refused_reader connection tag (relocated connection.session it.asking.awaited (unreached sent.to)) sent.to
 
   then_reader : (connection : Connection) (tag : Tag) (it : Waiting) (what : Then) → KeepsReader connection (by_then setting ways conn connection tag it what)
-  then_reader connection tag it (then.Sends sent) = refl
+  then_reader connection tag it (then.Sends sent) = sends_reader (is_up ways.ups sent.to) connection tag it sent
   then_reader connection tag it (then.Needs need) = need_reader connection tag Behind need
-  then_reader connection tag it (then.Refused cause need) = need_reader connection tag Reserved need
+  then_reader connection tag it (then.Refused cause reply) = inputs_keep_reader setting ways conn (reading_again connection) connection.waiting
   then_reader connection tag it then.Lost = refl
   then_reader connection tag it then.Stays = refl
 

@@ -2,6 +2,7 @@
 use Rattle.std.proofs.Common.{◌≡◌, ◌≢◌, ℕ, ◌+◌, ◌<◌, ◌^◌, List, [], ◌∷◌, ◌++◌, length, Option, refl, sym, ◌∙◌, ap, subst, length-append, arith}
 use Rattle.front_core.specs.declared.connection.Connection.{Connection}
 use Rattle.front_core.specs.declared.front.Front.{Front}
+use Rattle.front_core.specs.Front.{ways_of}
 use Rattle.front_core.specs.Taken.{Turned, inputs_come}
 use Rattle.imap_talk.specs.Inputs.{requests_in}
 use Rattle.imap_talk.specs.declared.inputs.Input.{Input}
@@ -10,11 +11,12 @@ use Rattle.imap_talk.proofs.InputLaws.{requests-append}
 use Rattle.imap_talk.proofs.RequestsOf.{answered_lengths}
 use Rattle.imap_types.specs.declared.request.Answer.{Answer as AnswerOf}
 use Rattle.link_msg.specs.declared.out.Out.{Out}
-use Rattle.mark_history.specs.Marked.{AreMarked, Tale}
+use Rattle.mark_history.specs.Marked.{Tale}
 use Rattle.mur_model.specs.declared.session.Sess.{Sess}
 use Rattle.route_links.specs.Answered.{IsNumbered}
 use Rattle.cluster_core.specs.declared.world.World.{World}
 use Rattle.cluster_core.specs.World.{carry_all, home_at, taken_from_link}
+use Rattle.cluster_core.proofs.Commands.AllReached.{AreMarkedSo}
 use Rattle.cluster_core.proofs.Commands.Place.{Place}
 use Rattle.cluster_core.proofs.Commands.Standing.{Fixed, Waiting, next_id}
 use Rattle.cluster_core.proofs.Connections.ConnectionLaw.{IsMade, PlacesStay, StandsOn}
@@ -32,10 +34,10 @@ pub record IsBefore (fixed : Fixed) (world : World) (story : Tale) (node : List 
   pub at : IsAt world conn node front connection
   pub setting_is : front.setting ≡ fixed.setting
   pub master_is : front.master ≡ fixed.master
-  pub first_is : front.first ≡ fixed.first
+  pub ways_is : ways_of front ≡ ways_for fixed node front.replica
   pub may : MayAsk fixed (home_at world) node front.replica
   pub numbers : HasNumbersOf conn story
-  pub is_told : AreMarked fixed.setting world.steps world.marks story
+  pub is_told : AreMarkedSo fixed.setting world.steps world.marks story
   pub requests : story.talk.requests conn ≡ requests_in inputs
 
 -- WHAT THE STEP MAKES: the connection is so then, it let this out, and the tale is this one; the commands of all others are where they were
@@ -78,13 +80,14 @@ module _ (fixed : Fixed) (world : World) (story : Tale) (node : List ℕ) (front
       → Waiting fixed node conn inputs held connection (story.told conn) said session here → MaySend fixed node conn (taken_from_link world from node) story
   may_send said session here waiting = record {
     frontend = (before.may).frontend;
+    up = (before.may).up;
     is_numbered = waits_numbered fixed node conn inputs held connection story said session here waiting before.numbers before.requests;
   }
 
   -- the inputs that waited come behind it
   pub inputs_may_come : InputsCome fixed node front.replica conn inputs held (taken_from_link world from node) story
   inputs_may_come passed new later next parts last reads =
-      let behind : Turned = inputs_come fixed.setting (ways_for fixed front.replica) conn later new in
+      let behind : Turned = inputs_come fixed.setting (ways_for fixed node front.replica) conn later new in
       subst (λ (all : List Input). StandsOn fixed node front.replica conn all held behind.connection (taken_from_link world from node) story
       (carry_all node next behind.outs)) parts
       (inputs_kept fixed node front.replica conn new held (taken_from_link world from node) story (record { may = before.may; numbers = before.numbers }) last

@@ -6,8 +6,7 @@ use Rattle.imap_types.specs.declared.reply.NoText.TheVariants.{BeingMoved}
 use Rattle.imap_types.specs.declared.request.Answer.{Answer}
 use Rattle.link_msg.specs.declared.how.How.{How}
 use Rattle.link_msg.specs.declared.how.How.TheVariants.{Behind, Reserved}
-use Rattle.mark_history.specs.Marked.{AreMarked, CanRefuse, IsUntold, Tale, mark_now, refusing, telling}
-use Rattle.mark_history.specs.Marked.AreMarked.{refuses, tells}
+use Rattle.mark_history.specs.Marked.{CanRefuse, IsUntold, Tale, mark_now, refusing, telling}
 use Rattle.mark_history.specs.declared.mark.MarkKind.TheVariants.{Told}
 use Rattle.mark_history.proofs.TakenBack.{list_at, list_elsewhere}
 use Rattle.mur_model.specs.declared.session.Sess.{Sess}
@@ -16,6 +15,7 @@ use Rattle.mur_model.specs.Act.{session_after}
 use Rattle.mur_model.specs.Relocation.{refused_for}
 use Rattle.mur_model.proofs.HistoryGrows.{same_lists}
 use Rattle.cluster_core.specs.declared.world.World.{World}
+use Rattle.cluster_core.proofs.Commands.AllReached.{AreMarkedSo, refuses, tells}
 use Rattle.cluster_core.proofs.Connections.ConnectionLaw.{GoesOnAt, session_at, session_of_other}
 use Rattle.cluster_core.proofs.Connections.Tales.{list_more}
 
@@ -27,10 +27,10 @@ pub record IsTold (setting : Setting) (world : World) (story : Tale) (conn : ℕ
   pub told : later.told conn ≡ story.told conn ++ answer ∷ []
   pub said : later.talk.answers conn ≡ story.told conn ++ answer ∷ []
   pub session_is : later.course.sessions conn ≡ session
-  pub is_told : AreMarked setting world.steps (world.marks ++ mark_now world.steps story conn (Told how) ∷ []) later
+  pub is_told : AreMarkedSo setting world.steps (world.marks ++ mark_now world.steps story conn (Told how) ∷ []) later
 
 -- the store gave it
-pub behind_told : (setting : Setting) (world : World) (story : Tale) (conn : ℕ) (answer : Answer) → AreMarked setting world.steps world.marks story
+pub behind_told : (setting : Setting) (world : World) (story : Tale) (conn : ℕ) (answer : Answer) → AreMarkedSo setting world.steps world.marks story
     → IsUntold story conn answer → IsTold setting world story conn Behind answer (story.course.sessions conn)
 behind_told setting world story conn answer marked untold = record {
   later = telling story conn answer;
@@ -61,13 +61,13 @@ abbrev pub refusal_session : Tale → ℕ → Command → Sess
 refusal_session story conn it = session_after (story.course.sessions conn) (refused_for (story.course.sessions conn) it BeingMoved).session
 
 -- it is a refusal, since its mailbox is being moved
-pub refusal_told : (setting : Setting) (world : World) (story : Tale) (conn : ℕ) (tag : Tag) (it : Command) → AreMarked setting world.steps world.marks story
+pub refusal_told : (setting : Setting) (world : World) (story : Tale) (conn : ℕ) (tag : Tag) (it : Command) → AreMarkedSo setting world.steps world.marks story
     → CanRefuse setting world.marks story conn tag it
     → IsTold setting world story conn Reserved (refusal_answer story conn tag it) (refusal_session story conn it)
 refusal_told setting world story conn tag it marked can =
     let answer : Answer = refusal_answer story conn tag it in
     record {
-      later = telling (refusing story conn tag it 0) conn answer;
+      later = telling (refusing story conn tag it BeingMoved 0) conn answer;
       goes_on = record {
         requests = refl;
         said = λ other ne. list_elsewhere story.talk.answers conn (story.told conn ++ answer ∷ []) other ne;

@@ -9,15 +9,19 @@ use Rattle.ask_routes.specs.declared.next.Next.{Next}
 use Rattle.ask_routes.specs.declared.next.Next.TheVariants as next
 use Rattle.ask_routes.specs.declared.next.Why.{Why}
 use Rattle.asking_core.specs.Answered.{answered, goes_on, refused, told, told_in}
-use Rattle.asking_core.specs.Begins.{ask_of, at_server, first_by, first_sent}
+use Rattle.asking_core.specs.Begins.{Begun, ask_of, at_server, first_by, first_sent}
 use Rattle.asking_core.specs.Cleared.{cleared}
 use Rattle.asking_core.specs.declared.waiting.At.{At}
 use Rattle.asking_core.specs.declared.waiting.At.TheVariants.{Home, Barrier}
+use Rattle.asking_core.specs.declared.waiting.Sent.{Sent}
 use Rattle.asking_core.specs.declared.waiting.Waiting.{Waiting}
-use Rattle.front_core.specs.Answered.{answer_by, answer_comes, clears_at, ends_with, goes_on_by, need_behind, ok_by, ok_comes, reading_again, reads_on, told_so, unchanged}
+use Rattle.front_core.specs.Answered.{answer_by, answer_comes, clears_at, ends_with, goes_on_by, how_for, need_behind, ok_by, ok_comes, reading_again, reads_on, sends_if}
+use Rattle.front_core.specs.Answered.{told_so, unchanged}
 use Rattle.front_core.specs.Front.{hung_up}
 use Rattle.front_core.specs.Stages.{asks_at, has_asked}
-use Rattle.front_core.specs.Taken.{Turned, Ways, answers_last, answers_now, asks, begins_with, behind_outs, input_in, inputs_come, lists, next_of, request_in, to_begin, turned_by_need}
+use Rattle.front_core.specs.Taken.{Turned, Ways, answers_last, asks, begins_if, behind_outs, input_in, inputs_come, lists, lists_if, next_of, request_in, says_bye}
+use Rattle.front_core.specs.Taken.{to_begin, told_now, turned_by_need, waits_with}
+use Rattle.front_core.specs.Ups.{is_up}
 use Rattle.front_core.specs.declared.connection.Connection.{Connection}
 use Rattle.front_core.specs.declared.connection.Stage.{Stage}
 use Rattle.front_core.specs.declared.connection.Stage.TheVariants.{Reading, Waits, Lists, Ended}
@@ -25,6 +29,7 @@ use Rattle.front_core.proofs.FramesLaws.{HoldsBack, ended_drops, held_back, read
 use Rattle.imap_talk.specs.declared.inputs.Input.{Input}
 use Rattle.imap_talk.specs.declared.inputs.Input.TheVariants.{GoesOn as goes_on_line, Asks, Faults}
 use Rattle.imap_types.specs.declared.command.Tag.{Tag}
+use Rattle.imap_types.specs.declared.reply.Bye.TheVariants.{Lost}
 use Rattle.imap_types.specs.declared.reply.Reply.{Reply}
 use Rattle.imap_types.specs.declared.request.Request.{Request}
 use Rattle.imap_types.specs.declared.request.Request.TheVariants.{Command as a_command, Unknown as unknown, TooBig as too_big}
@@ -32,7 +37,7 @@ use Rattle.link_msg.specs.declared.answer.AnswerBody.{AnswerBody}
 use Rattle.link_msg.specs.declared.answer.AnswerBody.TheVariants as answer_body
 use Rattle.link_msg.specs.declared.answer.BackAnswer.{BackAnswer}
 use Rattle.link_msg.specs.declared.how.How.{How}
-use Rattle.link_msg.specs.declared.how.How.TheVariants.{Behind, Reserved}
+use Rattle.link_msg.specs.declared.how.How.TheVariants.{Behind, Here, Unreached}
 use Rattle.link_msg.specs.declared.message.LinkMsg.TheVariants.{Ask}
 use Rattle.link_msg.specs.declared.out.Out.{Out}
 use Rattle.link_msg.specs.declared.out.Out.TheVariants.{Link}
@@ -52,7 +57,7 @@ use Rattle.mur_model.specs.declared.setting.Setting.{Setting}
 use Rattle.session_core.specs.Begin.{begin}
 use Rattle.session_core.specs.Finish.{finished_by, turn_of}
 use Rattle.session_core.specs.Need.{told_reply}
-use Rattle.session_core.specs.Relocated.{moved_turn, why_moved}
+use Rattle.session_core.specs.Relocated.{relocated}
 use Rattle.session_core.specs.declared.result.OpResult.{OpResult}
 use Rattle.session_core.specs.declared.result.OpResult.TheVariants.{Done, Missing}
 use Rattle.cluster_core.specs.Headline.AsksOnce.{is_ask_of}
@@ -143,8 +148,12 @@ module _ (ways : Ways) (conn : ℕ) where
 
   -- ---- a command begins
 
+  -- what goes out
+  abbrev begun_by : Connection → Sess → Waiting → Next → Begun
+  begun_by c session it found = first_by ways.master (next_of conn c) session it found
+
   begins_by : (c : Connection) (tag : Tag) (session : Sess) (it : Waiting) (found : Next)
-      → Asked conn c (begins_with c tag (first_by ways.master (next_of conn c) session it found))
+      → Asked conn c (waits_with c tag (begun_by c session it found).waiting (begun_by c session it found).sent)
   unfolding has_asked
   begins_by c tag session it (next.Ask server) = record {
     count = λ id other. count_one (is_asking id other) (Link server (Ask (ask_of (next_of conn c) session it)));
@@ -154,16 +163,30 @@ module _ (ways : Ways) (conn : ℕ) where
   begins_by c tag session it next.Missing = silent c _ (λ id other. refl) (λ other. refl) (omega arith)
   begins_by c tag session it next.Refused = silent c _ (λ id other. refl) (λ other. refl) (omega arith)
 
-  asks_so : (c : Connection) (tag : Tag) (name : List ℕ) (asking : Asking) → Asked conn c (asks ways conn c tag name asking)
+  now_so : (how : How) (c : Connection) (session : Sess) (tag : Tag) (reply : Reply) → c.stage ≡ Reading → Asked conn c (told_now how conn c session tag reply)
+  unfolding told_now
+  now_so how c session tag reply reads = silent c _ (λ id server. refl) (λ server. reads_none c.stage server reads) (omega arith)
+
+  -- where the link is up
+  begins_so : (up : Bool) (c : Connection) (tag : Tag) (session : Sess) (it : Waiting) (found : Next) → c.stage ≡ Reading
+      → Asked conn c (begins_if up conn c tag (begun_by c session it found))
+  begins_so true c tag session it found reads = begins_by c tag session it found
+  begins_so false c tag session it found reads = now_so _ c _ tag _ reads
+
+  asks_so : (c : Connection) (tag : Tag) (name : List ℕ) (asking : Asking) → c.stage ≡ Reading → Asked conn c (asks ways conn c tag name asking)
   unfolding first_sent
-  asks_so c tag name asking = begins_by c tag c.session (to_begin name asking) (first_step ways.recs ways.first (ask_for name asking.op))
+  asks_so c tag name asking reads =
+      let it : Waiting = to_begin name asking in
+      let found : Next = first_step ways.recs ways.first (ask_for name asking.op) in
+      begins_so (is_up ways.ups (begun_by c c.session it found).sent.to) c tag c.session it found reads
 
-  lists_so : (c : Connection) (tag : Tag) (listing : Listing) → Asked conn c (lists ways conn c tag listing)
-  lists_so c tag listing = silent c _ (λ id server. refl) (λ server. lists_none tag listing server) (omega arith)
+  begin_lists_so : (up : Bool) (c : Connection) (tag : Tag) (listing : Listing) → c.stage ≡ Reading
+      → Asked conn c (lists_if up ways.master conn c tag listing)
+  begin_lists_so true c tag listing reads = silent c _ (λ id server. refl) (λ server. lists_none tag listing server) (omega arith)
+  begin_lists_so false c tag listing reads = now_so _ c _ tag _ reads
 
-  now_so : (c : Connection) (session : Sess) (tag : Tag) (reply : Reply) → c.stage ≡ Reading → Asked conn c (answers_now conn c session tag reply)
-  unfolding answers_now
-  now_so c session tag reply reads = silent c _ (λ id server. refl) (λ server. reads_none c.stage server reads) (omega arith)
+  lists_so : (c : Connection) (tag : Tag) (listing : Listing) → c.stage ≡ Reading → Asked conn c (lists ways conn c tag listing)
+  lists_so c tag listing reads = begin_lists_so (is_up ways.ups ways.master) c tag listing reads
 
   last_so : (c : Connection) (tag : Tag) (reply : Reply) → Asked conn c (answers_last conn c tag reply)
   unfolding answers_last
@@ -175,10 +198,10 @@ module _ (ways : Ways) (conn : ℕ) where
 
   need_so : (c : Connection) (tag : Tag) (need : Need) → c.stage ≡ Reading → Asked conn c (turned_by_need ways conn c tag need)
   unfolding turned_by_need
-  need_so c tag (needs.Reply reply) reads = now_so c c.session tag reply reads
+  need_so c tag (needs.Reply reply) reads = now_so Here c c.session tag reply reads
   need_so c tag (needs.Leave reply) reads = last_so c tag reply
-  need_so c tag (needs.Home name asking) reads = asks_so c tag name asking
-  need_so c tag (needs.Names listing) reads = lists_so c tag listing
+  need_so c tag (needs.Home name asking) reads = asks_so c tag name asking reads
+  need_so c tag (needs.Names listing) reads = lists_so c tag listing reads
 
   module _ (setting : Setting) where
     request_so : (c : Connection) (request : Request) → c.stage ≡ Reading → Asked conn c (request_in setting ways conn c request)
@@ -186,8 +209,8 @@ module _ (ways : Ways) (conn : ℕ) where
     request_so c (a_command tag it) reads =
         let behind = begin setting c.session it in
         in_session c behind.session _ (need_so (record c { session = behind.session }) tag behind.need reads)
-    request_so c (unknown tag) reads = now_so c c.session tag _ reads
-    request_so c (too_big tag) reads = now_so c c.session tag _ reads
+    request_so c (unknown tag) reads = now_so Here c c.session tag _ reads
+    request_so c (too_big tag) reads = now_so Here c c.session tag _ reads
 
     input_so : (c : Connection) (input : Input) → c.stage ≡ Reading → Asked conn c (input_in setting ways conn c input)
     unfolding input_in
@@ -305,15 +328,30 @@ module _ (ways : Ways) (conn : ℕ) where
       refused_goes : (c : Connection) (tag : Tag) (it : Waiting) (cause : What)
           → GoesOn conn moved c (goes_on_by setting ways conn c tag (refused c.session it cause))
       refused_goes c tag it cause =
-          let turn : Turn = moved_turn it.asking.awaited (why_moved cause) in
-          let session : Sess = (told_reply c.session turn.reply turn.session).session in
-          as_before c session _ (told_goes (record c { session = session }) tag Reserved c.session turn.reply turn.session)
+          let session : Sess = (relocated c.session it.asking.awaited cause).session in
+          as_before c session _ (reads_on_so (record c { session = session }) (how_for cause) _)
+
+      -- its connection ends
+      bye_goes : (c : Connection) (session : Sess) → GoesOn conn moved c (says_bye conn (record c { session = session }) Lost)
+      bye_goes c session =
+          waits_not c _ (silent c _ (λ id server. refl) (λ server. ended_none Ended server refl) (omega arith)) (λ server. ended_none Ended server refl)
+
+      -- a message goes out for it, where the link is up
+      sends_goes : (up : Bool) (c : Connection) (tag : Tag) (it : Waiting) (sent : Sent) → GoesOn conn moved c (waits_with c tag it sent)
+          → GoesOn conn moved c (sends_if up setting ways conn c tag it sent)
+      sends_goes true c tag it sent goes = goes
+      sends_goes false c tag it sent goes =
+          let session : Sess = (relocated c.session it.asking.awaited (what.Unreached sent.to)).session in
+          as_before c session _ (reads_on_so (record c { session = session }) (Unreached sent.to) _)
 
       -- the master is asked
       barrier_goes : (c : Connection) (tag : Tag) (it : Waiting) (why : Why)
           → GoesOn conn moved c (goes_on_by setting ways conn c tag (goes_on ways.master (next_of conn c) c.session it (next.Barrier why)))
       unfolding has_asked
-      barrier_goes c tag it why = waits_not c _ (begins_by c tag c.session it (next.Barrier why)) (λ server. refl)
+      barrier_goes c tag it why =
+          let begun : Begun = begun_by c c.session it (next.Barrier why) in
+          sends_goes (is_up ways.ups begun.sent.to) c tag begun.waiting begun.sent
+          (waits_not c _ (begins_by c tag c.session it (next.Barrier why)) (λ server. refl))
 
       -- a server is asked
       server_goes : (c : Connection) (tag : Tag) (it : Waiting) (asked : List ℕ)
@@ -321,9 +359,11 @@ module _ (ways : Ways) (conn : ℕ) where
           → GoesOn conn moved c (goes_on_by setting ways conn c tag (goes_on ways.master (next_of conn c) c.session it (next.Ask asked)))
       unfolding has_asked
       server_goes c tag it asked told =
-          anew (begins_by c tag c.session it (next.Ask asked))
+          let begun : Begun = begun_by c c.session it (next.Ask asked) in
+          sends_goes (is_up ways.ups begun.sent.to) c tag begun.waiting begun.sent
+          (anew (begins_by c tag c.session it (next.Ask asked))
           (λ id server was is.
-          told id server was (same_text asked server (sym (its_server conn (record c { stage = Waits tag (at_server it asked) }) id server is))))
+          told id server was (same_text asked server (sym (its_server conn (record c { stage = Waits tag (at_server it asked) }) id server is)))))
 
       -- ---- behind the master's OK
 
@@ -416,9 +456,7 @@ module _ (ways : Ways) (conn : ℕ) where
           result_goes (SaysMoved from answer) c tag it (Done outcome seen)
           (λ id server was told. (let no : answer_body.Done outcome seen ≡ answer_body.Moved server = sym body ∙ ap (λ (a : BackAnswer). a.body) told.1 in cc))
       answered_goes c tag it (answer_body.Unreached node) body own stage asked = refused_goes (SaysMoved from answer) c tag it (what.Unreached node)
-      answered_goes c tag it answer_body.Lost body own stage asked =
-          stays_so (SaysMoved from answer) c c.session
-          (λ id server was told. (let no : answer_body.Lost ≡ answer_body.Moved server = sym body ∙ ap (λ (a : BackAnswer). a.body) told.1 in cc))
+      answered_goes c tag it answer_body.Lost body own stage asked = bye_goes (SaysMoved from answer) c c.session
 
       answer_goes_by : (c : Connection) (fits : Bool) (stage : Stage) → (answer.id).conn ≡ conn → (answer.id).command == c.answered + 1 ≡ fits
           → c.stage ≡ stage → has_asked c.stage from ≡ true → GoesOn conn (SaysMoved from answer) c (answer_by setting ways conn c answer fits stage)

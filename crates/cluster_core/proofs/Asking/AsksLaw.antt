@@ -1,6 +1,7 @@
 -- In each step of a run an ask is one of a frontend, to the server to which its records send it, and a line of a frontend goes to the master, rightly.
 use Rattle.std.proofs.Common.{◌≡◌, ◌≢◌, ℕ, Bool, true, false, cond, List, [], ◌∷◌, ◌++◌, Option, None, Some, refl, sym, ◌∙◌, ap, subst, All, append_assoc}
 use Rattle.std.specs.Prelude.{slice_get}
+use Rattle.std.specs.List.{AllByRecursion}
 use Rattle.std.specs.Ordering.{nat_cmp}
 use Rattle.std.specs.Cmp.Lexicographic.{slice_cmp}
 use Rattle.std.proofs.lemmas.List.{append-nil, append_cancel_left}
@@ -34,12 +35,12 @@ use Rattle.cluster_core.specs.declared.world.World.{World}
 use Rattle.cluster_core.specs.Flow.{run_steps, steps_of_run}
 use Rattle.cluster_core.specs.Headline.Asks.{AsksByRecords, AsksRightly, IsFirstBackend, IsRightlySent, taken_by}
 use Rattle.cluster_core.specs.Headline.OneNode.{leaves_on, node_of, worker}
-use Rattle.cluster_core.specs.World.{backends_of, carry, carry_all, client_at, client_does, comes_to, deliver_first, front_at, home_of, node_at, not_lost, opens, or_backend, start, stepped, steps_by, taken_from_link, takes, with_client, with_state}
+use Rattle.cluster_core.specs.World.{backends_of, carry, carry_all, client_at, client_does, comes_to, deliver_first, front_at, home_of, node_at, not_lost, opens, or_backend, start, stepped, steps_by, taken_from_link, takes, with_client, with_acted}
 use Rattle.cluster_core.proofs.Asking.NodeAsks.{KnowsFirst, MovesNobody, node_asks, taken_in}
 use Rattle.cluster_core.proofs.Runs.NeverMoved.{WorldIsQuiet, given_links, never_moved, quiet_moves_none}
 use Rattle.cluster_core.proofs.Runs.NotLost.{let_left}
 use Rattle.cluster_core.proofs.Runs.OneNodeLaw.{carry_all_sends, nothing_first, one_more_step, same_worker}
-use Rattle.cluster_core.proofs.Runs.QuietNodes.{AnyClient}
+use Rattle.cluster_core.proofs.Runs.QuietNodes.{AnyClient, IsQuiet}
 use Rattle.cluster_core.proofs.Starts.Kinds.{first_backend}
 
 -- ---- what outputs put on a link
@@ -106,7 +107,7 @@ module _ (nodes : List Node) where
   acted_at world node was input there =
       let now = (node_takes was input).state in
       ap (λ n. as_front (value_at (slice_cmp nat_cmp) n node))
-      (carry_all_sends node (with_state world node now) (not_lost world.broken node (node_takes was input).outs)).nodes
+      (carry_all_sends node (with_acted world node (node_takes was input)) (not_lost world.broken node (node_takes was input).outs)).nodes
       ∙ ap as_front (value_at-with_value (slice_cmp nat_cmp) names_apart world.nodes node now was there)
 
   comes_rightly : (world : World) (node server : List ℕ) (input : NodeInput) (found : Option NodeState) → node_at world node ≡ found
@@ -118,7 +119,7 @@ module _ (nodes : List Node) where
       let may = IsRightlySent nodes (taken_in input) (as_front (Some (node_takes it input).state)) in
       subst (λ f. HasSent (IsRightlySent nodes (taken_in input) f server) (on_link world.links node server)
       (on_link (comes_to world node input (Some it)).links node server)) (sym (acted_at world node it input there))
-      (carry_all_goes may (MayMark it) node server (with_state world node (node_takes it input).state)
+      (carry_all_goes may (MayMark it) node server (with_acted world node (node_takes it input))
       (not_lost world.broken node (node_takes it input).outs)
       (let_left AnyClient may (MayMark it) world.broken node (node_takes it input).outs (node_asks nodes it input (know node it there) none)))
 
@@ -144,7 +145,7 @@ module _ (nodes : List Node) where
       → WorldIsQuiet world → MovesNobody (From from message)
   moved_to_none world from to (Answer answer) rest e quiet = λ server moved. quiet_moves_none world from to answer rest server quiet e moved
   moved_to_none world from to Up rest e quiet = tt
-  moved_to_none world from to End rest e quiet = tt
+  moved_to_none world from to End rest e quiet = (subst (AllByRecursion IsQuiet) e (quiet.links from to)).0
   moved_to_none world from to (Line line) rest e quiet = tt
   moved_to_none world from to (Ask ask) rest e quiet = tt
 

@@ -10,7 +10,7 @@ use Rattle.asking_core.specs.declared.waiting.At.TheVariants.{Home, Barrier}
 use Rattle.asking_core.specs.declared.waiting.Waiting.{Waiting}
 use Rattle.feed_links.proofs.Names.{same_name}
 use Rattle.front_core.specs.Ended.{released, released_at}
-use Rattle.front_core.specs.Front.{Stepped, answer_at, answer_from, bytes_by, bytes_in, connect, connect_at, connection_at, deliver, front_bytes_at, front_hang_at, hang, having_read, hung_up, line_by, line_from, ok_at, still, up_from, waits_for, ways_of, with_turned}
+use Rattle.front_core.specs.Front.{Stepped, answer_at, answer_from, bytes_by, bytes_in, connect, connect_at, connection_at, deliver, front_bytes_at, front_hang_at, hang, having_read, hung_up, line_by, line_from, ok_at, still, up_from, waits_for, ways_of, with_turned, with_up}
 use Rattle.front_core.specs.Reading.{inputs_of_more}
 use Rattle.front_core.specs.Slots.{new_connection}
 use Rattle.front_core.specs.Stages.{asks_at, has_asked}
@@ -358,12 +358,12 @@ module _ (front : Front) where
     answer_asks true e = answer_at_asks (connection_at front (answer.id).conn) refl e
     answer_asks false e = still_asking came front (stranger e)
 
-  -- another message
+  -- another message, but that a link ended
   module _ (from : List ℕ) (message : LinkMsg) (none : (id : AskId) (server : List ℕ) → IsMoved (From from message) id server → ⊥) where
-    up_asks : (is_master : Bool) → FrontAsks (From from message) front (up_from is_master front)
+    up_asks : (is_master : Bool) → FrontAsks (From from message) front (up_from is_master (with_up front from))
     unfolding up_from
     up_asks true = stays_asking (From from message) front _ _ (λ conn. refl) (λ id server. refl) (none_moved (From from message) none)
-    up_asks false = still_asking (From from message) front (none_moved (From from message) none)
+    up_asks false = stays_asking (From from message) front _ _ (λ conn. refl) (λ id server. refl) (none_moved (From from message) none)
 
     ok_asks : (id : AskId) (found : Option Connection) → connection_at front id.conn ≡ found → FrontAsks (From from message) front (ok_at front id found)
     unfolding ok_at
@@ -384,10 +384,10 @@ module _ (front : Front) where
     still_so : FrontAsks (From from message) front (still front)
     still_so = still_asking (From from message) front (none_moved (From from message) none)
 
-  pub message_asks : (from : List ℕ) (message : LinkMsg) → FrontAsks (From from message) front (deliver front from message)
+  pub message_asks : (from : List ℕ) (message : LinkMsg) → message ≢ End → FrontAsks (From from message) front (deliver front from message)
   unfolding deliver
-  message_asks from (Answer answer) = answer_asks from answer (waits_for (connection_at front (answer.id).conn) from) refl
-  message_asks from Up = up_asks from Up (λ id server is. cc) (pointwise nat_eq from front.master)
-  message_asks from End = still_so from End (λ id server is. cc)
-  message_asks from (Line line) = line_asks from (Line line) (λ id server is. cc) line (pointwise nat_eq from front.master)
-  message_asks from (Ask ask) = still_so from (Ask ask) (λ id server is. cc)
+  message_asks from (Answer answer) other = answer_asks from answer (waits_for (connection_at front (answer.id).conn) from) refl
+  message_asks from Up other = up_asks from Up (λ id server is. cc) (pointwise nat_eq from front.master)
+  message_asks from End other = absurd (other refl)
+  message_asks from (Line line) other = line_asks from (Line line) (λ id server is. cc) line (pointwise nat_eq from front.master)
+  message_asks from (Ask ask) other = still_so from (Ask ask) (λ id server is. cc)

@@ -1,6 +1,6 @@
 -- What a node lets out in a step: an ask is one of a frontend, to the server to which its records send it, and a line of a frontend goes to the master,
 -- rightly.
-use Rattle.std.proofs.Common.{◌≡◌, ◌⊎◌, inl, inr, ℕ, nat_eq, Bool, true, false, List, [], ◌∷◌, Option, None, Some, refl, sym, subst, ◌∙◌}
+use Rattle.std.proofs.Common.{◌≡◌, ◌≢◌, ◌⊎◌, inl, inr, ℕ, nat_eq, Bool, true, false, List, [], ◌∷◌, Option, None, Some, refl, sym, subst, ◌∙◌}
 use Rattle.std.specs.Prelude.{⊤}
 use Rattle.std.specs.List.{AllByRecursion}
 use Rattle.std.specs.Cmp.Lexicographic.{pointwise}
@@ -14,7 +14,7 @@ use Rattle.feed_core.specs.declared.rec.Rec.{Rec}
 use Rattle.feed_core.specs.declared.replica.Replica.{Replica}
 use Rattle.feed_core.proofs.RoutesLaw.{found_nearest}
 use Rattle.front_core.specs.declared.front.Front.{Front}
-use Rattle.front_core.specs.Front.{Stepped, bytes_in, connect, connection_at, deliver, line_by, line_from, up_from, waits_for, ways_of}
+use Rattle.front_core.specs.Front.{Stepped, bytes_in, connect, connection_at, deliver, line_by, line_from, up_from, waits_for, ways_of, with_up}
 use Rattle.front_core.proofs.OwnOuts.{AreLetOut, IsLetOut, MayAsk, MovesBy, bytes_own, connect_own, message_own}
 use Rattle.imap_types.specs.declared.op.Op.TheVariants.{Create}
 use Rattle.link_msg.specs.declared.answer.AnswerBody.TheVariants.{Moved}
@@ -36,7 +36,7 @@ use Rattle.node_step.proofs.OwnOuts.{ComesFrom, MayMark, takes_lets}
 use Rattle.cluster_core.specs.Headline.Asks.{IsFirstBackend, IsRightLine, IsRightlyAsked, IsRightlySent}
 use Rattle.cluster_core.specs.Headline.Asks.IsRightlyAsked.{by_record, by_name_above, by_no_name}
 use Rattle.cluster_core.proofs.Asking.Noops.{MaySay, bytes_say, connect_says, message_says}
-use Rattle.cluster_core.proofs.Nodes.Known.{answer_known, bytes_known, ok_known}
+use Rattle.cluster_core.proofs.Nodes.Known.{answer_known, bytes_known, ends_known, ok_known}
 use Rattle.cluster_core.proofs.Runs.QuietNodes.{AnyClient, any_connections, any_watchers}
 
 -- ---- by the records of a frontend
@@ -78,17 +78,25 @@ may_ask_by nodes front now is same = record {
 
 -- ---- a frontend
 
--- a message sends no command on
+-- a message sends no command on, and tells of no link that ended
 abbrev pub MovesNobody : NodeInput → Type 0
 MovesNobody (From name (Answer answer)) = (server : List ℕ) → answer.body ≡ Moved server → ⊥
+MovesNobody (From name End) = ⊥
 MovesNobody input = ⊤
 
 moves_none : (may : List ℕ → LinkMsg → Type 0) (name : List ℕ) (message : LinkMsg) → MovesNobody (From name message) → MovesBy may message
 moves_none may name (Answer answer) none = λ server e. absurd (none server e)
 moves_none may name Up none = tt
-moves_none may name End none = tt
+moves_none may name End none = absurd none
 moves_none may name (Line line) none = tt
 moves_none may name (Ask ask) none = tt
+
+no_end : (name : List ℕ) (message : LinkMsg) → MovesNobody (From name message) → message ≢ End
+no_end name (Answer answer) none e = cc
+no_end name Up none e = cc
+no_end name End none e = none
+no_end name (Line line) none e = cc
+no_end name (Ask ask) none e = cc
 
 module _ (nodes : List Node) (front : Front) where
   -- it sends no ask, whatever its replica is then
@@ -99,10 +107,10 @@ module _ (nodes : List Node) (front : Front) where
   abbrev StaysOrIsSilent : Stepped → Type 0
   StaysOrIsSilent stepped = (stepped.front.replica ≡ front.replica) ⊎ AsksNobody stepped.outs
 
-  up_silent : (is_master : Bool) → StaysOrIsSilent (up_from is_master front)
+  up_silent : (from : List ℕ) (is_master : Bool) → StaysOrIsSilent (up_from is_master (with_up front from))
   unfolding up_from
-  up_silent true = inr (λ now. (tt, tt))
-  up_silent false = inl refl
+  up_silent from true = inr (λ now. (tt, tt))
+  up_silent from false = inl refl
 
   line_silent_by : (bytes : List ℕ) (found : Option AskId) → StaysOrIsSilent (line_by front bytes found)
   line_silent_by bytes None = inr (λ now. tt)
@@ -116,8 +124,8 @@ module _ (nodes : List Node) (front : Front) where
   message_silent : (from : List ℕ) (message : LinkMsg) → StaysOrIsSilent (deliver front from message)
   unfolding deliver
   message_silent from (Answer answer) = inl (answer_known front answer (waits_for (connection_at front (answer.id).conn) from)).replica
-  message_silent from Up = up_silent (pointwise nat_eq from front.master)
-  message_silent from End = inl refl
+  message_silent from Up = up_silent from (pointwise nat_eq from front.master)
+  message_silent from End = inl (ends_known front from).replica
   message_silent from (Line line) = line_silent line (pointwise nat_eq from front.master)
   message_silent from (Ask ask) = inl refl
 
@@ -166,7 +174,7 @@ front_asks nodes front (Piece conn bytes) is none =
     (bytes_say None front conn bytes)
 front_asks nodes front (Hung conn) is none = tt
 front_asks nodes front (From name message) is none =
-    all_joined nodes (Some message) _ (deliver front name message).outs (message_asks nodes front name message is none) (message_says front name message)
+    all_joined nodes (Some message) _ (deliver front name message).outs (message_asks nodes front name message is none) (message_says front name message (no_end name message none))
 
 -- ---- a backend and the master ask nobody
 

@@ -14,21 +14,24 @@ use Rattle.ask_routes.specs.declared.next.Why.{Why}
 use Rattle.ask_routes.specs.declared.next.Why.TheVariants.{Missing}
 use Rattle.ask_routes.proofs.WayLaw.{each_behind}
 use Rattle.asking_core.specs.Answered.{answered, goes_on, needs_by}
-use Rattle.asking_core.specs.Begins.{at_barrier, first_by, first_sent}
+use Rattle.asking_core.specs.Begins.{Begun, at_barrier, first_by, first_sent}
 use Rattle.asking_core.specs.Cleared.{cleared}
 use Rattle.asking_core.specs.declared.then.Then.{Then}
 use Rattle.asking_core.specs.declared.then.Then.TheVariants as then
 use Rattle.asking_core.specs.declared.waiting.At.{At}
 use Rattle.asking_core.specs.declared.waiting.At.TheVariants.{Home, Barrier}
+use Rattle.asking_core.specs.declared.waiting.Sent.{Sent}
 use Rattle.asking_core.specs.declared.waiting.Waiting.{Waiting}
 use Rattle.feed_core.specs.Feed.{rec_at}
 use Rattle.feed_core.specs.Routes.{server_by}
 use Rattle.feed_core.specs.declared.rec.Rec.{Rec}
-use Rattle.front_core.specs.Answered.{answer_by, answer_comes, by_then, clears_at, need_behind, ok_by, ok_comes, reading_again}
+use Rattle.front_core.specs.Answered.{answer_by, answer_comes, by_then, clears_at, need_behind, ok_by, ok_comes, reading_again, refused_behind, sends_if, waiting_come}
 use Rattle.front_core.specs.Ended.{released, released_at}
-use Rattle.front_core.specs.Front.{Stepped, answer_at, answer_from, bytes_by, bytes_in, connect, connect_at, connection_at, deliver, front_bytes_at, having_read, line_by, line_from, ok_at, up_from, waits_for, ways_of, with_turned}
+use Rattle.front_core.specs.Front.{Stepped, answer_at, answer_from, bytes_by, bytes_in, connect, connect_at, connection_at, deliver, front_bytes_at, having_read, line_by, line_from, ok_at, up_from, waits_for, ways_of, with_turned, with_up}
 use Rattle.front_core.specs.Reading.{inputs_of_more}
-use Rattle.front_core.specs.Taken.{Turned, Ways, answers_last, answers_now, asks, comes_at, input_comes, input_in, inputs_come, lists, next_of, request_in, to_begin, turned_by_need}
+use Rattle.front_core.specs.Taken.{Turned, Ways, answers_last, asks, begins_if, comes_at, input_comes, input_in, inputs_come, lists, lists_if, next_of, request_in}
+use Rattle.front_core.specs.Taken.{to_begin, told_now, turned_by_need}
+use Rattle.front_core.specs.Ups.{is_up}
 use Rattle.front_core.specs.declared.connection.Connection.{Connection}
 use Rattle.front_core.specs.declared.connection.Stage.{Stage}
 use Rattle.front_core.specs.declared.connection.Stage.TheVariants.{Reading, Waits, Lists, Ended}
@@ -46,11 +49,13 @@ use Rattle.link_msg.specs.declared.answer.AnswerBody.{AnswerBody}
 use Rattle.link_msg.specs.declared.answer.AnswerBody.TheVariants as answer_body
 use Rattle.link_msg.specs.declared.answer.BackAnswer.{BackAnswer}
 use Rattle.link_msg.specs.declared.how.How.{How}
+use Rattle.link_msg.specs.declared.how.How.TheVariants.{Behind}
 use Rattle.link_msg.specs.declared.message.LinkMsg.{LinkMsg}
 use Rattle.link_msg.specs.declared.message.LinkMsg.TheVariants.{Up, End, Line, Ask, Answer}
 use Rattle.link_msg.specs.declared.out.Out.{Out}
 use Rattle.link_msg.specs.declared.out.Out.TheVariants.{Link}
 use Rattle.mur_base.specs.declared.point.AskId.{AskId}
+use Rattle.mur_base.specs.declared.point.What.TheVariants.{Unreached as unreached}
 use Rattle.mur_base.proofs.MapLaws.{numbers_apart, value_at-with_value}
 use Rattle.mur_model.specs.declared.commands.list.Listing.{Listing}
 use Rattle.mur_model.specs.declared.need.Asking.{Asking}
@@ -59,6 +64,7 @@ use Rattle.mur_model.specs.declared.need.Need.TheVariants as needs
 use Rattle.mur_model.specs.declared.session.Sess.{Sess}
 use Rattle.mur_model.specs.declared.setting.Setting.{Setting}
 use Rattle.session_core.specs.Begin.{begin}
+use Rattle.session_core.specs.Relocated.{Refused, relocated}
 use Rattle.cluster_core.specs.Headline.Asks.{IsNeeded, IsRightLine}
 use Rattle.cluster_core.specs.Headline.Asks.IsNeeded.{to_list, is_unknown, is_put_off}
 use Rattle.cluster_core.specs.Headline.Asks.IsRightLine.{is_update, is_noop}
@@ -128,15 +134,29 @@ module _ (taken : Option LinkMsg) (ways : Ways) (conn : ℕ) where
   first_fits c tag it asks is =
       mailbox_fits c tag it (rec_at ways.recs it.name) (λ e. (let no : asks ≡ op.Create = sym is ∙ e in cc)) refl
 
+  -- where the link is up
+  begins_fit : (up : Bool) (c : Connection) (tag : Tag) (begun : Begun) → ThenFits c tag begun.waiting (then.Sends begun.sent)
+      → AllFitOf (begins_if up conn c tag begun)
+  unfolding told_now
+  begins_fit true c tag begun fits = (fits, tt)
+  begins_fit false c tag begun fits = (tt, (tt, tt))
+
   asks_fit : (c : Connection) (tag : Tag) (name : List ℕ) (asking : Asking) → AllFitOf (asks ways conn c tag name asking)
   unfolding first_sent
-  asks_fit c tag name asking = (first_fits c tag (to_begin name asking) asking.op refl, tt)
+  asks_fit c tag name asking =
+      let begun = first_sent ways.recs ways.master ways.first (next_of conn c) c.session (to_begin name asking) in
+      begins_fit (is_up ways.ups begun.sent.to) c tag begun (first_fits c tag (to_begin name asking) asking.op refl)
+
+  begin_lists_fit : (up : Bool) (c : Connection) (tag : Tag) (listing : Listing) → AllFitOf (lists_if up ways.master conn c tag listing)
+  unfolding told_now
+  begin_lists_fit true c tag listing = ((refl, refl, to_list tag listing refl), tt)
+  begin_lists_fit false c tag listing = (tt, (tt, tt))
 
   lists_fit : (c : Connection) (tag : Tag) (listing : Listing) → AllFitOf (lists ways conn c tag listing)
-  lists_fit c tag listing = ((refl, refl, to_list tag listing refl), tt)
+  lists_fit c tag listing = begin_lists_fit (is_up ways.ups ways.master) c tag listing
 
   need_fits : (c : Connection) (tag : Tag) (need : Need) → AllFitOf (turned_by_need ways conn c tag need)
-  unfolding turned_by_need answers_now answers_last
+  unfolding turned_by_need told_now answers_last
   need_fits c tag (needs.Reply reply) = (tt, (tt, tt))
   need_fits c tag (needs.Leave reply) = (tt, (tt, (tt, tt)))
   need_fits c tag (needs.Home name asking) = asks_fit c tag name asking
@@ -144,7 +164,7 @@ module _ (taken : Option LinkMsg) (ways : Ways) (conn : ℕ) where
 
   module _ (setting : Setting) where
     request_fits : (c : Connection) (request : Request) → AllFitOf (request_in setting ways conn c request)
-    unfolding request_in answers_now
+    unfolding request_in told_now
     request_fits c (a_command tag it) =
         let behind = begin setting c.session it in
         need_fits (record c { session = behind.session }) tag behind.need
@@ -175,17 +195,41 @@ module _ (taken : Option LinkMsg) (ways : Ways) (conn : ℕ) where
 
     -- ---- a command goes on
 
+    -- the inputs that wait come behind what was let out
+    free_fits : (c : Connection) (outs : List Out) → AllFit c outs → AllFit (record c { waiting = [] }) outs
+    free_fits c [] fit = tt
+    free_fits c (Link node (Line bytes) ∷ outs) fit = (fit.0, free_fits c outs fit.1)
+    free_fits c (out ∷ outs) fit = (tt, free_fits c outs fit.1)
+
+    come_fits : (turned : Turned) → AllFitOf turned → AllFitOf (waiting_come setting ways conn turned)
+    come_fits turned fit =
+        let free : Connection = record turned.connection { waiting = [] } in
+        let rest = inputs_come setting ways conn free turned.connection.waiting in
+        both_fit rest.connection turned.outs rest.outs
+        (all_kept setting free turned.connection.waiting turned.outs (free_fits turned.connection turned.outs fit))
+        (inputs_fit free turned.connection.waiting)
+
+    refused_fits : (c : Connection) (tag : Tag) (refused : Refused) (node : List ℕ) → AllFitOf (refused_behind setting ways conn c tag refused node)
+    refused_fits c tag refused node = (tt, (tt, inputs_fit (reading_again (record c { session = refused.session })) c.waiting))
+
+    sends_fit : (up : Bool) (c : Connection) (tag : Tag) (it : Waiting) (sent : Sent) → ThenFits c tag it (then.Sends sent)
+        → AllFitOf (sends_if up setting ways conn c tag it sent)
+    sends_fit true c tag it sent fits = (fits, tt)
+    sends_fit false c tag it sent fits = refused_fits c tag (relocated c.session it.asking.awaited (unreached sent.to)) sent.to
+
     behind_fits : (c : Connection) (tag : Tag) (how : How) (need : Need) → AllFitOf (need_behind setting ways conn c tag how need)
     behind_fits c tag how (needs.Reply reply) = (tt, (tt, inputs_fit (reading_again c) c.waiting))
     behind_fits c tag how (needs.Leave reply) = (tt, (tt, (tt, tt)))
-    behind_fits c tag how (needs.Home name asking) = asks_fit c tag name asking
-    behind_fits c tag how (needs.Names listing) = lists_fit c tag listing
+    behind_fits c tag how (needs.Home name asking) =
+        come_fits (asks ways conn (record c { stage = Reading }) tag name asking) (asks_fit (record c { stage = Reading }) tag name asking)
+    behind_fits c tag how (needs.Names listing) =
+        come_fits (lists ways conn (record c { stage = Reading }) tag listing) (lists_fit (record c { stage = Reading }) tag listing)
 
     then_fits : (c : Connection) (tag : Tag) (it : Waiting) (what : Then) → ThenFits c tag it what → AllFitOf (by_then setting ways conn c tag it what)
-    then_fits c tag it (then.Sends sent) fits = (fits, tt)
-    then_fits c tag it (then.Needs need) fits = behind_fits c tag _ need
-    then_fits c tag it (then.Refused cause need) fits = behind_fits c tag _ need
-    then_fits c tag it then.Lost fits = tt
+    then_fits c tag it (then.Sends sent) fits = sends_fit (is_up ways.ups sent.to) c tag it sent fits
+    then_fits c tag it (then.Needs need) fits = behind_fits c tag Behind need
+    then_fits c tag it (then.Refused cause reply) fits = (tt, (tt, inputs_fit (reading_again c) c.waiting))
+    then_fits c tag it then.Lost fits = (tt, (tt, tt))
     then_fits c tag it then.Stays fits = tt
 
     -- ---- behind the master's OK
@@ -358,11 +402,11 @@ module _ (taken : Option LinkMsg) (front : Front) where
   line_says bytes true = line_by_says bytes (barrier_answered bytes)
   line_says bytes false = tt
 
--- a message that comes
-pub message_says : (front : Front) (from : List ℕ) (message : LinkMsg) → SaysRightly (Some message) (deliver front from message)
+-- a message that comes, but that a link ended
+pub message_says : (front : Front) (from : List ℕ) (message : LinkMsg) → message ≢ End → SaysRightly (Some message) (deliver front from message)
 unfolding deliver
-message_says front from (Answer answer) = answer_says (Some (Answer answer)) front answer (waits_for (connection_at front (answer.id).conn) from) refl
-message_says front from Up = up_says (Some Up) front (pointwise nat_eq from front.master) refl
-message_says front from End = tt
-message_says front from (Line line) = line_says (Some (Line line)) front line (pointwise nat_eq from front.master)
-message_says front from (Ask ask) = tt
+message_says front from (Answer answer) other = answer_says (Some (Answer answer)) front answer (waits_for (connection_at front (answer.id).conn) from) refl
+message_says front from Up other = up_says (Some Up) (with_up front from) (pointwise nat_eq from front.master) refl
+message_says front from End other = absurd (other refl)
+message_says front from (Line line) other = line_says (Some (Line line)) front line (pointwise nat_eq from front.master)
+message_says front from (Ask ask) other = tt

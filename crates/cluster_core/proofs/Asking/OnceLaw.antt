@@ -1,6 +1,7 @@
 -- In each step of a run one ask of a command goes out to a server where the command comes to wait for its answer, and else none.
-use Rattle.std.proofs.Common.{◌≡◌, ℕ, nat_eq, Bool, true, false, cond, ◌&&◌, List, [], ◌∷◌, ◌++◌, Option, None, Some, refl, sym, ◌∙◌, ap, subst, arith}
-use Rattle.std.specs.Prelude.{⊤, count_by}
+use Rattle.std.proofs.Common.{◌≡◌, ◌≢◌, ℕ, nat_eq, Bool, true, false, cond, ◌&&◌, List, [], ◌∷◌, ◌++◌, Option, None, Some, refl, sym, ◌∙◌, ap, subst, arith}
+use Rattle.std.specs.Prelude.{⊤, count_by, slice_get}
+use Rattle.std.specs.List.{AllByRecursion}
 use Rattle.std.specs.Cmp.Lexicographic.{pointwise, same_text}
 use Rattle.std.proofs.lemmas.Bool.{and_right}
 use Rattle.std.proofs.lemmas.List.{append-nil, append_cancel_left}
@@ -15,7 +16,7 @@ use Rattle.link_msg.specs.declared.out.Out.{Out}
 use Rattle.link_msg.specs.declared.out.Out.TheVariants.{Client, Close, Link, Mark, Told}
 use Rattle.link_queue.specs.Links.{on_link, same_link}
 use Rattle.link_queue.proofs.Wires.{same_itself, same_names}
-use Rattle.mark_history.proofs.EachPoint.{count_cons}
+use Rattle.mark_history.proofs.Numbers.{count_cons}
 use Rattle.mark_history.proofs.Marks.{count_both}
 use Rattle.mur_base.specs.declared.point.AskId.{AskId}
 use Rattle.mur_config.specs.declared.config.Config.{Config}
@@ -39,8 +40,9 @@ use Rattle.cluster_core.proofs.Asking.FrontAsked.IsAskedSo.{is_asked, isnt_asked
 use Rattle.cluster_core.proofs.Asking.NodeAsks.{back_asks, back_other, master_asks, master_other, taken_in}
 use Rattle.cluster_core.proofs.Asking.StepSends.{IsBrought, StepSends, all_sent, sent_to, step_sends}
 use Rattle.cluster_core.proofs.Asking.StepSends.StepSends.{is_away, rests, sends}
+use Rattle.cluster_core.proofs.Runs.NeverMoved.{WorldIsQuiet, never_moved}
 use Rattle.cluster_core.proofs.Runs.OneNodeLaw.{one_more_step}
-use Rattle.cluster_core.proofs.Runs.QuietNodes.{AnyClient}
+use Rattle.cluster_core.proofs.Runs.QuietNodes.{AnyClient, IsQuiet}
 
 -- ---- counts
 
@@ -99,12 +101,17 @@ record FrontSteps (front : Front) (input : NodeInput) : Type 0 where
   is : as_front (Some (front_takes front input).state) ≡ Some now
   asks : FrontAsks input front (record { front = now; outs = (front_takes front input).outs })
 
-front_steps : (front : Front) (input : NodeInput) → FrontSteps front input
+-- no link ended
+abbrev EndsNone : NodeInput → Type 0
+EndsNone input = taken_in input ≢ Some End
+
+front_steps : (front : Front) (input : NodeInput) → EndsNone input → FrontSteps front input
 unfolding front_takes as_front
-front_steps front (Opened conn) = record { now = (connect front conn).front; is = refl; asks = connect_asks front conn }
-front_steps front (Piece conn bytes) = record { now = (bytes_in front conn bytes).front; is = refl; asks = bytes_ask front conn bytes }
-front_steps front (Hung conn) = record { now = hang front conn; is = refl; asks = hang_asks front conn }
-front_steps front (From name message) = record { now = (deliver front name message).front; is = refl; asks = message_asks front name message }
+front_steps front (Opened conn) none = record { now = (connect front conn).front; is = refl; asks = connect_asks front conn }
+front_steps front (Piece conn bytes) none = record { now = (bytes_in front conn bytes).front; is = refl; asks = bytes_ask front conn bytes }
+front_steps front (Hung conn) none = record { now = hang front conn; is = refl; asks = hang_asks front conn }
+front_steps front (From name message) none =
+    record { now = (deliver front name message).front; is = refl; asks = message_asks front name message (λ e. none (ap Some e)) }
 
 -- ---- a step
 
@@ -158,22 +165,22 @@ module _ (world next : World) (event : Event) (node server : List ℕ) (id : Ask
     by_front outs (is_asked comes one) = record { once = λ c. one; never = λ none. absurd (none (comes_here comes)) }
     by_front outs (isnt_asked none zero) = none_comes (asked_in id server outs) (λ comes. none (comes_there comes)) zero
 
-  by_node : (it : NodeState) (input : NodeInput) → node_at world node ≡ Some it → IsBrought event node input → taken_by event world ≡ taken_in input
-      → node_at next node ≡ Some (node_takes it input).state
+  by_node : (it : NodeState) (input : NodeInput) → EndsNone input → node_at world node ≡ Some it → IsBrought event node input
+      → taken_by event world ≡ taken_in input → node_at next node ≡ Some (node_takes it input).state
       → AsksAsItWaits event world next node server id (asked_in id server (node_takes it input).outs)
   unfolding node_takes
-  by_node (state.Front front) input there brought taken then =
-      let steps = front_steps front input in
+  by_node (state.Front front) input none there brought taken then =
+      let steps = front_steps front input none in
       by_front front steps.now input (ap as_front there ∙ a_front front) (ap as_front then ∙ steps.is) brought taken _ (steps.asks id server)
-  by_node (state.Back home) input there brought taken then =
+  by_node (state.Back home) input none there brought taken then =
       none_comes _ (λ comes. nobody_waits (front_at next node) id server (ap as_front then ∙ back_other home input) comes.waits)
       (none_asked id server _ (back_asks [] None None refl home input))
-  by_node (state.Master master) input there brought taken then =
+  by_node (state.Master master) input none there brought taken then =
       none_comes _ (λ comes. nobody_waits (front_at next node) id server (ap as_front then ∙ master_other master input) comes.waits)
       (none_asked id server _ (master_asks [] None None refl master input))
 
   -- what was sent is this
-  module _ (sent : List LinkMsg) (behind : on_link next.links node server ≡ leaves_on event node server (on_link world.links node server) ++ sent) where
+  module _ (sent : List LinkMsg) (ends : taken_by event world ≢ Some End) (behind : on_link next.links node server ≡ leaves_on event node server (on_link world.links node server) ++ sent) where
     it_is : (more : List LinkMsg) → on_link next.links node server ≡ leaves_on event node server (on_link world.links node server) ++ more → more ≡ sent
     it_is more is = append_cancel_left (leaves_on event node server (on_link world.links node server)) more sent (sym is ∙ behind)
 
@@ -193,11 +200,20 @@ module _ (world next : World) (event : Event) (node server : List ℕ) (id : Ask
         subst (AsksAsItWaits event world next node server id)
         (sym (sent_count node server id (node_takes it input).outs)
         ∙ ap (count_by (is_ask_of id)) (it_is (all_sent node server (node_takes it input).outs) (links server)))
-        (by_node it input there brought taken then)
+        (by_node it input (λ e. ends (taken ∙ e)) there brought taken then)
 
-step_asks : (world : World) (event : Event) → world.broken ≡ [] → AsksInTheStep event world (steps_by world event)
-step_asks world event whole node server sent id is behind =
-    by_sends world (steps_by world event) event node server id sent behind (step_sends world event node whole is)
+step_asks : (world : World) (event : Event) → world.broken ≡ [] → taken_by event world ≢ Some End → AsksInTheStep event world (steps_by world event)
+step_asks world event whole ends node server sent id is behind =
+    by_sends world (steps_by world event) event node server id sent ends behind (step_sends world event node whole is)
+
+-- no link ends in a run
+first_no_end : (queue : List LinkMsg) → AllByRecursion IsQuiet queue → slice_get queue 0 ≢ Some End
+first_no_end [] all e = cc
+first_no_end (message ∷ queue) all e = (let same : message ≡ End = cc in subst IsQuiet same all.0)
+
+takes_no_end : (world : World) (event : Event) → WorldIsQuiet world → taken_by event world ≢ Some End
+takes_no_end world (Deliver from to) quiet e = first_no_end (on_link world.links from to) (quiet.links from to) e
+takes_no_end world event quiet e = cc
 
 -- no link is broken behind any of these steps of a run
 abbrev pub AreWhole : Config → List Event → Type 0
@@ -206,4 +222,5 @@ AreWhole config steps = (before later : List Event) → steps ≡ before ++ late
 pub asks_once : (config : Config) (events : List Event) → AreWhole config (steps_of_run config events) → AsksOnceEach config events
 asks_once config events whole before event later parts =
     let world = run_steps (start config) before in
-    subst (AsksInTheStep event world) (sym (one_more_step (start config) before event)) (step_asks world event (whole before (event ∷ later) parts))
+    subst (AsksInTheStep event world) (sym (one_more_step (start config) before event)) (step_asks world event (whole before (event ∷ later) parts)
+    (takes_no_end world event (never_moved config before)))

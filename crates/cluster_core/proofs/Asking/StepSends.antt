@@ -22,7 +22,7 @@ use Rattle.cluster_core.specs.declared.world.Client.{Client}
 use Rattle.cluster_core.specs.declared.world.World.{World}
 use Rattle.cluster_core.specs.Headline.Asks.{taken_by}
 use Rattle.cluster_core.specs.Headline.OneNode.{leaves_on, node_of, worker}
-use Rattle.cluster_core.specs.World.{client_at, client_does, comes_to, deliver_first, node_at, opens, stepped, steps_by, taken_from_link, takes, with_client}
+use Rattle.cluster_core.specs.World.{client_at, client_does, comes_to, deliver_first, node_at, opens, stepped, steps_by, taken_from_link, takes, with_client, with_written}
 use Rattle.cluster_core.proofs.Asking.NodeAsks.{taken_in}
 use Rattle.cluster_core.proofs.Nodes.Carried.{acts_whole, is_made}
 use Rattle.cluster_core.proofs.Runs.OneNodeLaw.{nothing_first}
@@ -84,7 +84,7 @@ comes_sends world begun event node input None there nodes whole left brought tak
     is_away (ap (λ n. value_at (slice_cmp nat_cmp) n node) (sym nodes) ∙ there) there left
 comes_sends world begun event node input (Some it) there nodes whole left brought taken =
     let acted = node_takes it input in
-    let made = is_made begun node acted.state acted.outs in
+    let made = is_made (with_written begun node acted.entry) node acted.state acted.outs in
     let is = acts_whole begun node acted whole in
     sends it input (ap (λ n. value_at (slice_cmp nat_cmp) n node) (sym nodes) ∙ there) brought taken
     (ap (λ (w : World). node_at w node) is ∙ ap (λ n. value_at (slice_cmp nat_cmp) n node) made.nodes

@@ -4,6 +4,7 @@ use Rattle.asking_core.specs.declared.waiting.At.{At}
 use Rattle.asking_core.specs.declared.waiting.At.TheVariants.{Home, Barrier as at_master}
 use Rattle.front_core.specs.Ending.{EndsOnlyLast}
 use Rattle.front_core.specs.Reading.{Reading as Read}
+use Rattle.front_core.specs.Ups.{Ups}
 use Rattle.front_core.specs.declared.connection.Connection.{Connection}
 use Rattle.front_core.specs.declared.connection.Stage.TheVariants.{Reading, Waits, Lists as lists_names, Ended}
 use Rattle.front_core.proofs.OneConnection.Readings.{FaultsLast}
@@ -37,11 +38,12 @@ HasBegunSo connection reading = (connection.stage ≡ Ended) ⊎ (connection.rea
 abbrev pub next_id : ℕ → List Answer → AskId
 next_id conn told = record { conn = conn; command = length told + 1 }
 
--- what is fixed of the nodes: the master, and the server of a new mailbox without a name above it
+-- what is fixed of the nodes: the master, the server of a new mailbox without a name above it, and to which nodes the links of each frontend are up
 pub record Fixed : Type 0 where
   pub setting : Setting
   pub master : List ℕ
   pub first : List ℕ
+  pub ups : List ℕ → Ups
 
 -- the command of this number, of a session that was so
 pub record IsCommandOf (fixed : Fixed) (conn : ℕ) (told : List Answer) (was : Sess) (c : ClientCommand) : Type 0 where

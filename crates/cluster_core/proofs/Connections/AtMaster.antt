@@ -18,20 +18,14 @@ use Rattle.std.proofs.lemmas.Option.{same_Some}
 use Rattle.cluster_core.proofs.Connections.ConnectionLaw.{PlacesStay}
 use Rattle.cluster_core.proofs.Connections.GivenAlone.{GivenAlone, given_alone}
 use Rattle.cluster_core.proofs.Connections.KeepsLaw.{KeepsLaw, KeepsOn, fixed_of}
-use Rattle.cluster_core.proofs.Connections.KeepsStill.{ClientStays, IsOfConnection, MasterServes, SeesAlike, still_kept}
+use Rattle.cluster_core.proofs.Connections.KeepsStill.{ClientStays, IsOfConnection, MasterServes, SeesAlike, still_kept, of_client}
 use Rattle.cluster_core.proofs.Connections.KeepsStill.ClientStays.{same_client, given_elsewhere}
 use Rattle.cluster_core.proofs.Connections.Stays.{ReplicasStay, fixed_places, same_front}
 use Rattle.cluster_core.proofs.Feeds.AtMaster.{master_serves_feeds}
 use Rattle.cluster_core.proofs.Feeds.Many.{master_serves_many}
-use Rattle.cluster_core.proofs.Nodes.Comes.{IsOfClient, MasterMoved, master_comes, master_does, master_moved, master_no_front_at, with_master}
+use Rattle.cluster_core.proofs.Nodes.Comes.{MasterMoved, master_comes, master_does, master_moved, master_no_front_at, with_master, client_writes}
 use Rattle.cluster_core.proofs.Nodes.Stay.{master_keeps_nodes}
 use Rattle.cluster_core.proofs.Places.FrontWorlds.{alike_stay}
-
-of_client : (conn : ℕ) (input : NodeInput) → IsOfConnection conn input → IsOfClient input
-of_client conn (Opened other) is = tt
-of_client conn (Piece other bytes) is = tt
-of_client conn (Hung other) is = tt
-of_client conn (From name message) is = absurd is
 
 its_own : (master : Master) (conn : ℕ) (input : NodeInput) → IsOfConnection conn input → AreItsOwn conn (master_does master input).outs
 unfolding AreItsOwn
@@ -87,9 +81,14 @@ module _ (config : Config) (heard : ℕ → Heard) (world : World) (conn : ℕ) 
     steps = omega (arith, ap (λ (w : World). w.steps) alone.next_is);
   }
 
+  next_is : comes world me input ≡ next
+  next_is =
+      master_comes world me input law.master law.whole (law.nodes).is_there
+      ∙ ap (λ w. with_master w me served) (client_writes world me (state.Master law.master) input (of_client conn input is))
+
   serves : (after : ℕ → Heard) → ((other : ℕ) → after other ≡ heard other) → KeepsOn config law.story after (comes world me input)
   serves after same =
-      subst (λ w. KeepsOn config law.story after w) (sym (master_comes world me input law.master law.whole (law.nodes).is_there))
+      subst (λ w. KeepsOn config law.story after w) (sym next_is)
       (still_kept config heard after world next served.master alike same law
       (master_keeps_nodes config world law.master input law.nodes)
       (master_serves_many config world law.master law.given law.story.course.store law.nodes law.many input (of_client conn input is))

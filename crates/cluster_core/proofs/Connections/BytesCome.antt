@@ -32,13 +32,13 @@ use Rattle.imap_wire.specs.Frames.{begun, frames}
 use Rattle.imap_wire.specs.More.{frames_of_more}
 use Rattle.imap_wire.proofs.FeedLaws.{frames-nil}
 use Rattle.imap_wire.proofs.MoreLaws.{frames_of_more-length, frames_with_more}
-use Rattle.mark_history.specs.Marked.{AreMarked, Tale, asking}
-use Rattle.mark_history.specs.Marked.AreMarked.{asks as asks_more}
+use Rattle.mark_history.specs.Marked.{Tale, asking}
 use Rattle.mur_config.specs.declared.config.Config.{Config}
 use Rattle.mur_model.specs.History.{GoesOn}
 use Rattle.mur_model.specs.declared.setting.Setting.{Setting}
 use Rattle.schedule_text.specs.declared.event.Event.TheVariants.{Data}
 use Rattle.cluster_core.specs.declared.world.World.{World}
+use Rattle.cluster_core.proofs.Commands.AllReached.{AreMarkedSo, asks as asks_more}
 use Rattle.cluster_core.proofs.Commands.Released.{waits_next}
 use Rattle.cluster_core.proofs.Commands.Standing.{Fixed, IsNext, Lists, Stands, Waiting}
 use Rattle.cluster_core.proofs.Commands.Standing.Stands.{lists, waits}
@@ -179,8 +179,8 @@ bytes_many setting bytes =
 
 -- ---- more bytes of a connection at its frontend
 
-abbrev pub ways_same : Config → Front → Ways
-ways_same config front = ways_for (fixed_of config) front.replica
+abbrev pub ways_same : Config → List ℕ → Front → Ways
+ways_same config node front = ways_for (fixed_of config) node front.replica
 
 module _ (config : Config) (heard : ℕ → Heard) (world : World) (law : KeepsLaw config heard world) (conn : ℕ) (bytes more node : List ℕ) (front : Front)
     (connection : Connection) (e : heard conn ≡ client bytes false) (at : IsAt world conn node front connection)
@@ -199,7 +199,7 @@ module _ (config : Config) (heard : ℕ → Heard) (world : World) (law : KeepsL
   new = inputs_of_more (setting_of config) connection.reader more
 
   abbrev pub turned : Turned
-  turned = inputs_come (setting_of config) (ways_same config front) conn (having_read (setting_of config) connection more) new
+  turned = inputs_come (setting_of config) (ways_same config node front) conn (having_read (setting_of config) connection more) new
 
   abbrev pub Behind : Type 0
   Behind = StandsOn fixed node front.replica conn (inputs_in (setting_of config) (bytes ++ more)) (begun (bytes ++ more)) turned.connection world told
@@ -215,7 +215,7 @@ module _ (config : Config) (heard : ℕ → Heard) (world : World) (law : KeepsL
       let few : length (told.talk.requests conn) < 2 ^ 64 = omega (arith, ap length so, bytes_many (setting_of config) (bytes ++ more), its_numbers.1) in
       (its_numbers.0, few)
 
-  pub now_told : (held : Read) → reading_of (setting_of config) bytes ≡ held → AreMarked (setting_of config) world.steps world.marks told
+  pub now_told : (held : Read) → reading_of (setting_of config) bytes ≡ held → AreMarkedSo (setting_of config) world.steps world.marks told
   now_told held is =
       asks_more world.steps world.marks law.story _ (asked_more config heard conn bytes more held e is law.story.talk.requests law.requests) law.is_told
 
@@ -269,14 +269,14 @@ module _ (config : Config) (heard : ℕ → Heard) (world : World) (law : KeepsL
         its_numbers.1,
       ) in
       own_noops (master_of config) (home_at world) conn (connection.answered + length new) turned.outs its_numbers.0 few (may.frontend).master_no_home
-      (inputs_own fixed (home_at world) front.replica conn may.knows may.first (having_read (setting_of config) connection more) new)
+      (inputs_own fixed (home_at world) node front.replica conn may.knows may.first (having_read (setting_of config) connection more) new)
 
   -- the inputs of more bytes wait behind a command that waits
   abbrev Waits_on : Turned
   Waits_on = record { connection = record (having_read (setting_of config) connection more) { waiting = connection.waiting ++ new }; outs = [] }
 
   waits_all : HoldsBack connection.stage → turned ≡ Waits_on
-  waits_all holds = held_back (setting_of config) (ways_same config front) conn (having_read (setting_of config) connection more) new holds
+  waits_all holds = held_back (setting_of config) (ways_same config node front) conn (having_read (setting_of config) connection more) new holds
 
   -- that command is the next to be answered
   abbrev IsNextBefore : Tag → Command → Type 0

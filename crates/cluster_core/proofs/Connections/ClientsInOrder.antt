@@ -23,8 +23,8 @@ use Rattle.cluster_core.specs.declared.world.Client.{Client}
 use Rattle.cluster_core.specs.declared.world.World.{World}
 use Rattle.cluster_core.specs.Flow.{run_steps}
 use Rattle.link_queue.specs.Links.{on_link}
-use Rattle.cluster_core.specs.World.{not_lost, no_world, start, with_node, with_nodes, client_at, node_at, given_more, carry, carry_all}
-use Rattle.cluster_core.specs.World.{with_state, comes_to, with_client, opens, client_does, taken_from_link, deliver_first, takes, stepped, steps_by, told_up, with_ups}
+use Rattle.cluster_core.specs.World.{not_lost, no_world, start, with_node, with_nodes, client_at, node_at, given_more, carry, carry_all, with_acted}
+use Rattle.cluster_core.specs.World.{comes_to, with_client, opens, client_does, taken_from_link, deliver_first, takes, stepped, steps_by, told_up, with_ups}
 
 abbrev pub IsOrdered : World → Type 0
 IsOrdered world = IsInOrder nat_cmp world.clients
@@ -52,7 +52,7 @@ comes_to-ordered : (world : World) (node : List ℕ) (input : NodeInput) (found 
 unfolding comes_to
 comes_to-ordered world node input None is = is
 comes_to-ordered world node input (Some it) is =
-    carry_all-ordered node (with_state world node (node_takes it input).state) (not_lost world.broken node (node_takes it input).outs) is
+    carry_all-ordered node (with_acted world node (node_takes it input)) (not_lost world.broken node (node_takes it input).outs) is
 
 opens-ordered : (world : World) (node : List ℕ) (conn : ℕ) (there : Option Client) → IsOrdered world → IsOrdered (opens world node conn there)
 unfolding opens

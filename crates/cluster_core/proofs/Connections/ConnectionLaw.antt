@@ -13,7 +13,7 @@ use Rattle.imap_talk.specs.Transcript.{replies_to}
 use Rattle.imap_talk.proofs.TranscriptGrows.{AreAnswered}
 use Rattle.imap_talk.specs.declared.inputs.Input.{Input}
 use Rattle.imap_types.specs.declared.request.Answer.{Answer}
-use Rattle.mark_history.specs.Marked.{AreMarked, Tale, last_mark, talk_told}
+use Rattle.mark_history.specs.Marked.{Tale, last_mark, talk_told}
 use Rattle.mark_history.specs.declared.mark.Mark.{Mark}
 use Rattle.mur_base.specs.declared.point.AskId.{AskId}
 use Rattle.mur_model.specs.declared.session.Sess.{Sess}
@@ -23,6 +23,7 @@ use Rattle.route_links.specs.Barriers.{Place as Barrier, Place as barrier}
 use Rattle.cluster_core.specs.declared.world.Client.{Client}
 use Rattle.cluster_core.specs.declared.world.World.{World}
 use Rattle.cluster_core.specs.World.{client_at, home_at}
+use Rattle.cluster_core.proofs.Commands.AllReached.{AreMarkedSo}
 use Rattle.cluster_core.proofs.Commands.InPlace.{IsInNone, IsInPlace}
 use Rattle.cluster_core.proofs.Commands.Moving.{IsSeenBy}
 use Rattle.cluster_core.proofs.Commands.Place.{Place, Place as place}
@@ -167,7 +168,7 @@ pub record IsMade (fixed : Fixed) (conn : ℕ) (before : World) (told : Tale) (w
   pub others : KeepsOthers fixed conn before world
   pub goes_on : GoesOnAt conn told story
   pub store : story.course.store ≡ told.course.store
-  pub is_told : AreMarked fixed.setting world.steps world.marks story
+  pub is_told : AreMarkedSo fixed.setting world.steps world.marks story
 
 pub record ReadsOn (fixed : Fixed) (front : List ℕ) (replica : Replica) (conn : ℕ) (inputs : List Input) (connection : Connection) (before : World)
     (told : Tale) (world : World) : Type 0 where

@@ -13,7 +13,7 @@ use Rattle.front_core.proofs.OneConnection.Readings.{FaultsLast}
 use Rattle.front_core.specs.declared.connection.Connection.{Connection}
 use Rattle.front_core.specs.declared.connection.Stage.{Stage}
 use Rattle.front_core.specs.declared.connection.Stage.TheVariants.{Reading, Waits, Lists, Ended}
-use Rattle.front_core.specs.Taken.{Turned, Ways, answers_now, answers_last, asks, comes_at, input_comes, input_in, inputs_come, lists, request_in, to_begin, ways_by}
+use Rattle.front_core.specs.Taken.{Turned, Ways, answers_now, answers_last, begins_if, comes_at, input_comes, input_in, inputs_come, lists_if, lists_with, request_in, to_begin, told_now, ways_by}
 use Rattle.front_core.proofs.FramesLaws.{HoldsBack, ended_drops, held_back}
 use Rattle.front_core.proofs.OneConnection.FrontAnswers.{IsTaken, request_taken}
 use Rattle.front_core.proofs.OneConnection.FrontAnswers.IsTaken.{here, finishes, asked, listed}
@@ -69,7 +69,7 @@ use Rattle.cluster_core.proofs.Commands.Knows.KnowsNames.{not_yet}
 use Rattle.cluster_core.proofs.Commands.Place.{Place, Place as place}
 use Rattle.cluster_core.proofs.Commands.Standing.{Fixed, IsCommandOf, Stands, WaitsAt, next_id}
 use Rattle.cluster_core.proofs.Commands.Standing.Stands.{reads, waits, lists as waits_listing, faulted, finished}
-use Rattle.cluster_core.proofs.Connections.AsksFirst.{FirstWay, first_way}
+use Rattle.cluster_core.proofs.Connections.AsksFirst.{FirstWay, first_is_up, first_way}
 use Rattle.cluster_core.proofs.Connections.AsksFirst.FirstWay.{by_server, by_master}
 use Rattle.cluster_core.proofs.Connections.ConnectionLaw.{IsInPlaceOf, IsMarkedAt, ReadsOn, StandsOn, client_with, keeps_on, session_at}
 use Rattle.cluster_core.proofs.Connections.Nowhere.{nowhere_too}
@@ -78,8 +78,8 @@ use Rattle.cluster_core.proofs.Connections.Sends.{MayAsk, SendsSo, asks_so, bars
 use Rattle.cluster_core.proofs.Places.FrontWorlds.{with_sent}
 
 -- by what a frontend of this replica decides whom it asks
-abbrev pub ways_for : Fixed → Replica → Ways
-ways_for fixed replica = ways_by replica.records fixed.master fixed.first
+abbrev pub ways_for : Fixed → List ℕ → Replica → Ways
+ways_for fixed front replica = ways_by replica.records fixed.master fixed.first (fixed.ups front)
 
 -- its commands have numbers of 64 bits
 abbrev pub HasNumbersOf : ℕ → Tale → Type 0
@@ -99,7 +99,7 @@ module _ (fixed : Fixed) (front : List ℕ) (replica : Replica) (conn : ℕ) whe
       → ((answer : Answer) → ends answer.reply ≡ false → Grows inputs next (was.story.told conn) (was.story.told conn ++ answer ∷ []) (answer_text answer))
       → ReadsOn fixed front replica conn next (answers_now conn connection session tag reply).connection before told
       (carry_all front world (answers_now conn connection session tag reply).outs)
-  unfolding answers_now
+  unfolding told_now
   answered_here inputs next connection before told world request tag reply session was number is alone stays lasts grows =
       let story = was.story in
       let answer : Answer = record { tag = tag; reply = reply } in
@@ -367,7 +367,8 @@ module _ (fixed : Fixed) (front : List ℕ) (replica : Replica) (conn : ℕ) whe
       → MayAsk fixed (home_at before) front replica → IsNumbered (next_at connection)
       → StandsOn fixed front replica conn (inputs ++ Asks request ∷ waiting) held
       (record connection { waiting = waiting; stage = Waits tag (begun_at connection name work).waiting }) before told
-      (carry_all front (carry_all front world (asks (ways_for fixed replica) conn connection tag name (asked_for name work)).outs) [])
+      (carry_all front (carry_all front world
+      (to_node (begun_at connection name work).sent.to (begun_at connection name work).sent.message ∷ [])) [])
   unfolding carry_all
   asked_kept inputs waiting held connection before told world request tag it name work was is need last may numbered =
       let may_now : MayAsk fixed (home_at world) front replica = may_ask_later fixed before world front replica was.made.others.nodes may in
@@ -385,7 +386,7 @@ module _ (fixed : Fixed) (front : List ℕ) (replica : Replica) (conn : ℕ) whe
       → MayAsk fixed (home_at before) front replica → IsNumbered (next_at connection)
       → StandsOn fixed front replica conn (inputs ++ Asks request ∷ waiting) held
       (record connection { waiting = waiting; stage = Lists tag listing }) before told
-      (carry_all front (carry_all front world (lists (ways_for fixed replica) conn connection tag listing).outs) [])
+      (carry_all front (carry_all front world (lists_with fixed.master conn connection tag listing).outs) [])
   unfolding carry_all
   listed_kept inputs waiting held connection before told world request tag it listing was is need last may numbered =
       let may_now : MayAsk fixed (home_at world) front replica = may_ask_later fixed before world front replica was.made.others.nodes may in
@@ -417,11 +418,11 @@ reads_input setting ways conn connection input e = ap (comes_at setting ways con
 module _ (fixed : Fixed) (front : List ℕ) (replica : Replica) (conn : ℕ) where
   -- what inputs make of a connection of this frontend
   abbrev come : Connection → List Input → Turned
-  come connection inputs = inputs_come fixed.setting (ways_for fixed replica) conn connection inputs
+  come connection inputs = inputs_come fixed.setting (ways_for fixed front replica) conn connection inputs
 
   -- an input, and then the others
   came_on : (all : List Input) (held : Option (List ℕ)) (connection : Connection) (before : World) (told : Tale) (world : World)
-      (input : Input) (inputs : List Input) (turned : Turned) → input_comes fixed.setting (ways_for fixed replica) conn connection input ≡ turned
+      (input : Input) (inputs : List Input) (turned : Turned) → input_comes fixed.setting (ways_for fixed front replica) conn connection input ≡ turned
       → StandsOn fixed front replica conn all held (come turned.connection inputs).connection before told
       (carry_all front (carry_all front world turned.outs) (come turned.connection inputs).outs)
       → StandsOn fixed front replica conn all held (come connection (input ∷ inputs)).connection before told
@@ -442,7 +443,7 @@ module _ (fixed : Fixed) (front : List ℕ) (replica : Replica) (conn : ℕ) whe
       subst (λ n. StandsOn fixed front replica conn (inputs ++ Faults fault ∷ n) held (come connection (Faults fault ∷ n)).connection before told
       (carry_all front world (come connection (Faults fault ∷ n)).outs)) (sym nil)
       (came_on (inputs ++ Faults fault ∷ []) held connection before told world (Faults fault) [] _
-      (reads_input fixed.setting (ways_for fixed replica) conn connection (Faults fault) was.reading.stage_is)
+      (reads_input fixed.setting (ways_for fixed front replica) conn connection (Faults fault) was.reading.stage_is)
       (faulted_here fixed front replica conn inputs held connection before told world fault none was))
 
   -- the inputs of a piece that haven't ended stand so
@@ -497,7 +498,7 @@ module _ (fixed : Fixed) (front : List ℕ) (replica : Replica) (conn : ℕ) whe
 
   -- an input behind which the connection reads on
   read_on : (inputs new : List Input) (input : Input) (held : Option (List ℕ)) (connection : Connection) (before : World) (told : Tale) (world : World)
-      (turned : Turned) → input_comes fixed.setting (ways_for fixed replica) conn connection input ≡ turned
+      (turned : Turned) → input_comes fixed.setting (ways_for fixed front replica) conn connection input ≡ turned
       → told.talk.requests conn ≡ requests_in (inputs ++ input ∷ new)
       → Follow new held before told
       → ReadsOn fixed front replica conn (inputs ++ input ∷ []) turned.connection before told (carry_all front world turned.outs)
@@ -518,7 +519,7 @@ module _ (fixed : Fixed) (front : List ℕ) (replica : Replica) (conn : ℕ) whe
   -- a message goes out for a request, and the inputs behind it wait
   sent_kept : (inputs new : List Input) (request : Request) (held : Option (List ℕ)) (connection : Connection) (before : World) (told : Tale) (world : World)
       (stage : Stage) (outs : List Out) (was : ReadsOn fixed front replica conn inputs connection before told world) → HoldsBack stage
-      → request_in fixed.setting (ways_for fixed replica) conn connection request ≡ record { connection = record connection { stage = stage }; outs = outs }
+      → request_in fixed.setting (ways_for fixed front replica) conn connection request ≡ record { connection = record connection { stage = stage }; outs = outs }
       → StandsOn fixed front replica conn (inputs ++ Asks request ∷ new) held (record connection { waiting = new; stage = stage }) before told
       (carry_all front (carry_all front world outs) [])
       → StandsOn fixed front replica conn (inputs ++ Asks request ∷ new) held (come connection (Asks request ∷ new)).connection before told
@@ -527,23 +528,23 @@ module _ (fixed : Fixed) (front : List ℕ) (replica : Replica) (conn : ℕ) whe
   sent_kept inputs new request held connection before told world stage outs was holds form stands =
       let turned : Turned = record { connection = record connection { stage = stage }; outs = outs } in
       let waits_all : come turned.connection new ≡ record { connection = record connection { waiting = new; stage = stage }; outs = [] } =
-      held_back fixed.setting (ways_for fixed replica) conn turned.connection new holds
+      held_back fixed.setting (ways_for fixed front replica) conn turned.connection new holds
       ∙ ap (λ w. record { connection = record connection { waiting = w ++ new; stage = stage }; outs = [] }) was.reading.waiting_is in
       came_on (inputs ++ Asks request ∷ new) held connection before told world (Asks request) new turned
-      (reads_input fixed.setting (ways_for fixed replica) conn connection (Asks request) was.reading.stage_is ∙ form)
+      (reads_input fixed.setting (ways_for fixed front replica) conn connection (Asks request) was.reading.stage_is ∙ form)
       (subst (λ (t : Turned). StandsOn fixed front replica conn (inputs ++ Asks request ∷ new) held t.connection before told
       (carry_all front (carry_all front world turned.outs) t.outs)) (sym waits_all) stands)
 
   request_kept : (inputs new : List Input) (request : Request) (held : Option (List ℕ)) (connection : Connection) (before : World) (told : Tale) (world : World)
       (was : ReadsOn fixed front replica conn inputs connection before told world) → MaySend before told → FaultsLast new held
       → told.talk.requests conn ≡ requests_in (inputs ++ Asks request ∷ new)
-      → Follow new held before told → IsTaken fixed.setting (ways_for fixed replica) conn (was.story.course.sessions conn) request
+      → Follow new held before told → IsTaken fixed.setting (ways_for fixed front replica) conn (was.story.course.sessions conn) request
       → StandsOn fixed front replica conn (inputs ++ Asks request ∷ new) held (come connection (Asks request ∷ new)).connection before told
       (carry_all front world (come connection (Asks request ∷ new)).outs)
   unfolding input_in requests_in carry_all
   request_kept inputs new request held connection before told world was sends last all follow (here tag reply session is alone stays lasts form) =
       read_on inputs new (Asks request) held connection before told world (answers_now conn connection session tag reply)
-      (reads_input fixed.setting (ways_for fixed replica) conn connection (Asks request) was.reading.stage_is ∙ form connection was.reading.session_is)
+      (reads_input fixed.setting (ways_for fixed front replica) conn connection (Asks request) was.reading.stage_is ∙ form connection was.reading.session_is)
       all follow
       (answered_here fixed front replica conn inputs (inputs ++ Asks request ∷ []) connection before told world request tag reply session was
       (next_of inputs new (Asks request) connection before told world request was all refl) is alone stays lasts
@@ -551,21 +552,25 @@ module _ (fixed : Fixed) (front : List ℕ) (replica : Replica) (conn : ℕ) whe
   request_kept inputs new request held connection before told world was sends last all follow (finishes tag it reply command is alone is_end form) =
       let turned : Turned = last_of conn connection tag reply in
       came_on (inputs ++ Asks request ∷ new) held connection before told world (Asks request) new turned
-      (reads_input fixed.setting (ways_for fixed replica) conn connection (Asks request) was.reading.stage_is ∙ form connection was.reading.session_is)
+      (reads_input fixed.setting (ways_for fixed front replica) conn connection (Asks request) was.reading.stage_is ∙ form connection was.reading.session_is)
       (subst (λ (t : Turned). StandsOn fixed front replica conn (inputs ++ Asks request ∷ new) held t.connection before told
       (carry_all front (carry_all front world turned.outs) t.outs))
-      (sym (last_turned fixed.setting (ways_for fixed replica) conn (record connection { session = session_ended }) tag reply new))
+      (sym (last_turned fixed.setting (ways_for fixed front replica) conn (record connection { session = session_ended }) tag reply new))
       (last_here fixed front replica conn inputs new held connection before told world request tag reply was
       (next_of inputs new (Asks request) connection before told world request was all refl) is alone is_end))
   request_kept inputs new request held connection before told world was sends last all follow (asked tag it name work is need form) =
       let begun : Begun = begun_at fixed front replica conn connection name work in
       sent_kept inputs new request held connection before told world (Waits tag begun.waiting) (to_node begun.sent.to begun.sent.message ∷ []) was tt
-      (form connection was.reading.session_is)
+      (form connection was.reading.session_is
+      ∙ ap (λ up. begins_if up conn connection tag begun) (first_is_up (home_at before) replica.records fixed.master fixed.first
+      (record { conn = conn; command = connection.answered + 1 }) connection.session (to_begin name (asked_for name work)) (fixed.ups front)
+      sends.may.up sends.may.knows sends.may.first))
       (asked_kept fixed front replica conn inputs new held connection before told world request tag it name work was is need last sends.may
       (next_numbered inputs new (Asks request) connection before told world request was all refl sends.numbers))
   request_kept inputs new request held connection before told world was sends last all follow (listed tag it listing is need form) =
       sent_kept inputs new request held connection before told world (Lists tag listing)
-      (lists (ways_for fixed replica) conn connection tag listing).outs was tt (form connection was.reading.session_is)
+      (lists_with fixed.master conn connection tag listing).outs was tt
+      (form connection was.reading.session_is ∙ ap (λ up. lists_if up fixed.master conn connection tag listing) sends.may.up.to_master)
       (listed_kept fixed front replica conn inputs new held connection before told world request tag it listing was is need last sends.may
       (next_numbered inputs new (Asks request) connection before told world request was all refl sends.numbers))
 
@@ -579,11 +584,11 @@ module _ (fixed : Fixed) (front : List ℕ) (replica : Replica) (conn : ℕ) whe
   inputs_kept (Asks request ∷ new) held before told sends last = λ inputs connection world all was.
       request_kept inputs new request held connection before told world was sends last all
       (inputs_kept new held before told sends last)
-      (request_taken fixed.setting (ways_for fixed replica) conn (was.story.course.sessions conn) request was.reading.goes_on)
+      (request_taken fixed.setting (ways_for fixed front replica) conn (was.story.course.sessions conn) request was.reading.goes_on)
   inputs_kept (GoesOn why ∷ new) held before told sends last = λ inputs connection world all was.
       read_on inputs new (GoesOn why) held connection before told world
       (record { connection = connection; outs = to_client conn (continuation_line why) ∷ [] })
-      (reads_input fixed.setting (ways_for fixed replica) conn connection (GoesOn why) was.reading.stage_is) all
+      (reads_input fixed.setting (ways_for fixed front replica) conn connection (GoesOn why) was.reading.stage_is) all
       (inputs_kept new held before told sends last)
       (awaited_here fixed front replica conn inputs connection before told world why was)
   inputs_kept (Faults fault ∷ new) held before told sends last = λ inputs connection world all was.

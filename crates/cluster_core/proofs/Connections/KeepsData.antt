@@ -30,7 +30,6 @@ use Rattle.imap_types.specs.declared.request.Request.{Request}
 use Rattle.imap_wire.specs.Frames.{begun}
 use Rattle.imap_wire.proofs.FeedLaws.{frames-ended, begun-ended}
 use Rattle.mark_history.specs.Marked.{Tale, talk_told}
-use Rattle.mark_history.specs.Marked.AreMarked.{asks as asks_more}
 use Rattle.mur_config.specs.declared.config.Config.{Config}
 use Rattle.mur_model.specs.History.{GoesOn}
 use Rattle.mur_model.specs.declared.setting.Setting.{Setting}
@@ -41,6 +40,7 @@ use Rattle.node_step.proofs.NodeKinds.{front_is}
 use Rattle.schedule_text.specs.declared.event.Event.TheVariants.{Data}
 use Rattle.cluster_core.specs.declared.world.World.{World}
 use Rattle.std.proofs.lemmas.Option.{same_Some}
+use Rattle.cluster_core.proofs.Commands.AllReached.{asks as asks_more}
 use Rattle.cluster_core.proofs.Commands.Place.{Place as place}
 use Rattle.cluster_core.proofs.Commands.Released.{begun_released, released_count, stands_released}
 use Rattle.cluster_core.proofs.Commands.Standing.{Fixed, HasBegunSo, Stands, next_id}
@@ -48,6 +48,7 @@ use Rattle.cluster_core.proofs.Commands.Standing.Stands.{reads, waits, lists, fa
 use Rattle.cluster_core.proofs.Connections.BytesCome.{Behind, after_data, asked_more, asked_tale, closed_heard, elsewhere_heard, heard_more, held_noops, listing_behind, new, nothing_heard, other_heard, reading_behind, reading_noops, still_heard, turned, waiting_behind, ways_same}
 use Rattle.cluster_core.proofs.Connections.ConnectionLaw.{IsInPlaceOf, IsReading, IsStanding, says_same, says_then}
 use Rattle.cluster_core.proofs.Connections.KeepsFront.{front_keeps, is_at_after, standing_after, turned_so, with_connection, world_after}
+use Rattle.cluster_core.proofs.Connections.MayAskAt.{ways_same_by}
 use Rattle.cluster_core.proofs.Connections.KeepsLaw.{ConnectionIs, FeedsHold, IsAt, KeepsLaw, KeepsOn, fixed_of}
 use Rattle.cluster_core.proofs.Connections.KeepsLaw.ConnectionIs.{is_nobody, is_elsewhere, is_open, is_closed}
 use Rattle.cluster_core.proofs.Connections.KeepsStill.{MasterServes, elsewhere_kept, put_kept, same_kept}
@@ -137,10 +138,8 @@ module _ (config : Config) (heard : ℕ → Heard) (world : World) (law : KeepsL
   turned_same =
       let is = (law.nodes).fronts node front at.at in
       ap (λ s. inputs_come s (ways_of front) conn (having_read s connection more) (inputs_of_more s connection.reader more)) is.setting_is
-      ∙ ap (λ m. inputs_come (setting_of config) (record { recs = (front.replica).records; master = m; first = front.first }) conn
-      (having_read (setting_of config) connection more) (inputs_of_more (setting_of config) connection.reader more)) is.master_is
-      ∙ ap (λ f. inputs_come (setting_of config) (record { recs = (front.replica).records; master = master_of config; first = f }) conn
-      (having_read (setting_of config) connection more) (inputs_of_more (setting_of config) connection.reader more)) is.first_is
+      ∙ ap (λ ways. inputs_come (setting_of config) ways conn (having_read (setting_of config) connection more)
+      (inputs_of_more (setting_of config) connection.reader more)) (ways_same_by config world law.master node front is)
 
   abbrev kept : Connection
   kept = released its_turn.connection
@@ -154,7 +153,7 @@ module _ (config : Config) (heard : ℕ → Heard) (world : World) (law : KeepsL
       let step : bytes_in front conn more ≡ turned_so front conn kept its_turn.outs = does ∙ ap (with_turned front conn) turned_same in
       let read : having_read (setting_of config) connection more ≡ having_read (setting_of config) connection more = refl in
       let reads_so : HasBegunSo its_turn.connection (reading_of (setting_of config) (bytes ++ more)) =
-      inr (inputs_keep_reader (setting_of config) (ways_same config front) conn (having_read (setting_of config) connection more)
+      inr (inputs_keep_reader (setting_of config) (ways_same config node front) conn (having_read (setting_of config) connection more)
       (inputs_of_more (setting_of config) connection.reader more)
       ∙ sym (reading_with_more (setting_of config) bytes more connection.reader (sym reader))) in
       subst (λ s. KeepsOn config law.story after (with_front world node s)) (sym step)

@@ -18,7 +18,7 @@ use Rattle.link_msg.specs.declared.out.Out.{Out}
 use Rattle.link_msg.specs.declared.out.Out.TheVariants.{Client as to_client, Close, Link as to_node, Mark as mark, Told as tell}
 use Rattle.link_queue.specs.Links.{Links}
 use Rattle.many_links.specs.ManyHold.{ManyHold}
-use Rattle.mark_history.specs.Marked.{AreMarked, Tale, last_mark, talk_told}
+use Rattle.mark_history.specs.Marked.{Tale, last_mark, talk_told}
 use Rattle.mark_history.specs.declared.mark.Mark.{Mark}
 use Rattle.mur_base.specs.Map.{with_value}
 use Rattle.mur_base.proofs.MapLaws.{names_apart, numbers_apart, same_or_other, value_at-with_value, value_at-with_value-other}
@@ -32,6 +32,7 @@ use Rattle.cluster_core.specs.World.{setting_of, carry, carry_all, client_at, fr
 use Rattle.cluster_core.specs.declared.world.Client.{Client}
 use Rattle.cluster_core.specs.declared.world.World.{World}
 use Rattle.std.proofs.lemmas.Option.{same_Some}
+use Rattle.cluster_core.proofs.Commands.AllReached.{AreMarkedSo}
 use Rattle.cluster_core.proofs.Commands.Standing.{Fixed, next_id}
 use Rattle.cluster_core.proofs.Connections.ConnectionLaw.{IsMade, IsStanding, MarksStay, PlacesStay, says_on}
 use Rattle.cluster_core.proofs.Connections.KeepsLaw.{ConnectionIs, FeedsHold, IsAt, IsGone, KeepsLaw, KeepsOn, fixed_of, murder_of}
@@ -164,14 +165,14 @@ front_keeps config heard after origin law links conn node front was connection o
       law = record {
         master = law.master;
         nodes = front_cores config origin next law.master law.nodes node front later at
-            (record { me = refl; master = refl; first = refl; setting = refl }) moved;
+            (record { me = refl; master = refl; first = refl; setting = refl }) refl moved;
         whole = (is_made world node (state.Front later) outs).broken ∙ law.whole;
         story = story;
         given = law.given;
         many = subst (λ (s : Store). ManyHold (murder_of next law.master) law.given s) (sym same_store) many;
         feeds = feeds;
-        is_told = subst (λ m. AreMarked (setting_of config) next.steps m story) (sym (same_marks world node front conn connection outs))
-            (subst (λ n. AreMarked (setting_of config) n carried.marks story) (sym (same_steps world node front conn connection outs)) made.is_told);
+        is_told = subst (λ m. AreMarkedSo (setting_of config) next.steps m story) (sym (same_marks world node front conn connection outs))
+            (subst (λ n. AreMarkedSo (setting_of config) n carried.marks story) (sym (same_steps world node front conn connection outs)) made.is_told);
         requests = λ other. ap (λ (r : ℕ → List Request). r other) made.goes_on.requests ∙ requests other;
         connections = each_stays fixed origin next law.story story heard after conn (after conn) law.connections others (λ other ne.
             (let stay : PlacesStay fixed other origin next = stays_on fixed other origin carried next

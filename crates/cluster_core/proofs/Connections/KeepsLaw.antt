@@ -1,5 +1,5 @@
 -- THE LAW THAT EVERY STEP KEEPS: of the nodes, the names, the feeds, and of each connection by what was heard of its client.
-use Rattle.std.specs.Prelude.{◌≡◌, ◌≢◌, ℕ, nat_eq, true, false, List, [], length, None, Some, is_some}
+use Rattle.std.specs.Prelude.{◌≡◌, ◌≢◌, ℕ, nat_eq, Bool, true, false, List, [], length, None, Some, is_some}
 use Rattle.std.specs.List.{list_any, AllByRecursion}
 use Rattle.std.specs.Option.{IsSome}
 use Rattle.std.specs.Cmp.Lexicographic.{pointwise}
@@ -17,6 +17,7 @@ use Rattle.front_core.specs.declared.connection.Connection.{Connection}
 use Rattle.front_core.specs.declared.connection.Stage.TheVariants.{Ended}
 use Rattle.front_core.specs.declared.front.Front.{Front}
 use Rattle.front_core.specs.Front.{connection_at}
+use Rattle.front_core.specs.Ups.{Ups, is_up}
 use Rattle.imap_talk.specs.Heard.{Heard, nobody, elsewhere, client, frames_heard, has_closed}
 use Rattle.imap_talk.specs.Inputs.{requests_in}
 use Rattle.imap_talk.specs.declared.inputs.Input.{Input}
@@ -26,10 +27,11 @@ use Rattle.link_msg.specs.declared.message.LinkMsg.{LinkMsg}
 use Rattle.link_queue.specs.Links.{on_link}
 use Rattle.many_links.specs.ManyHold.{ManyHold}
 use Rattle.many_links.specs.Murder.{Murder, Nodes}
-use Rattle.mark_history.specs.Marked.{AreMarked, Tale, talk_told}
+use Rattle.mark_history.specs.Marked.{Tale, talk_told}
 use Rattle.master_core.specs.declared.master.Master.{Master}
 use Rattle.master_core.specs.Whose.{TellNobody}
 use Rattle.mur_config.specs.declared.config.Config.{Config}
+use Rattle.mur_config.specs.Nodes.{links_of}
 use Rattle.mur_model.specs.declared.session.Sess.TheVariants.{Off}
 use Rattle.mur_model.specs.History.{TalkGoesOn}
 use Rattle.name_links.specs.Serials.{Given}
@@ -38,9 +40,11 @@ use Rattle.node_record.specs.declared.table.Record.{Record}
 use Rattle.cluster_core.specs.declared.world.World.{World}
 use Rattle.cluster_core.specs.Heard.{is_frontend}
 use Rattle.cluster_core.specs.World.{backends_of, home_of, master_of, setting_of, client_at, front_at, home_at, master_at}
+use Rattle.cluster_core.proofs.Commands.AllReached.{AreMarkedSo}
 use Rattle.cluster_core.proofs.Commands.Place.{Place}
 use Rattle.cluster_core.proofs.Commands.Standing.{Fixed, HasBegunSo, IsLeft, next_id}
 use Rattle.cluster_core.proofs.Connections.ConnectionLaw.{IsInNoneOf, IsInPlaceOf, IsMarkedAt, IsStanding, SaysOn, client_with}
+use Rattle.cluster_core.proofs.Nodes.LinksUp.{ups_on}
 
 -- ---- connections
 
@@ -82,17 +86,30 @@ pub data ConnectionIs (fixed : Fixed) (conn : ℕ) (world : World) (story : Tale
 -- ---- nodes
 
 abbrev pub fixed_of : Config → Fixed
-fixed_of config = record { setting = setting_of config; master = master_of config; first = home_of config }
+fixed_of config = record {
+  setting = setting_of config;
+  master = master_of config;
+  first = home_of config;
+  ups = λ node. ups_on node [] (links_of config.nodes);
+}
 
 -- the master, the backends and the links of a world
 abbrev pub murder_of : World → Master → Murder
 murder_of world master = record { master = master; nodes = home_at world; links = world.links }
 
--- a frontend knows the master, and asks the first backend for a new mailbox without a name above it; it is neither the master nor a backend
+-- the links to the master and to the backends are up
+pub record IsLinked (ups : Ups) (master : List ℕ) (is_backend : List ℕ → Bool) : Type 0 where
+  pub to_master : is_up ups master ≡ true
+  pub to_backend : (server : List ℕ) → is_backend server ≡ true → is_up ups server ≡ true
+
+-- a frontend knows the master, asks the first backend for a new mailbox without a name above it, and has all its links up; it is neither the master nor a
+-- backend
 pub record IsFrontOf (config : Config) (world : World) (master : Master) (node : List ℕ) (front : Front) : Type 0 where
   pub master_is : front.master ≡ master_of config
   pub first_is : front.first ≡ home_of config
   pub setting_is : front.setting ≡ setting_of config
+  pub ups_are : front.ups ≡ (fixed_of config).ups node
+  pub linked : IsLinked ((fixed_of config).ups node) (master_of config) (λ server. list_any (pointwise nat_eq server) (backends_of config.nodes))
   pub no_master : node ≢ master_of config
   pub no_home : home_at world node ≡ None
   pub no_backend : list_any (pointwise nat_eq node) master.backends ≡ false
@@ -160,7 +177,7 @@ pub record KeepsLaw (config : Config) (heard : ℕ → Heard) (world : World) : 
   pub given : Given
   pub many : ManyHold (murder_of world master) given story.course.store
   pub feeds : FeedsHold config world master
-  pub is_told : AreMarked (setting_of config) world.steps world.marks story
+  pub is_told : AreMarkedSo (setting_of config) world.steps world.marks story
   pub requests : (conn : ℕ) → story.talk.requests conn ≡ requests_of (setting_of config) (frames_heard (heard conn))
   pub connections : (conn : ℕ) → ConnectionIs (fixed_of config) conn world story (heard conn)
 

@@ -245,7 +245,7 @@ front_keeps_open config heard world node conn front law at first =
       law = record {
         master = law.master;
         nodes = front_cores config world next law.master law.nodes node front later at
-            (record { me = refl; master = refl; first = refl; setting = refl }) moved;
+            (record { me = refl; master = refl; first = refl; setting = refl }) refl moved;
         whole = law.whole;
         story = law.story;
         given = law.given;

@@ -5,14 +5,13 @@ use Rattle.std.specs.Ordering.{nat_cmp}
 use Rattle.std.specs.Cmp.Lexicographic.{slice_cmp}
 use Rattle.std.proofs.lemmas.Map.Steps.{set_value_same}
 use Rattle.back_node.specs.declared.node.BackNode.{BackNode}
-use Rattle.cluster_core.specs.World.{master_of, setting_of, carry_all, client_at, comes, front_at, home_at, node_at, stepped, with_state}
+use Rattle.cluster_core.specs.World.{master_of, setting_of, carry_all, client_at, comes, front_at, home_at, node_at, stepped, with_state, Disks}
 use Rattle.cluster_core.specs.declared.world.Client.{Client}
 use Rattle.front_core.specs.declared.front.Front.{Front}
 use Rattle.imap_talk.specs.Heard.{Heard, frames_heard}
 use Rattle.imap_talk.proofs.RequestsOf.{requests_of}
 use Rattle.many_links.specs.ManyHold.{ManyHold}
-use Rattle.mark_history.specs.Marked.{AreMarked, Tale, talk_told}
-use Rattle.mark_history.specs.Marked.AreMarked.{a_step}
+use Rattle.mark_history.specs.Marked.{Tale, talk_told}
 use Rattle.master_core.specs.declared.master.Master.{Master}
 use Rattle.mur_base.specs.Map.{value_at}
 use Rattle.std.specs.BTreeMap.{is_at}
@@ -25,6 +24,7 @@ use Rattle.node_step.specs.declared.node.NodeState.TheVariants as state
 use Rattle.node_step.specs.NodeStep.{as_back, as_front, as_master}
 use Rattle.cluster_core.specs.declared.world.World.{World}
 use Rattle.std.proofs.lemmas.Option.{same_Some}
+use Rattle.cluster_core.proofs.Commands.AllReached.{AreMarkedSo, a_step}
 use Rattle.cluster_core.proofs.Commands.Place.{Place}
 use Rattle.cluster_core.proofs.Commands.Standing.{Fixed}
 use Rattle.cluster_core.proofs.Connections.ConnectionLaw.{IsInNoneOf, IsInPlaceOf, MarksStay, PlacesStay, says_same}
@@ -33,7 +33,7 @@ use Rattle.cluster_core.proofs.Connections.KeepsLaw.ConnectionIs.{is_nobody, is_
 use Rattle.cluster_core.proofs.Connections.Stays.{SameFront, StaysInPlace, connection_stays, same_front, no_front as no_front_now}
 use Rattle.cluster_core.proofs.Connections.StillFed.{feeds_alike}
 use Rattle.cluster_core.proofs.Feeds.Many.{same_murder}
-use Rattle.cluster_core.proofs.Nodes.Comes.{home_comes, home_does, none_comes, with_home}
+use Rattle.cluster_core.proofs.Nodes.Comes.{home_comes, home_does, none_comes, with_home, IsOfClient, client_writes}
 use Rattle.cluster_core.proofs.Nodes.Stay.{same_nodes}
 use Rattle.cluster_core.proofs.Places.FrontWorlds.{SameHomes, alike_stay}
 
@@ -101,7 +101,7 @@ still_kept config heard after world next master alike same law nodes many feeds 
     given = law.given;
     many = many;
     feeds = feeds;
-    is_told = subst (λ m. AreMarked (setting_of config) next.steps m law.story) (sym alike.marks)
+    is_told = subst (λ m. AreMarkedSo (setting_of config) next.steps m law.story) (sym alike.marks)
         (a_step world.steps next.steps world.marks law.story alike.steps law.is_told);
     requests = λ conn. law.requests conn ∙ ap (λ h. requests_of (setting_of config) (frames_heard h)) (sym (same conn));
     connections = λ conn. subst (λ h. ConnectionIs (fixed_of config) conn next law.story h) (sym (same conn))
@@ -162,6 +162,33 @@ pub stepped_law : (config : Config) (heard : ℕ → Heard) (world : World) (law
 unfolding still_kept quiet_kept stepped_kept
 stepped_law config heard world law = record { then = (stepped_kept config heard world law).law; same = refl }
 
+-- what stands on the disks is nothing of the law
+module _ (config : Config) (heard : ℕ → Heard) (world : World) (disks : Disks) (law : KeepsLaw config heard world) where
+  abbrev pub other_disks : World
+  other_disks = record world { disks = disks }
+
+  pub disks_feeds : FeedsHold config other_disks law.master
+  disks_feeds = feeds_alike config world other_disks law.master (λ node. refl) refl (λ node now there. record { was = now; at = there; same = refl }) law.feeds
+
+  pub disks_connections : (conn : ℕ) → ConnectionIs (fixed_of config) conn other_disks law.story (heard conn)
+  disks_connections conn =
+      let alike = alike_but_steps (fixed_of config) world other_disks refl refl refl refl refl (omega arith) in
+      alike_stays (fixed_of config) conn world other_disks law.story (heard conn) alike (same_client refl) (law.connections conn)
+
+  abbrev pub disks_law : KeepsLaw config heard other_disks
+  disks_law = record {
+    master = law.master;
+    nodes = same_nodes config world other_disks law.master refl law.nodes;
+    whole = law.whole;
+    story = law.story;
+    given = law.given;
+    many = law.many;
+    feeds = disks_feeds;
+    is_told = law.is_told;
+    requests = law.requests;
+    connections = disks_connections;
+  }
+
 -- nothing at all changes
 pub same_kept : (config : Config) (heard after : ℕ → Heard) (world : World) → ((conn : ℕ) → after conn ≡ heard conn) → (law : KeepsLaw config heard world)
     → KeepsOn config law.story after world
@@ -182,6 +209,12 @@ MasterServes config = (heard after : ℕ → Heard) (world : World) (conn : ℕ)
     → client_at world conn ≡ Some (record { at = master_of config; given = given }) → (law : KeepsLaw config heard world)
     → ((other : ℕ) → after other ≡ heard other) → KeepsOn config law.story after (comes world (master_of config) input)
 
+pub of_client : (conn : ℕ) (input : NodeInput) → IsOfConnection conn input → IsOfClient input
+of_client conn (Opened other) is = tt
+of_client conn (Piece other bytes) is = tt
+of_client conn (Hung other) is = tt
+of_client conn (From name message) is = absurd is
+
 home_idle : (home : BackNode) (conn : ℕ) (input : NodeInput) → IsOfConnection conn input
     → home_does home input ≡ record { state = home; entry = None; outs = [] }
 home_idle home conn (Opened other) is = refl
@@ -200,7 +233,9 @@ home_put : (world : World) (node : List ℕ) (home : BackNode) (input : NodeInpu
     → IsOfConnection conn input → comes world node input ≡ with_state world node (state.Back home)
 unfolding carry_all
 home_put world node home input conn whole at is =
-    home_comes world node input home whole at ∙ ap (with_home world node) (home_idle home conn input is)
+    home_comes world node input home whole at
+    ∙ ap (λ w. with_home w node (home_does home input)) (client_writes world node (state.Back home) input (of_client conn input is))
+    ∙ ap (with_home world node) (home_idle home conn input is)
 
 -- at a backend, at the master, or where no node is
 elsewhere_by : (config : Config) (heard after : ℕ → Heard) (world : World) (node : List ℕ) (conn : ℕ) (input : NodeInput) (given : List ℕ)

@@ -15,7 +15,8 @@ use Rattle.feed_links.proofs.Names.{other_name}
 use Rattle.front_core.specs.declared.connection.Connection.{Connection}
 use Rattle.front_core.specs.declared.connection.Stage.{Stage}
 use Rattle.front_core.specs.declared.connection.Stage.TheVariants.{Reading, Waits, Lists, Ended}
-use Rattle.front_core.specs.Taken.{Turned, answers_now, answers_last, comes_at, input_comes, input_in, inputs_come, request_in, to_begin, turned_by_need}
+use Rattle.front_core.specs.Taken.{Turned, answers_last, begins_if, comes_at, input_comes, input_in, inputs_come, lists_if, request_in, to_begin, told_now, turned_by_need}
+use Rattle.front_core.specs.Ups.{is_up}
 use Rattle.imap_talk.specs.declared.inputs.Input.{Input}
 use Rattle.imap_talk.specs.declared.inputs.Input.TheVariants.{GoesOn, Asks, Faults}
 use Rattle.imap_types.specs.declared.command.Tag.{Tag}
@@ -28,6 +29,7 @@ use Rattle.link_msg.specs.declared.out.Out.{Out}
 use Rattle.link_msg.specs.declared.out.Out.TheVariants.{Client as to_client, Close, Link as to_node, Mark as mark, Told as tell}
 use Rattle.many_links.specs.Murder.{Nodes}
 use Rattle.mur_base.specs.declared.point.AskId.{AskId}
+use Rattle.mur_model.specs.declared.commands.list.Listing.{Listing}
 use Rattle.mur_model.specs.declared.need.Need.{Need}
 use Rattle.mur_model.specs.declared.need.Need.TheVariants as needs
 use Rattle.mur_model.specs.declared.session.Sess.{Sess}
@@ -114,7 +116,7 @@ own_more master nodes conn most more (out ∷ outs) le are =
 
 -- ---- what inputs bring
 
-module _ (fixed : Fixed) (nodes : Nodes) (replica : Replica) (conn : ℕ) (knows : NamesBackends nodes replica.records) (first : IsSome (nodes fixed.first)) where
+module _ (fixed : Fixed) (nodes : Nodes) (front : List ℕ) (replica : Replica) (conn : ℕ) (knows : NamesBackends nodes replica.records) (first : IsSome (nodes fixed.first)) where
   -- the outputs are of the next command, and that is then answered at most
   pub record TurnsOwn (connection : Connection) (turned : Turned) : Type 0 where
     pub own : AreOwn fixed.master nodes conn (connection.answered + 1) turned.outs
@@ -127,26 +129,34 @@ module _ (fixed : Fixed) (nodes : Nodes) (replica : Replica) (conn : ℕ) (knows
       subst (λ c. IsOwnSent fixed.master nodes conn id.command fixed.master (noop_of (record { conn = c; command = id.command }))) (sym its)
       (a_noop id.command (omega arith))
 
-  need_own : (connection : Connection) (tag : Tag) (need : Need) → TurnsOwn connection (turned_by_need (ways_for fixed replica) conn connection tag need)
-  unfolding turned_by_need answers_now answers_last
+  -- it goes out, or the command is refused
+  begins_own : (up : Bool) (connection : Connection) (tag : Tag) (begun : Begun)
+      → IsOwnSent fixed.master nodes conn (connection.answered + 1) begun.sent.to begun.sent.message → TurnsOwn connection (begins_if up conn connection tag begun)
+  unfolding told_now
+  begins_own true connection tag begun sent = record { own = (sent, tt); count = omega arith }
+  begins_own false connection tag begun sent = record { own = (refl, (tt, tt)); count = omega arith }
+
+  lists_own : (up : Bool) (connection : Connection) (tag : Tag) (it : Listing) → TurnsOwn connection (lists_if up fixed.master conn connection tag it)
+  unfolding told_now
+  lists_own true connection tag it = record { own = (a_noop (connection.answered + 1) (omega arith), tt); count = omega arith }
+  lists_own false connection tag it = record { own = (refl, (tt, tt)); count = omega arith }
+
+  need_own : (connection : Connection) (tag : Tag) (need : Need)
+      → TurnsOwn connection (turned_by_need (ways_for fixed front replica) conn connection tag need)
+  unfolding turned_by_need told_now answers_last
   need_own connection tag (needs.Reply reply) = record { own = (refl, (tt, tt)); count = omega arith }
   need_own connection tag (needs.Leave reply) = record { own = (refl, (tt, (tt, tt))); count = omega arith }
   need_own connection tag (needs.Home name asking) =
       let id : AskId = record { conn = conn; command = connection.answered + 1 } in
       let it : Waiting = to_begin name asking in
-      record {
-        own = (
-          begun_own id connection.session it (first_sent replica.records fixed.master fixed.first id connection.session it) refl
-              (first_way nodes replica.records fixed.master fixed.first id connection.session it knows first),
-          tt,
-        );
-        count = omega arith;
-      }
-  need_own connection tag (needs.Names it) = record { own = (a_noop (connection.answered + 1) (omega arith), tt); count = omega arith }
+      let begun : Begun = first_sent replica.records fixed.master fixed.first id connection.session it in
+      begins_own (is_up (fixed.ups front) begun.sent.to) connection tag begun
+      (begun_own id connection.session it begun refl (first_way nodes replica.records fixed.master fixed.first id connection.session it knows first))
+  need_own connection tag (needs.Names it) = lists_own (is_up (fixed.ups front) fixed.master) connection tag it
 
   request_own : (connection : Connection) (request : Request)
-      → TurnsOwn connection (request_in fixed.setting (ways_for fixed replica) conn connection request)
-  unfolding request_in answers_now
+      → TurnsOwn connection (request_in fixed.setting (ways_for fixed front replica) conn connection request)
+  unfolding request_in told_now
   request_own connection (a_command tag it) =
       let is = need_own (record connection { session = (begin fixed.setting connection.session it).session }) tag
       (begin fixed.setting connection.session it).need in
@@ -154,14 +164,15 @@ module _ (fixed : Fixed) (nodes : Nodes) (replica : Replica) (conn : ℕ) (knows
   request_own connection (unknown tag) = record { own = (refl, (tt, tt)); count = omega arith }
   request_own connection (too_big tag) = record { own = (refl, (tt, tt)); count = omega arith }
 
-  input_own : (connection : Connection) (input : Input) → TurnsOwn connection (input_in fixed.setting (ways_for fixed replica) conn connection input)
+  input_own : (connection : Connection) (input : Input)
+      → TurnsOwn connection (input_in fixed.setting (ways_for fixed front replica) conn connection input)
   unfolding input_in
   input_own connection (Asks request) = request_own connection request
   input_own connection (GoesOn why) = record { own = (refl, tt); count = omega arith }
   input_own connection (Faults fault) = record { own = (refl, (tt, tt)); count = omega arith }
 
   comes_own : (connection : Connection) (input : Input) (stage : Stage)
-      → TurnsOwn connection (comes_at fixed.setting (ways_for fixed replica) conn connection input stage)
+      → TurnsOwn connection (comes_at fixed.setting (ways_for fixed front replica) conn connection input stage)
   unfolding comes_at
   comes_own connection input Reading = input_own connection input
   comes_own connection input (Waits tag it) = record { own = tt; count = omega arith }
@@ -169,15 +180,16 @@ module _ (fixed : Fixed) (nodes : Nodes) (replica : Replica) (conn : ℕ) (knows
   comes_own connection input Ended = record { own = tt; count = omega arith }
 
   pub inputs_own : (connection : Connection) (inputs : List Input)
-      → AreOwn fixed.master nodes conn (connection.answered + length inputs) (inputs_come fixed.setting (ways_for fixed replica) conn connection inputs).outs
+      → AreOwn fixed.master nodes conn (connection.answered + length inputs)
+      (inputs_come fixed.setting (ways_for fixed front replica) conn connection inputs).outs
   unfolding inputs_come input_comes
   inputs_own connection [] = tt
   inputs_own connection (input ∷ inputs) =
-      let turned : Turned = comes_at fixed.setting (ways_for fixed replica) conn connection input connection.stage in
+      let turned : Turned = comes_at fixed.setting (ways_for fixed front replica) conn connection input connection.stage in
       let one = comes_own connection input connection.stage in
       let most : ℕ = connection.answered + length (input ∷ inputs) in
-      both_own fixed.master nodes conn most turned.outs (inputs_come fixed.setting (ways_for fixed replica) conn turned.connection inputs).outs
+      both_own fixed.master nodes conn most turned.outs (inputs_come fixed.setting (ways_for fixed front replica) conn turned.connection inputs).outs
       (own_more fixed.master nodes conn (connection.answered + 1) most turned.outs (omega arith) one.own)
       (own_more fixed.master nodes conn ((turned.connection).answered + length inputs) most
-      (inputs_come fixed.setting (ways_for fixed replica) conn turned.connection inputs).outs (omega (arith, one.count))
+      (inputs_come fixed.setting (ways_for fixed front replica) conn turned.connection inputs).outs (omega (arith, one.count))
       (inputs_own turned.connection inputs))

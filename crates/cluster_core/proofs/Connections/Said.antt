@@ -12,8 +12,7 @@ use Rattle.link_msg.specs.declared.how.How.{How}
 use Rattle.link_msg.specs.declared.how.How.TheVariants.{Here}
 use Rattle.link_msg.specs.declared.out.Out.{Out}
 use Rattle.link_msg.specs.declared.out.Out.TheVariants.{Client as to_client, Close, Told as tell}
-use Rattle.mark_history.specs.Marked.{AreMarked, CanAct, Tale, acting, done, telling}
-use Rattle.mark_history.specs.Marked.AreMarked.{tells_at_once}
+use Rattle.mark_history.specs.Marked.{CanAct, Tale, acting, done, telling}
 use Rattle.mark_history.specs.declared.mark.MarkKind.TheVariants.{Told}
 use Rattle.mark_history.proofs.TakenBack.{list_at, list_elsewhere}
 use Rattle.mur_base.specs.Map.{with_value}
@@ -30,6 +29,7 @@ use Rattle.mur_model.proofs.HistoryGrows.{same_lists}
 use Rattle.cluster_core.specs.declared.world.Client.{Client}
 use Rattle.cluster_core.specs.declared.world.World.{World}
 use Rattle.cluster_core.specs.World.{carry, carry_all, client_at, given_more, marked}
+use Rattle.cluster_core.proofs.Commands.AllReached.{AreMarkedSo, tells_at_once}
 use Rattle.cluster_core.proofs.Commands.Standing.{Fixed}
 use Rattle.cluster_core.proofs.Connections.ConnectionLaw.{GoesOnAt, IsMade, KeepsOthers, ReadsOn, client_with, keeps_on, session_of_other, stories_follow}
 use Rattle.cluster_core.proofs.Connections.Tales.{list_more, others_marked}
@@ -180,7 +180,7 @@ said_made fixed front replica conn inputs connection before told world request t
           (keeps_on fixed conn world given after_world (given_keeps fixed world conn client text) (marked_keeps fixed conn given ask Here refl));
       goes_on = stories_follow conn told story now was.made.goes_on (said_goes_on fixed.setting story conn request was.reading.said);
       store = ap (λ (a : Answered). a.store) (is story.course.store) ∙ was.made.store;
-      is_told = subst (λ n. AreMarked fixed.setting world.steps
+      is_told = subst (λ n. AreMarkedSo fixed.setting world.steps
           (world.marks ++ (record { step = world.steps; ask = record { conn = conn; command = n + 1 }; kind = Told Here }) ∷ []) now)
           (sym was.reading.count)
           (tells_at_once world.steps world.marks story conn request 0 can alone was.made.is_told);

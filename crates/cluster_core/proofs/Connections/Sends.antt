@@ -1,5 +1,5 @@
 -- What a frontend's sending of an ask, or of a NOOP, makes of the place of its command, and of those of others; and whom it may ask.
-use Rattle.std.proofs.Common.{◌≡◌, ◌≢◌, ℕ, List, Option, None, Some, refl, sym, ap, subst}
+use Rattle.std.proofs.Common.{◌≡◌, ◌≢◌, ℕ, is_some, List, Option, None, Some, refl, sym, ap, subst}
 use Rattle.std.specs.Ordering.{nat_cmp}
 use Rattle.std.specs.Cmp.Lexicographic.{slice_cmp}
 use Rattle.std.specs.Option.{IsSome}
@@ -18,16 +18,17 @@ use Rattle.cluster_core.specs.World.{home_at}
 use Rattle.cluster_core.proofs.Commands.Place.{Place, Place as place}
 use Rattle.cluster_core.proofs.Commands.Standing.{Fixed}
 use Rattle.cluster_core.proofs.Connections.ConnectionLaw.{IsInPlaceOf, PlacesStay}
-use Rattle.cluster_core.proofs.Connections.KeepsLaw.{NamesBackends}
+use Rattle.cluster_core.proofs.Connections.KeepsLaw.{IsLinked, NamesBackends}
 use Rattle.cluster_core.proofs.Places.FrontSends.{sends_ask, sends_noop}
 use Rattle.cluster_core.proofs.Places.FrontWorlds.{ask_stays, noop_stays, with_sent}
 use Rattle.cluster_core.proofs.Places.Stays.{IsFrontend}
 
--- a frontend with this replica: each record names a backend, and so does what it asks without one
+-- a frontend with this replica: each record names a backend, and so does what it asks without one; its links to the master and to the backends are up
 pub record MayAsk (fixed : Fixed) (nodes : Nodes) (front : List ℕ) (replica : Replica) : Type 0 where
   pub frontend : IsFrontend fixed.master nodes front
   pub knows : NamesBackends nodes replica.records
   pub first : IsSome (nodes fixed.first)
+  pub up : IsLinked (fixed.ups front) fixed.master (λ server. is_some (nodes server))
 
 -- the command that was nowhere is here then, and those of every other connection are where they were
 pub record SendsSo (fixed : Fixed) (world next : World) (front : List ℕ) (replica : Replica) (id : AskId) (here : Place) : Type 0 where

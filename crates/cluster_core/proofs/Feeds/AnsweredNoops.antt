@@ -1,5 +1,5 @@
 -- What a frontend sends the master as it takes an answer of a backend, or the master's OK, are NOOPs.
-use Rattle.std.proofs.Common.{◌≡◌, ◌≢◌, inl, inr, ℕ, ◌+◌, ◌<◌, ◌^◌, ◌==◌, Bool, true, false, List, length, Option, None, Some, refl, ap, arith}
+use Rattle.std.proofs.Common.{◌≡◌, ◌≢◌, inl, inr, ℕ, ◌+◌, ◌<◌, ◌^◌, ◌==◌, Bool, true, false, List, [], length, Option, None, Some, refl, ap, arith}
 use Rattle.ask_routes.specs.declared.ask_for.AskFor.{AskFor}
 use Rattle.ask_routes.specs.declared.ask_for.AskFor.TheVariants as about
 use Rattle.ask_routes.specs.declared.next.Next.{Next}
@@ -7,29 +7,37 @@ use Rattle.ask_routes.specs.declared.next.Next.TheVariants as next
 use Rattle.ask_routes.specs.declared.next.Why.{Why}
 use Rattle.ask_routes.specs.declared.next.Why.TheVariants as why
 use Rattle.ask_routes.specs.Ways.{ask_for, behind_ok, behind_record, behind_reserved, create_behind, mailbox_behind}
+use Rattle.asking_core.specs.Begins.{Begun}
 use Rattle.asking_core.specs.Answered.{WentOn, answered, goes_on, needs_by, told_by}
 use Rattle.asking_core.specs.Cleared.{cleared}
 use Rattle.asking_core.specs.declared.then.Then.{Then}
 use Rattle.asking_core.specs.declared.then.Then.TheVariants as then
 use Rattle.asking_core.specs.declared.waiting.At.{At}
 use Rattle.asking_core.specs.declared.waiting.At.TheVariants.{Home, Barrier}
+use Rattle.asking_core.specs.declared.waiting.Sent.{Sent}
 use Rattle.asking_core.specs.declared.waiting.Waiting.{Waiting}
 use Rattle.feed_core.specs.declared.rec.Rec.{Rec}
 use Rattle.feed_core.specs.declared.rec.Rec.TheVariants.{Active, Reserved as reserved_rec}
 use Rattle.feed_core.specs.Feed.{rec_at}
 use Rattle.feed_core.specs.Routes.{server_by}
+use Rattle.feed_links.proofs.FeedLaw.{both}
 use Rattle.front_core.specs.declared.connection.Connection.{Connection}
 use Rattle.front_core.specs.declared.connection.Stage.{Stage}
 use Rattle.front_core.specs.declared.connection.Stage.TheVariants.{Reading, Waits, Lists, Ended}
-use Rattle.front_core.specs.Answered.{answer_by, answer_comes, by_then, clears_at, goes_on_by, need_behind, ok_by, ok_comes, reading_again}
-use Rattle.front_core.specs.Taken.{Ways, next_of, to_begin}
+use Rattle.front_core.specs.Answered.{answer_by, answer_comes, by_then, clears_at, goes_on_by, need_behind, ok_by, ok_comes, reading_again, refused_behind, sends_if}
+use Rattle.front_core.specs.Answered.{waiting_come}
+use Rattle.front_core.specs.Taken.{Turned, Ways, asks, begins_if, inputs_come, lists_if, next_of, told_now}
+use Rattle.front_core.specs.Ups.{is_up}
 use Rattle.imap_types.specs.declared.command.Tag.{Tag}
 use Rattle.link_msg.specs.declared.answer.AnswerBody.{AnswerBody}
 use Rattle.link_msg.specs.declared.answer.AnswerBody.TheVariants as answer
 use Rattle.link_msg.specs.declared.answer.BackAnswer.{BackAnswer}
 use Rattle.link_msg.specs.declared.how.How.{How}
+use Rattle.link_msg.specs.declared.how.How.TheVariants.{Behind}
 use Rattle.link_msg.specs.declared.out.Out.TheVariants.{Link as to_node}
 use Rattle.mur_base.specs.declared.point.AskId.{AskId}
+use Rattle.mur_base.specs.declared.point.What.TheVariants.{Unreached as unreached}
+use Rattle.mur_model.specs.declared.commands.list.Listing.{Listing}
 use Rattle.mur_model.specs.declared.need.Need.{Need}
 use Rattle.mur_model.specs.declared.need.Need.TheVariants as needs
 use Rattle.mur_model.specs.declared.session.Sess.{Sess}
@@ -37,8 +45,9 @@ use Rattle.mur_model.specs.declared.setting.Setting.{Setting}
 use Rattle.route_links.specs.Answered.{IsNumbered}
 use Rattle.route_links.proofs.Tags.{is_noop}
 use Rattle.session_core.specs.Finish.{finish}
+use Rattle.session_core.specs.Relocated.{Refused, relocated}
 use Rattle.session_core.specs.declared.result.OpResult.TheVariants.{Missing}
-use Rattle.cluster_core.proofs.Feeds.Noops.{AreApart, AreWellSent, IsWellSent, first_well, inputs_well}
+use Rattle.cluster_core.proofs.Feeds.Noops.{AreApart, AreWellSent, IsWellSent, asks_well, begun_for, inputs_well, lists_well}
 
 -- what was decided asks no master for mail
 abbrev pub IsWellNext : List ℕ → Next → Type 0
@@ -119,21 +128,67 @@ module _ (setting : Setting) (ways : Ways) (apart : AreApart ways) (conn : ℕ) 
   abbrev pub HasRoomBehind : Connection → Type 0
   HasRoomBehind connection = connection.answered + 1 + length connection.waiting < 2 ^ 64
 
+  -- the inputs that wait come behind what was let out
+  follow_well : (turned : Turned) → AreWellSent ways.master turned.outs → turned.connection.answered + length turned.connection.waiting < 2 ^ 64
+      → AreWellSent ways.master (waiting_come setting ways conn turned).outs
+  follow_well turned well room =
+      let free : Connection = record turned.connection { waiting = [] } in
+      both (IsWellSent ways.master) turned.outs (inputs_come setting ways conn free turned.connection.waiting).outs well
+      (inputs_well setting ways apart conn fits free turned.connection.waiting room)
+
+  begins_room : (up : Bool) (connection : Connection) (tag : Tag) (begun : Begun) → HasRoomBehind connection
+      → (let next = (begins_if up conn (record connection { stage = Reading }) tag begun).connection in next.answered + length next.waiting < 2 ^ 64)
+  unfolding told_now
+  begins_room true connection tag begun room = omega (arith, room)
+  begins_room false connection tag begun room = omega (arith, room)
+
+  lists_room : (up : Bool) (connection : Connection) (tag : Tag) (it : Listing) → HasRoomBehind connection
+      → (let next = (lists_if up ways.master conn (record connection { stage = Reading }) tag it).connection in next.answered + length next.waiting < 2 ^ 64)
+  unfolding told_now
+  lists_room true connection tag it room = omega (arith, room)
+  lists_room false connection tag it room = omega (arith, room)
+
   behind_well : (connection : Connection) (tag : Tag) (how : How) (need : Need) → HasRoomBehind connection
       → AreWellSent ways.master (need_behind setting ways conn connection tag how need).outs
   behind_well connection tag how (needs.Reply reply) room =
       (tt, (tt, inputs_well setting ways apart conn fits (reading_again connection) connection.waiting (omega (arith, room))))
   behind_well connection tag how (needs.Leave reply) room = (tt, (tt, (tt, tt)))
   behind_well connection tag how (needs.Home name asking) room =
-      (first_well setting ways apart conn fits (next_of conn connection) connection.session (to_begin name asking) (fits, omega (arith, room)), tt)
-  behind_well connection tag how (needs.Names it) room = (inr (is_noop (next_of conn connection) (fits, omega (arith, room))), tt)
+      let reads : Connection = record connection { stage = Reading } in
+      let begun : Begun = begun_for setting ways apart conn fits reads name asking in
+      follow_well (asks ways conn reads tag name asking) (asks_well setting ways apart conn fits reads tag name asking (omega (arith, room))).outs
+      (begins_room (is_up ways.ups begun.sent.to) connection tag begun room)
+  behind_well connection tag how (needs.Names it) room =
+      let reads : Connection = record connection { stage = Reading } in
+      let up : Bool = is_up ways.ups ways.master in
+      follow_well (lists_if up ways.master conn reads tag it) (lists_well setting ways apart conn fits up reads tag it (omega (arith, room))).outs
+      (lists_room up connection tag it room)
+
+  -- the client is given the refusal, and the inputs that waited come
+  refused_well : (connection : Connection) (tag : Tag) (refused : Refused) (node : List ℕ) → HasRoomBehind connection
+      → AreWellSent ways.master (refused_behind setting ways conn connection tag refused node).outs
+  refused_well connection tag refused node room = (
+    tt,
+    (
+      tt,
+      inputs_well setting ways apart conn fits (reading_again (record connection { session = refused.session })) connection.waiting
+          (omega (arith, room)),
+    ),
+  )
+
+  sends_well : (up : Bool) (connection : Connection) (tag : Tag) (it : Waiting) (sent : Sent) → HasRoomBehind connection
+      → IsWellSent ways.master (to_node sent.to sent.message) → AreWellSent ways.master (sends_if up setting ways conn connection tag it sent).outs
+  sends_well true connection tag it sent room well = (well, tt)
+  sends_well false connection tag it sent room well =
+      refused_well connection tag (relocated connection.session it.asking.awaited (unreached sent.to)) sent.to room
 
   then_well : (connection : Connection) (tag : Tag) (it : Waiting) (what : Then) → HasRoomBehind connection → IsWellThen ways.master what
       → AreWellSent ways.master (by_then setting ways conn connection tag it what).outs
-  then_well connection tag it (then.Sends sent) room well = (well, tt)
-  then_well connection tag it (then.Needs need) room well = behind_well connection tag _ need room
-  then_well connection tag it (then.Refused cause need) room well = behind_well connection tag _ need room
-  then_well connection tag it then.Lost room well = tt
+  then_well connection tag it (then.Sends sent) room well = sends_well (is_up ways.ups sent.to) connection tag it sent room well
+  then_well connection tag it (then.Needs need) room well = behind_well connection tag Behind need room
+  then_well connection tag it (then.Refused cause reply) room well =
+      (tt, (tt, inputs_well setting ways apart conn fits (reading_again connection) connection.waiting (omega (arith, room))))
+  then_well connection tag it then.Lost room well = (tt, (tt, tt))
   then_well connection tag it then.Stays room well = tt
 
   went_well : (connection : Connection) (tag : Tag) (went : WentOn) → HasRoomBehind connection → IsWellThen ways.master went.then

@@ -15,7 +15,9 @@ use Rattle.feed_links.proofs.Names.{other_name}
 use Rattle.front_core.specs.declared.connection.Connection.{Connection}
 use Rattle.front_core.specs.declared.connection.Stage.{Stage}
 use Rattle.front_core.specs.declared.connection.Stage.TheVariants.{Reading, Waits, Lists, Ended}
-use Rattle.front_core.specs.Taken.{Turned, Ways, answers_last, answers_now, comes_at, input_comes, input_in, inputs_come, next_of, request_in, to_begin, turned_by_need}
+use Rattle.front_core.specs.Taken.{Turned, Ways, answers_last, asks, begins_if, comes_at, input_comes, input_in, inputs_come, lists_if, next_of, request_in, to_begin}
+use Rattle.front_core.specs.Taken.{told_now, turned_by_need}
+use Rattle.front_core.specs.Ups.{is_up}
 use Rattle.imap_talk.specs.declared.inputs.Input.{Input}
 use Rattle.imap_talk.specs.declared.inputs.Input.TheVariants.{GoesOn, Asks, Faults}
 use Rattle.imap_types.specs.declared.command.Tag.{Tag}
@@ -25,6 +27,8 @@ use Rattle.link_msg.specs.declared.message.LinkMsg.{LinkMsg}
 use Rattle.link_msg.specs.declared.out.Out.{Out}
 use Rattle.link_msg.specs.declared.out.Out.TheVariants.{Client as to_client, Close, Link as to_node, Mark as mark, Told as tell}
 use Rattle.mur_base.specs.declared.point.AskId.{AskId}
+use Rattle.mur_model.specs.declared.commands.list.Listing.{Listing}
+use Rattle.mur_model.specs.declared.need.Asking.{Asking}
 use Rattle.mur_model.specs.declared.need.Need.{Need}
 use Rattle.mur_model.specs.declared.need.Need.TheVariants as needs
 use Rattle.mur_model.specs.declared.session.Sess.{Sess}
@@ -81,26 +85,48 @@ module _ (setting : Setting) (ways : Ways) (apart : AreApart ways) (conn : ℕ) 
   first_well id session it numbered = by_about id session it (ask_for it.name it.asking.op) numbered
 
   -- what an input makes of a connection: one command more is answered at most
-  record IsWell (connection : Connection) (turned : Turned) : Type 0 where
-    outs : AreWellSent ways.master turned.outs
-    count : turned.connection.answered ≤ connection.answered + 1
+  pub record IsWell (connection : Connection) (turned : Turned) : Type 0 where
+    pub outs : AreWellSent ways.master turned.outs
+    pub count : turned.connection.answered ≤ connection.answered + 1
 
   numbered : (connection : Connection) → connection.answered + 1 < 2 ^ 64 → IsNumbered (next_of conn connection)
   numbered connection less = (fits, less)
 
+  -- it goes out, or the command is refused
+  pub begins_well : (up : Bool) (connection : Connection) (tag : Tag) (begun : Begun) → IsWellSent ways.master (to_node begun.sent.to begun.sent.message)
+      → IsWell connection (begins_if up conn connection tag begun)
+  unfolding told_now
+  begins_well true connection tag begun well = record { outs = (well, tt); count = omega arith }
+  begins_well false connection tag begun well = record { outs = (tt, (tt, tt)); count = omega arith }
+
+  pub lists_well : (up : Bool) (connection : Connection) (tag : Tag) (it : Listing) → connection.answered + 1 < 2 ^ 64
+      → IsWell connection (lists_if up ways.master conn connection tag it)
+  unfolding told_now
+  lists_well true connection tag it less =
+      record { outs = (inr (is_noop (next_of conn connection) (numbered connection less)), tt); count = omega arith }
+  lists_well false connection tag it less = record { outs = (tt, (tt, tt)); count = omega arith }
+
+  -- what begins, and what goes out for it
+  abbrev pub begun_for : Connection → List ℕ → Asking → Begun
+  begun_for connection name asking =
+      first_sent ways.recs ways.master ways.first (next_of conn connection) connection.session (to_begin name asking)
+
+  pub asks_well : (connection : Connection) (tag : Tag) (name : List ℕ) (asking : Asking) → connection.answered + 1 < 2 ^ 64
+      → IsWell connection (asks ways conn connection tag name asking)
+  asks_well connection tag name asking less =
+      let begun : Begun = begun_for connection name asking in
+      begins_well (is_up ways.ups begun.sent.to) connection tag begun
+      (first_well (next_of conn connection) connection.session (to_begin name asking) (numbered connection less))
+
   need_well : (connection : Connection) (tag : Tag) (need : Need) → connection.answered + 1 < 2 ^ 64 → IsWell connection (turned_by_need ways conn connection tag need)
-  unfolding turned_by_need answers_now answers_last
+  unfolding turned_by_need told_now answers_last
   need_well connection tag (needs.Reply reply) less = record { outs = (tt, (tt, tt)); count = omega arith }
   need_well connection tag (needs.Leave reply) less = record { outs = (tt, (tt, (tt, tt))); count = omega arith }
-  need_well connection tag (needs.Home name asking) less = record {
-    outs = (first_well (next_of conn connection) connection.session (to_begin name asking) (numbered connection less), tt);
-    count = omega arith;
-  }
-  need_well connection tag (needs.Names it) less =
-      record { outs = (inr (is_noop (next_of conn connection) (numbered connection less)), tt); count = omega arith }
+  need_well connection tag (needs.Home name asking) less = asks_well connection tag name asking less
+  need_well connection tag (needs.Names it) less = lists_well (is_up ways.ups ways.master) connection tag it less
 
   request_well : (connection : Connection) (request : Request) → connection.answered + 1 < 2 ^ 64 → IsWell connection (request_in setting ways conn connection request)
-  unfolding request_in answers_now
+  unfolding request_in told_now
   request_well connection (a_command tag it) less =
       let behind = begin setting connection.session it in
       let well = need_well (record connection { session = behind.session }) tag behind.need less in

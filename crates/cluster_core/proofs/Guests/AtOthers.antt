@@ -7,7 +7,7 @@ use Rattle.std.specs.Prelude.{⊤}
 use Rattle.std.proofs.Math.Logic.{⊎_elim}
 use Rattle.back_node.specs.declared.node.BackNode.{BackNode}
 use Rattle.cluster_core.specs.Headline.OneNode.{node_of, node_of as node_there}
-use Rattle.cluster_core.specs.World.{master_of, client_at, comes, comes_to, front_at, home_at, master_at, node_at, not_lost, with_state}
+use Rattle.cluster_core.specs.World.{master_of, client_at, comes, comes_to, front_at, home_at, master_at, node_at, not_lost, with_acted}
 use Rattle.cluster_core.specs.declared.world.Client.{Client}
 use Rattle.guest_links.specs.Guests.{Guest}
 use Rattle.guest_links.specs.Outputs.{given_by as given_out}
@@ -28,7 +28,7 @@ use Rattle.cluster_core.proofs.Runs.OneNodeLaw.{carry_all_sends}
 use Rattle.cluster_core.proofs.Runs.OwnClientsLaw.{Anyone, HaveOwnClients, IsClientOf, anyone_speaks, comes_same}
 use Rattle.cluster_core.proofs.Guests.Given.{gets, gets_none, given_made, none_given}
 use Rattle.cluster_core.proofs.Guests.GuestLaw.{GuestIs, IsPlacedSo}
-use Rattle.cluster_core.proofs.Nodes.Comes.{a_master, front_comes, front_does, front_moved, home_comes, home_does, none_comes}
+use Rattle.cluster_core.proofs.Nodes.Comes.{a_master, front_comes, front_does, front_moved, home_comes, home_does, none_comes, wrote}
 use Rattle.cluster_core.proofs.OneServer.SaysOf.{IsSilent}
 
 -- a backend gives nothing to a client
@@ -60,17 +60,16 @@ others_by : (world : World) (node : List ℕ) (input : NodeInput) (found : Optio
 unfolding comes_to
 others_by world node input None any ne = refl
 others_by world node input (Some it) any ne =
-    let next : NodeState = (node_takes it input).state in
     ap (λ n. value_at (slice_cmp nat_cmp) n any)
-    (carry_all_sends node (with_state world node next) (not_lost world.broken node (node_takes it input).outs)).nodes
-    ∙ value_at-with_value-other (slice_cmp nat_cmp) names_apart world.nodes node any next ne
+    (carry_all_sends node (with_acted world node (node_takes it input)) (not_lost world.broken node (node_takes it input).outs)).nodes
+    ∙ value_at-with_value-other (slice_cmp nat_cmp) names_apart world.nodes node any (node_takes it input).state ne
 
 where_by : (world : World) (node : List ℕ) (input : NodeInput) (found : Option NodeState) (conn : ℕ)
     → node_there (client_at (comes_to world node input found) conn) ≡ node_there (client_at world conn)
 unfolding comes_to
 where_by world node input None conn = refl
 where_by world node input (Some it) conn =
-    (carry_all_sends node (with_state world node (node_takes it input).state) (not_lost world.broken node (node_takes it input).outs)).clients conn
+    (carry_all_sends node (with_acted world node (node_takes it input)) (not_lost world.broken node (node_takes it input).outs)).clients conn
 
 module _ (config : Config) (world : World) (node : List ℕ) (input : NodeInput) (apart : node ≢ master_of config) (whole : world.broken ≡ [])
     (only : (any : List ℕ) (other : Master) → master_at world any ≡ Some other → any ≡ master_of config) (own : HaveOwnClients world)
@@ -114,7 +113,7 @@ module _ (config : Config) (world : World) (node : List ℕ) (input : NodeInput)
       let nothing : given_out conn (home_does home input).outs ≡ [] = back_gives home (IsClientOf world node) input conn (own node (state.Back home) found) in
       let same : client_at next conn ≡ client_at world conn =
       ap (λ (w : World). client_at w conn) (home_comes world node input home whole there)
-      ∙ given_made world node (state.Back (home_does home input).state) (home_does home input).outs conn
+      ∙ given_made (wrote world node (state.Back home) input) node (state.Back (home_does home input).state) (home_does home input).outs conn
       ∙ ap (λ g. option_map (gets g) (client_at world conn)) nothing ∙ gets_none (client_at world conn) in
       ap given_by same ∙ silent node at (ap as_front found ∙ no_front home)
   silent_here conn (Some (state.Master master)) found at none silent =

@@ -21,6 +21,7 @@ use Rattle.mur_base.proofs.MapLaws.{numbers_apart, same_or_other, value_at-with_
 use Rattle.mur_config.specs.declared.config.Config.{Config}
 use Rattle.node_step.specs.declared.input.NodeInput.{NodeInput}
 use Rattle.node_step.specs.declared.input.NodeInput.TheVariants.{Opened, Piece, Hung, From}
+use Rattle.node_step.specs.declared.node.NodeState.TheVariants as state
 use Rattle.node_step.specs.NodeStep.{as_front, as_master}
 use Rattle.node_step.proofs.OwnOuts.{ComesFrom}
 use Rattle.schedule_text.specs.declared.event.Event.{Event}
@@ -31,7 +32,7 @@ use Rattle.cluster_core.proofs.Runs.OwnClientsLaw.{Anyone, HaveOwnClients, IsCli
 use Rattle.cluster_core.proofs.Guests.AtMaster.{comes_so, guest_joins, guest_next, happening_by, law_next}
 use Rattle.cluster_core.proofs.Guests.AtOthers.{other_guest, other_master}
 use Rattle.cluster_core.proofs.Guests.GuestLaw.{GuestIs, GuestsLaw, IsElsewhere, IsPlacedSo, placed_same}
-use Rattle.cluster_core.proofs.Nodes.Comes.{with_master}
+use Rattle.cluster_core.proofs.Nodes.Comes.{with_master, wrote}
 
 -- what each world has
 pub record Fits (config : Config) (world : World) : Type 0 where
@@ -88,8 +89,12 @@ module _ (config : Config) (knows : KnowsMaster config) (world : World) (master 
   abbrev happens : Happening
   happens = happening_by input
 
+  -- the world once the master's entry is written
+  abbrev put : World
+  put = wrote world (master_of config) (state.Master master) input
+
   abbrev acts_so : World
-  acts_so = with_master world (master_of config) (step_of master (happening_by input))
+  acts_so = with_master put (master_of config) (step_of master (happening_by input))
 
   -- it is the master
   master_comes : node ≡ master_of config
@@ -98,7 +103,7 @@ module _ (config : Config) (knows : KnowsMaster config) (world : World) (master 
   master_comes here each =
       subst (GuestsLaw config (seen_at master guests (Some happens)))
       (sym (ap (λ n. comes world n input) here ∙ comes_so world (master_of config) input master fits.whole there))
-      (law_next config world master there order told happens (seen_at master guests (Some happens)) each)
+      (law_next config put master there order told happens (seen_at master guests (Some happens)) each)
 
   -- it is another node
   other_comes : node ≢ master_of config → ((conn : ℕ) → GuestIs config world master conn (guests conn)) → GuestsLaw config guests (comes world node input)
@@ -130,7 +135,10 @@ module _ (config : Config) (knows : KnowsMaster config) (world : World) (master 
   pub acts_guests : ((conn : ℕ) → first_seen master.me conn happens ≡ None) → ((conn : ℕ) → GuestIs config world master conn (guests conn))
       → GuestsLaw config (seen_at master guests (at_master config node happens)) (comes world node input)
   acts_guests first each =
-      comes_guests (λ here conn. guest_next config world master there order told happens conn (guests conn) (λ _. first conn) (each conn)) (λ apart. each)
+      comes_guests
+      (λ here conn. guest_next config put master there order told happens conn (guests conn) (λ _. first conn)
+      (guest_alike config world put master conn (guests conn) refl refl (each conn)))
+      (λ apart. each)
 
 -- ---- a client connects
 
@@ -175,14 +183,17 @@ module _ (config : Config) (knows : KnowsMaster config) (world : World) (fits : 
       (λ (ne : other ≢ conn). others_there other ne)
       (same_or_other nat_cmp numbers_apart other conn)
 
+  abbrev joined_there : World
+  joined_there = wrote joined (master_of config) (state.Master law.master) (Opened conn)
+
   abbrev greets : World
-  greets = with_master joined (master_of config) (step_of law.master (connects conn))
+  greets = with_master joined_there (master_of config) (step_of law.master (connects conn))
 
   its_own : node ≡ master_of config
       → GuestIs config greets (step_of law.master (connects conn)).master conn (next_seen law.master conn (guests conn) (connects conn))
   its_own here =
       subst (λ s. GuestIs config greets (step_of law.master (connects conn)).master conn (next_seen law.master conn s (connects conn))) (sym is_new)
-      (guest_joins config joined law.master law.there law.order law.told (connects conn) conn
+      (guest_joins config joined_there law.master law.there law.order law.told (connects conn) conn
       (ap (λ b. cond b (Some (arrived law.master.me)) None) (same_number conn))
       (its_client ∙ ap {B = Option Client} (λ n. Some (record { at = n; given = [] })) here) unseen)
 
@@ -192,8 +203,9 @@ module _ (config : Config) (knows : KnowsMaster config) (world : World) (fits : 
       (λ (e : other ≡ conn).
       subst (λ c. GuestIs config greets (step_of law.master (connects conn)).master c (next_seen law.master c (guests c) (connects conn))) (sym e)
       (its_own here))
-      (λ (ne : other ≢ conn). guest_next config joined law.master law.there law.order law.told (connects conn) other (guests other)
-      (λ _. ap (λ b. cond b (Some (arrived law.master.me)) None) (other_number other conn ne)) (others_there other ne))
+      (λ (ne : other ≢ conn). guest_next config joined_there law.master law.there law.order law.told (connects conn) other (guests other)
+      (λ _. ap (λ b. cond b (Some (arrived law.master.me)) None) (other_number other conn ne))
+      (guest_alike config joined joined_there law.master other (guests other) refl refl (others_there other ne)))
       (same_or_other nat_cmp numbers_apart other conn)
 
   opens_new : GuestsLaw config (seen_at law.master guests (at_master config node (connects conn))) (comes joined node (Opened conn))

@@ -21,7 +21,7 @@ use Rattle.schedule_text.specs.declared.event.Event.TheVariants.{Open, Data, Han
 use Rattle.cluster_core.specs.declared.world.World.{World}
 use Rattle.cluster_core.specs.World.{client_at, client_does, comes, front_at, home_at, master_at, node_at, opens, stepped, steps_by, takes, with_client}
 use Rattle.cluster_core.proofs.Guests.AtMaster.{comes_so, happening_by}
-use Rattle.cluster_core.proofs.Nodes.Comes.{IsOfClient, a_master, front_comes, front_does, front_moved, home_comes, home_does, home_moved, master_moved, none_comes, with_master}
+use Rattle.cluster_core.proofs.Nodes.Comes.{IsOfClient, a_master, front_comes, front_does, front_moved, home_comes, home_does, home_moved, master_moved, none_comes, with_master, wrote}
 
 no_change : (master : Master) (input : NodeInput) → IsOfClient input → change_of master (happening_by input) ≡ None
 no_change master (Opened conn) is = refl
@@ -43,13 +43,14 @@ comes_by world node input (Some (state.Front front)) found whole is any =
 comes_by world node input (Some (state.Back home)) found whole is any =
     let there : home_at world node ≡ Some home = ap as_back found ∙ a_back home in
     ap (λ (w : World). table_at w any) (home_comes world node input home whole there)
-    ∙ ap table_by ((home_moved world node home (home_does home input) there).masters any)
+    ∙ ap table_by ((home_moved (wrote world node (state.Back home) input) node home (home_does home input) there).masters any)
 comes_by world node input (Some (state.Master master)) found whole is any =
     let there : master_at world node ≡ Some master = ap as_master found ∙ a_master master in
-    let moved = master_moved world node master (step_of master (happening_by input)) there in
+    let put : World = wrote world node (state.Master master) input in
+    let moved = master_moved put node master (step_of master (happening_by input)) there in
     ap (λ (w : World). table_at w any) (comes_so world node input master whole there)
     ∙ ⊎_elim
-    (λ (e : any ≡ node). ap (λ n. table_at (with_master world node (step_of master (happening_by input))) n) e
+    (λ (e : any ≡ node). ap (λ n. table_at (with_master put node (step_of master (happening_by input))) n) e
     ∙ ap table_by moved.own ∙ master_table master input is ∙ sym (ap (λ n. table_at world n) e ∙ ap table_by there))
     (λ (ne : any ≢ node). ap table_by (moved.masters any ne))
     (same_or_other (slice_cmp nat_cmp) names_apart any node)

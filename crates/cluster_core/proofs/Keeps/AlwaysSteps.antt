@@ -25,7 +25,7 @@ use Rattle.node_step.specs.NodeStep.{as_back, as_front, as_master}
 use Rattle.cluster_core.specs.declared.world.World.{World}
 use Rattle.cluster_core.specs.World.{comes, master_at, node_at}
 use Rattle.node_step.proofs.NodeKinds.{a_back, a_front}
-use Rattle.cluster_core.proofs.Nodes.Comes.{front_comes, front_does, home_comes, home_does, master_comes, master_does, none_comes, a_master}
+use Rattle.cluster_core.proofs.Nodes.Comes.{front_comes, front_does, home_comes, home_does, master_comes, master_does, none_comes, a_master, wrote}
 use Rattle.cluster_core.proofs.Points.Outside.{AreThey, IsIts, says_watched}
 use Rattle.cluster_core.proofs.Keeps.Always.{HoldsAlways, IsWell, made_holds}
 use Rattle.cluster_core.proofs.Keeps.Watchers.{bytes_watch, connects_watch, leaves_watch}
@@ -102,6 +102,14 @@ master_well world node master (Hung conn) at is fits = left_well world node mast
 
 -- ---- any node
 
+-- what is written changes nothing of it
+wrote_holds : (world : World) (node : List ℕ) (it : NodeState) (input : NodeInput) → HoldsAlways world → HoldsAlways (wrote world node it input)
+wrote_holds world node it input holds = record {
+  whole = holds.whole;
+  masters = λ any master at. (let is = holds.masters any master at in record { watchers = is.watchers; no_stream = is.no_stream; selfless = is.selfless });
+  senders = holds.senders;
+}
+
 no_master_front : (front : Front) (master : Master) → as_master (Some (state.Front front)) ≡ Some master → ⊥
 unfolding as_master
 no_master_front front master e = cc
@@ -123,17 +131,19 @@ module _ (world : World) (node : List ℕ) (input : NodeInput) (holds : HoldsAlw
       (λ master e. absurd (no_master_front (front_does front input).front master e)))
   by_node (Some (state.Back home)) there =
       subst HoldsAlways (sym (home_comes world node input home holds.whole (ap as_back there ∙ a_back home)))
-      (made_holds world node (state.Back home) (state.Back (home_does home input).state) (home_does home input).outs there holds
+      (made_holds (wrote world node (state.Back home) input) node (state.Back home) (state.Back (home_does home input).state) (home_does home input).outs there
+      (wrote_holds world node (state.Back home) input holds)
       (λ master e. absurd (no_master_back (home_does home input).state master e)))
   by_node (Some (state.Master master)) there =
       let next : Served = master_does master input in
       let at : master_at world node ≡ Some master = ap as_master there ∙ a_master master in
       let is = holds.masters node master at in
-      let well : IsWell world node next.outs next.master = master_well world node master input at
+      let put : World = wrote world node (state.Master master) input in
+      let well : IsWell put node next.outs next.master = master_well put node master input at
       (record { watchers = is.watchers; no_stream = is.no_stream; selfless = is.selfless; sends_others = refl }) fits in
       subst HoldsAlways (sym (master_comes world node input master holds.whole at))
-      (made_holds world node (state.Master master) (state.Master next.master) next.outs there holds
-      (λ later e. subst (IsWell world node next.outs) (the_master next.master later e) well))
+      (made_holds put node (state.Master master) (state.Master next.master) next.outs there (wrote_holds world node (state.Master master) input holds)
+      (λ later e. subst (IsWell put node next.outs) (the_master next.master later e) well))
 
 pub comes_holds : (world : World) (node : List ℕ) (input : NodeInput) → HoldsAlways world → InputFits world node input → HoldsAlways (comes world node input)
 comes_holds world node input holds fits = by_node world node input holds fits (node_at world node) refl

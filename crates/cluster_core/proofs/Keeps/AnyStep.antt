@@ -1,5 +1,6 @@
 -- EVERY EVENT OF A RUN KEEPS THE LAW.
-use Rattle.std.proofs.Common.{◌≡◌, ◌≢◌, inl, inr, ℕ, List, [], ◌∷◌, Option, None, Some, refl, sym, ◌∙◌, ap}
+use Rattle.std.proofs.Common.{◌≡◌, ◌≢◌, inl, inr, ℕ, List, [], ◌∷◌, Option, None, Some, refl, sym, ◌∙◌, ap, subst}
+use Rattle.std.specs.List.{AllByRecursion}
 use Rattle.cluster_core.specs.World.{master_of, home_at, node_at, start}
 use Rattle.imap_talk.specs.Heard.{Heard}
 use Rattle.link_msg.specs.declared.answer.AnswerBody.{AnswerBody}
@@ -25,7 +26,8 @@ use Rattle.cluster_core.proofs.OneServer.AnyStep.{AnyStepKeeps, each_keeps}
 use Rattle.cluster_core.proofs.OneServer.EachStep.{EachKeeps}
 use Rattle.cluster_core.proofs.OneServer.MovingLaw.{moving_of}
 use Rattle.cluster_core.proofs.Starts.StartLaw.{start_keeps}
-use Rattle.cluster_core.proofs.Runs.NeverMoved.{none_moved}
+use Rattle.cluster_core.proofs.Runs.NeverMoved.{never_moved, none_moved}
+use Rattle.cluster_core.proofs.Runs.QuietNodes.{IsQuiet}
 use Rattle.cluster_core.proofs.Keeps.Always.{HoldsAlways}
 use Rattle.cluster_core.proofs.Keeps.AlwaysRuns.{run_holds}
 use Rattle.cluster_core.proofs.Keeps.Deliver.{StandsBeside}
@@ -33,7 +35,7 @@ use Rattle.cluster_core.proofs.Keeps.EachEvent.{event_keeps}
 use Rattle.cluster_core.proofs.Keeps.ToMaster.{IsOne}
 use Rattle.cluster_core.specs.Numbers.{NumbersFitAll}
 
--- a server that an answer on its way names is a backend
+-- a server that an answer on its way names is a backend, and nothing tells of a link
 abbrev pub AnswersNameBackends : World → Type 0
 AnswersNameBackends world = (from to : List ℕ) (message : LinkMsg) (rest : List LinkMsg) → on_link world.links from to ≡ message ∷ rest
     → MessageNamesBackend (home_at world) message
@@ -73,14 +75,19 @@ any_step_keeps config came world event law beside fits moves =
 body_names : (nodes : Nodes) (body : AnswerBody) → ((server : List ℕ) → body ≢ Moved server) → NamesBackend nodes body
 body_names nodes body none server is = absurd (none server is)
 
+-- none tells of a link
+first_is_quiet : (config : Config) (before : List Event) (from to : List ℕ) (message : LinkMsg) (rest : List LinkMsg)
+    → on_link (run_steps (start config) before).links from to ≡ message ∷ rest → IsQuiet message
+first_is_quiet config before from to message rest first = (subst (AllByRecursion IsQuiet) first ((never_moved config before).links from to)).0
+
 message_names : (config : Config) (before : List Event) (from to : List ℕ) (message : LinkMsg) (rest : List LinkMsg)
     → on_link (run_steps (start config) before).links from to ≡ message ∷ rest → MessageNamesBackend (home_at (run_steps (start config) before)) message
 message_names config before from to (Answer answer) rest first =
     body_names (home_at (run_steps (start config) before)) answer.body (λ server. none_moved config before from to answer rest server first)
 message_names config before from to (Line bytes) rest first = tt
 message_names config before from to (Ask ask) rest first = tt
-message_names config before from to Up rest first = tt
-message_names config before from to End rest first = tt
+message_names config before from to Up rest first = first_is_quiet config before from to Up rest first
+message_names config before from to End rest first = first_is_quiet config before from to End rest first
 
 -- EACH STEP OF A RUN KEEPS THE LAW
 abbrev pub LawOfRun : Config → List Event → Type 0

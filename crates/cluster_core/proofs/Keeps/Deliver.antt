@@ -17,7 +17,7 @@ use Rattle.node_step.proofs.NodeKinds.{a_back, a_front}
 use Rattle.cluster_core.proofs.Answers.FrontTakes.{MessageNamesBackend}
 use Rattle.cluster_core.proofs.Commands.Moving.{MovesBy}
 use Rattle.cluster_core.proofs.Connections.KeepsLaw.{KeepsLaw, KeepsOn}
-use Rattle.cluster_core.proofs.Nodes.Comes.{master_comes, master_moved, a_master}
+use Rattle.cluster_core.proofs.Nodes.Comes.{master_comes, master_moved, a_master, wrote}
 use Rattle.cluster_core.proofs.Points.Outside.{WatchersAreIts}
 use Rattle.cluster_core.proofs.Keeps.ToFront.{to_front_keeps}
 use Rattle.cluster_core.proofs.Keeps.ToHome.{to_home_keeps}
@@ -29,7 +29,7 @@ use Rattle.cluster_core.specs.Numbers.{NumbersFit}
 pub record StandsBeside (config : Config) (world : World) : Type 0 where
   -- whom the master tells of changes are clients connected to it
   pub watchers : (master : Master) → master_at world (master_of config) ≡ Some master → WatchersAreIts config world master
-  -- a server that an answer on its way names is a backend
+  -- a server that an answer on its way names is a backend, and nothing tells of a link
   pub names : (from to : List ℕ) (message : LinkMsg) (rest : List LinkMsg) → on_link world.links from to ≡ message ∷ rest
       → MessageNamesBackend (home_at world) message
   -- the master is sent messages by frontends and backends alone
@@ -45,8 +45,9 @@ module _ (config : Config) (heard : ℕ → Heard) (world : World) (law : KeepsL
   master_table : master_at world to ≡ Some law.master
       → table_at (comes (taken_from_link world from to) to (From from message)) to ≡ (node_says law.master from message).master.table
   master_table at =
+      let put : World = wrote (taken_from_link world from to) to (state.Master law.master) (From from message) in
       ap (λ (w : World). table_at w to) (master_comes (taken_from_link world from to) to (From from message) law.master law.whole at)
-      ∙ ap table_by (master_moved (taken_from_link world from to) to law.master (node_says law.master from message) at).own
+      ∙ ap table_by (master_moved put to law.master (node_says law.master from message) at).own
 
   keeps_by : (found : Option NodeState) → node_at world to ≡ found → Keeps to
   keeps_by None there = to_nobody_keeps config heard world law from to message rest there first

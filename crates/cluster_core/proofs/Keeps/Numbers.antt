@@ -68,7 +68,7 @@ module _ (fixed : Fixed) (front : List ℕ) (conn : ℕ) (told said : List Answe
 module _ (config : Config) (heard : ℕ → Heard) (world : World) (law : KeepsLaw config heard world) (fits : NumbersFit heard) where
   -- nor did the store reply more than it was asked
   said_few : (conn : ℕ) → length (law.story.talk.answers conn) ≤ length (law.story.talk.requests conn)
-  said_few conn = (has_tellings (setting_of config) world.steps world.marks law.story law.is_told).replied conn
+  said_few conn = (has_tellings (setting_of config) world.steps world.marks law.story law.is_told.marked).replied conn
 
   numbers_by : (conn : ℕ) (bytes : List ℕ) (closed : Bool) → heard conn ≡ client bytes closed
       → length (law.story.told conn) ≤ length (law.story.talk.answers conn) → IsNumbered (next_id conn (law.story.told conn))

@@ -5,7 +5,7 @@ use Rattle.ask_routes.specs.Barrier.{barrier_answered}
 use Rattle.back_node.specs.declared.node.BackNode.{BackNode}
 use Rattle.cluster_core.specs.World.{master_of, comes, front_at, home_at, taken_from_link}
 use Rattle.feed_links.specs.Lines.{messages_to}
-use Rattle.feed_links.specs.OneFeed.{AreLines, AreNoops, IsLine}
+use Rattle.feed_links.specs.OneFeed.{AreNoops}
 use Rattle.front_core.specs.declared.connection.Connection.{Connection}
 use Rattle.front_core.specs.declared.connection.Stage.TheVariants.{Ended}
 use Rattle.front_core.specs.declared.front.Front.{Front}
@@ -18,6 +18,7 @@ use Rattle.link_msg.specs.declared.ask.FrontAsk.{FrontAsk}
 use Rattle.link_msg.specs.declared.message.LinkMsg.{LinkMsg}
 use Rattle.link_msg.specs.declared.message.LinkMsg.TheVariants.{Up, End, Line, Ask, Answer}
 use Rattle.link_queue.specs.Links.{on_link}
+use Rattle.many_links.specs.Murder.{Nodes}
 use Rattle.mur_base.specs.declared.point.AskId.{AskId}
 use Rattle.mur_config.specs.declared.config.Config.{Config}
 use Rattle.node_step.specs.declared.input.NodeInput.TheVariants.{From}
@@ -31,6 +32,7 @@ use Rattle.cluster_core.proofs.Feeds.Apart.{backend_apart, servers_apart}
 use Rattle.cluster_core.proofs.Feeds.DeliveredNoops.{HasNumbers, answer_noops, line_noops}
 use Rattle.cluster_core.proofs.Feeds.Kept.{IsKept, front_answered_kept, front_hears_kept}
 use Rattle.cluster_core.proofs.Feeds.Noops.{AreApart}
+use Rattle.cluster_core.proofs.Nodes.Known.{TellsNoLink}
 use Rattle.cluster_core.proofs.Places.FrontFirst.{about_ok, answer_tells, none_comes, ok_tells}
 use Rattle.cluster_core.proofs.Places.Stays.{same_name_or}
 use Rattle.cluster_core.proofs.Answers.AnswerComes.{NamesBackend}
@@ -45,11 +47,12 @@ pub law_kept : (config : Config) (heard : ℕ → Heard) (world : World) (law : 
     → IsKept config world law.master law.given law.story.course.store
 law_kept config heard world law = record { nodes = law.nodes; whole = law.whole; many = law.many; feeds = law.feeds }
 
-up_is_none : IsLine Up → ⊥
-up_is_none is = (let no : Up ≡ Line is.0 = is.1 in cc)
-
-end_is_none : IsLine End → ⊥
-end_is_none is = (let no : End ≡ Line is.0 = is.1 in cc)
+no_link : (nodes : Nodes) (from : List ℕ) (message : LinkMsg) → MessageNamesBackend nodes message → TellsNoLink (From from message)
+no_link nodes from (Answer it) names = tt
+no_link nodes from (Line bytes) names = tt
+no_link nodes from (Ask ask) names = tt
+no_link nodes from Up names = names
+no_link nodes from End names = names
 
 module _ (config : Config) (heard : ℕ → Heard) (world : World) (law : KeepsLaw config heard world) (from to : List ℕ) (front : Front)
     (rest : List LinkMsg) (there : front_at world to ≡ Some front) (fits : NumbersFit heard) where
@@ -164,27 +167,23 @@ module _ (config : Config) (heard : ℕ → Heard) (world : World) (law : KeepsL
       (λ id is. ok_numbers bytes id (heard id.conn) (ap (λ f. on_link world.links f to) (sym e) ∙ first) is refl (law.connections id.conn))))
       (λ (ne : from ≢ me). still_noops (Line bytes) ne (λ other. idles front from (Line bytes) other other))
       (same_name_or from me)
-  noops_by Up first names = ⊎_elim
-      (λ (e : from ≡ me). absurd (up_is_none (subst AreLines (ap (λ f. on_link world.links f to) (sym e) ∙ first) (law.feeds.each to front there).lines).0))
-      (λ (ne : from ≢ me). still_noops Up ne (λ other. idles front from Up other tt))
-      (same_name_or from me)
-  noops_by End first names = ⊎_elim
-      (λ (e : from ≡ me). absurd (end_is_none (subst AreLines (ap (λ f. on_link world.links f to) (sym e) ∙ first) (law.feeds.each to front there).lines).0))
-      (λ (ne : from ≢ me). still_noops End ne (λ other. idles front from End other tt))
-      (same_name_or from me)
+  noops_by Up first names = absurd names
+  noops_by End first names = absurd names
   noops_by (Ask ask) first names = ask_noops ask
 
   kept_by : (message : LinkMsg) → on_link world.links from to ≡ message ∷ rest → MessageNamesBackend (home_at world) message
       → IsKept config (comes (taken_from_link world from to) to (From from message)) law.master law.given law.story.course.store
   kept_by message first names =
       let noops = noops_by message first names in
+      let none = no_link (home_at world) from message names in
       ⊎_elim
       (λ (e : from ≡ me). subst (λ f. IsKept config (comes (taken_from_link world f to) to (From f message)) law.master law.given law.story.course.store) (sym e)
-      (front_hears_kept config world law.master law.given law.story.course.store (law_kept config heard world law) to front message rest there
-      (ap (λ f. on_link world.links f to) (sym e) ∙ first)
+      (front_hears_kept config world law.master law.given law.story.course.store (law_kept config heard world law) to front message rest
+      (subst (λ f. TellsNoLink (From f message)) e none) there (ap (λ f. on_link world.links f to) (sym e) ∙ first)
       (subst (λ f. AreNoops (messages_to me (deliver front f message).outs)) e noops)))
       (λ (ne : from ≢ me).
-      front_answered_kept config world law.master law.given law.story.course.store (law_kept config heard world law) from to front message there ne noops)
+      front_answered_kept config world law.master law.given law.story.course.store (law_kept config heard world law) from to front message none there ne
+      noops)
       (same_name_or from me)
 
   keeps_by : (message : LinkMsg) → on_link world.links from to ≡ message ∷ rest → MessageNamesBackend (home_at world) message

@@ -14,14 +14,16 @@ use Rattle.node_step.specs.declared.node.NodeState.TheVariants as state
 use Rattle.cluster_core.specs.declared.world.World.{World}
 use Rattle.cluster_core.specs.World.{comes, home_at, taken_from_link}
 use Rattle.cluster_core.proofs.Connections.KeepsLaw.{KeepsLaw, KeepsOn}
+use Rattle.cluster_core.proofs.Connections.KeepsStill.{disks_law}
 use Rattle.cluster_core.proofs.Feeds.Beside.{home_keeps_feeds}
 use Rattle.cluster_core.proofs.Nodes.Carried.{is_made}
-use Rattle.cluster_core.proofs.Nodes.Comes.{home_comes, with_home}
+use Rattle.cluster_core.proofs.Nodes.Comes.{home_comes, with_home, wrote}
 use Rattle.cluster_core.proofs.Nodes.Stay.{home_keeps_nodes, same_nodes}
 use Rattle.cluster_core.proofs.Points.HomeStep.{StepKeeps, home_step_keeps}
 use Rattle.cluster_core.proofs.Keeps.Numbers.{asked_fit}
 use Rattle.cluster_core.specs.Numbers.{NumbersFit}
 
+-- in a world in which the entry of the step is written
 module _ (config : Config) (heard : ℕ → Heard) (world : World) (law : KeepsLaw config heard world) (from to : List ℕ) (node : BackNode)
     (message : LinkMsg) (rest : List LinkMsg) (there : home_at world to ≡ Some node) (first : on_link world.links from to ≡ message ∷ rest)
     (fits : NumbersFit heard) where
@@ -56,9 +58,6 @@ module _ (config : Config) (heard : ℕ → Heard) (world : World) (law : KeepsL
     closed = λ conn shut. ap (λ (t : ℕ → List Answer). t conn) step.told;
   }
 
-  comes_so : KeepsOn config law.story heard (comes took to (From from message))
-  comes_so = subst (λ w. KeepsOn config law.story heard w) (sym (home_comes took to (From from message) node law.whole there)) keeps
-
 -- A MESSAGE IS DELIVERED TO A BACKEND
 abbrev pub ToHomeKeeps : Type 0
 ToHomeKeeps = (config : Config) (heard : ℕ → Heard) (world : World) (law : KeepsLaw config heard world) (from to : List ℕ) (node : BackNode)
@@ -67,4 +66,6 @@ ToHomeKeeps = (config : Config) (heard : ℕ → Heard) (world : World) (law : K
 
 pub to_home_keeps : ToHomeKeeps
 to_home_keeps config heard world law from to node message rest there first fits =
-    comes_so config heard world law from to node message rest there first fits
+    let put : World = wrote world to (state.Back node) (From from message) in
+    subst (λ w. KeepsOn config law.story heard w) (sym (home_comes (taken_from_link world from to) to (From from message) node law.whole there))
+    (keeps config heard put (disks_law config heard world put.disks law) from to node message rest there first fits)

@@ -16,10 +16,11 @@ use Rattle.node_step.specs.declared.node.NodeState.TheVariants as state
 use Rattle.cluster_core.specs.declared.world.World.{World}
 use Rattle.cluster_core.proofs.Commands.Moving.{MovesBy}
 use Rattle.cluster_core.proofs.Connections.KeepsLaw.{FeedsHold, KeepsLaw, KeepsOn}
+use Rattle.cluster_core.proofs.Connections.KeepsStill.{disks_law}
 use Rattle.cluster_core.proofs.Feeds.AtMaster.{master_takes_feeds}
 use Rattle.cluster_core.proofs.Feeds.FrontAsks.{master_asked_feeds}
 use Rattle.cluster_core.proofs.Nodes.Carried.{is_made}
-use Rattle.cluster_core.proofs.Nodes.Comes.{master_comes, with_master}
+use Rattle.cluster_core.proofs.Nodes.Comes.{master_comes, with_master, wrote}
 use Rattle.cluster_core.proofs.Nodes.Stay.{master_keeps_nodes, same_nodes}
 use Rattle.cluster_core.proofs.Points.MasterStep.{MasterKeeps, master_step_keeps}
 use Rattle.cluster_core.proofs.Points.Outside.{WatchersAreIts, master_gives_its_own}
@@ -30,6 +31,7 @@ use Rattle.cluster_core.specs.Numbers.{NumbersFit}
 abbrev pub IsOne : World → List ℕ → Type 0
 IsOne world node = ((front : Front) × (front_at world node ≡ Some front)) ⊎ ((home : BackNode) × (home_at world node ≡ Some home))
 
+-- in a world in which the entry of the step is written
 module _ (config : Config) (heard : ℕ → Heard) (world : World) (law : KeepsLaw config heard world) (from : List ℕ) (message : LinkMsg)
     (rest : List LinkMsg) (first : on_link world.links from (master_of config) ≡ message ∷ rest) (fits : NumbersFit heard)
     (watchers : WatchersAreIts config world law.master)
@@ -74,11 +76,6 @@ module _ (config : Config) (heard : ℕ → Heard) (world : World) (law : KeepsL
     closed = λ conn shut. ap (λ (t : ℕ → List Answer). t conn) step.told;
   }
 
-  comes_so : IsOne world from → KeepsOn config law.story heard (comes took name (From from message))
-  comes_so is =
-      subst (λ w. KeepsOn config law.story heard w) (sym (master_comes took name (From from message) law.master law.whole law.nodes.is_there))
-      (keeps is)
-
 -- A MESSAGE IS DELIVERED TO THE MASTER
 abbrev pub ToMasterKeeps : Type 0
 ToMasterKeeps = (config : Config) (heard : ℕ → Heard) (world : World) (law : KeepsLaw config heard world) (from : List ℕ) (message : LinkMsg)
@@ -88,4 +85,8 @@ ToMasterKeeps = (config : Config) (heard : ℕ → Heard) (world : World) (law :
 
 pub to_master_keeps : ToMasterKeeps
 to_master_keeps config heard world law from message rest first fits watchers moves is =
-    comes_so config heard world law from message rest first fits watchers moves is
+    let name : List ℕ = master_of config in
+    let put : World = wrote world name (state.Master law.master) (From from message) in
+    subst (λ w. KeepsOn config law.story heard w)
+    (sym (master_comes (taken_from_link world from name) name (From from message) law.master law.whole law.nodes.is_there))
+    (keeps config heard put (disks_law config heard world put.disks law) from message rest first fits watchers moves is)

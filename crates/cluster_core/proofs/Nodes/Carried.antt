@@ -1,4 +1,5 @@
--- What the outputs of a node change where no link is broken: the links by those to nodes, the clients by what is given to them, and the marks.
+-- What the outputs of a node change where no link is broken: the links by those to nodes, the clients by what is given to them, and the marks. What its step
+-- writes to its disk changes nothing else.
 use Rattle.std.proofs.Common.{◌≡◌, ℕ, false, if◌then◌else◌, List, [], ◌∷◌, ◌++◌, Option, None, Some, refl, sym, ap, ◌∙◌, append-nil, append_assoc}
 use Rattle.std.specs.Ordering.{nat_cmp}
 use Rattle.std.specs.List.{flat_map}
@@ -16,7 +17,7 @@ use Rattle.mur_base.specs.Map.{value_at, with_value}
 use Rattle.node_step.specs.declared.node.NodeState.{NodeState}
 use Rattle.node_step.specs.NodeStep.{Acted}
 use Rattle.cluster_core.specs.declared.world.World.{World}
-use Rattle.cluster_core.specs.World.{acts, carry, carry_all, client_at, given_more, is_lost, not_lost, with_state}
+use Rattle.cluster_core.specs.World.{acts, carry, carry_all, client_at, given_more, is_lost, not_lost, with_state, with_written, with_acted}
 
 -- ---- nothing is lost
 
@@ -38,10 +39,11 @@ all_go node (out ∷ outs) =
 abbrev pub made : World → List ℕ → NodeState → List Out → World
 made world node it outs = carry_all node (with_state world node it) outs
 
-pub acts_whole : (world : World) (node : List ℕ) (acted : Acted) → world.broken ≡ [] → acts world node acted ≡ made world node acted.state acted.outs
+pub acts_whole : (world : World) (node : List ℕ) (acted : Acted) → world.broken ≡ []
+    → acts world node acted ≡ made (with_written world node acted.entry) node acted.state acted.outs
 acts_whole world node acted whole =
-    ap (λ (broken : Broken). carry_all node (with_state world node acted.state) (not_lost broken node acted.outs)) whole
-    ∙ ap (carry_all node (with_state world node acted.state)) (all_go node acted.outs)
+    let put : World = with_acted world node acted in
+    ap (λ (broken : Broken). carry_all node put (not_lost broken node acted.outs)) whole ∙ ap (carry_all node put) (all_go node acted.outs)
 
 -- ---- what each output changes
 
@@ -73,6 +75,7 @@ marks_made step outs = flat_map (mark_made step) outs
 -- a world that the outputs of a node made of another
 pub record IsCarried (node : List ℕ) (world : World) (outs : List Out) (next : World) : Type 0 where
   pub nodes : next.nodes ≡ world.nodes
+  pub disks : next.disks ≡ world.disks
   pub clients : next.clients ≡ given_all world.clients outs
   pub broken : next.broken ≡ world.broken
   pub links : next.links ≡ put_all node world.links outs
@@ -81,6 +84,7 @@ pub record IsCarried (node : List ℕ) (world : World) (outs : List Out) (next :
 
 pub record IsOneCarried (node : List ℕ) (world : World) (out : Out) (next : World) : Type 0 where
   pub nodes : next.nodes ≡ world.nodes
+  pub disks : next.disks ≡ world.disks
   pub clients : next.clients ≡ given_out world.clients out
   pub broken : next.broken ≡ world.broken
   pub links : next.links ≡ put_out node world.links out
@@ -101,6 +105,7 @@ one_carried node world (to_client conn bytes) =
     let e : given_more world conn bytes (client_at world conn) ≡ record world { clients = given_by world.clients conn bytes (client_at world conn) } = sym is.1 ∙ is.2 in
     record {
       nodes = ap (λ (w : World). w.nodes) e;
+      disks = ap (λ (w : World). w.disks) e;
       clients = ap (λ (w : World). w.clients) e;
       broken = ap (λ (w : World). w.broken) e;
       links = ap (λ (w : World). w.links) e;
@@ -108,20 +113,22 @@ one_carried node world (to_client conn bytes) =
       steps = ap (λ (w : World). w.steps) e;
     }
 one_carried node world (Close conn) =
-    record { nodes = refl; clients = refl; broken = refl; links = refl; marks = sym (append-nil world.marks); steps = refl }
+    record { nodes = refl; disks = refl; clients = refl; broken = refl; links = refl; marks = sym (append-nil world.marks); steps = refl }
 one_carried node world (to_node other message) =
-    record { nodes = refl; clients = refl; broken = refl; links = refl; marks = sym (append-nil world.marks); steps = refl }
-one_carried node world (mark ask counts) = record { nodes = refl; clients = refl; broken = refl; links = refl; marks = refl; steps = refl }
-one_carried node world (tell ask how) = record { nodes = refl; clients = refl; broken = refl; links = refl; marks = refl; steps = refl }
+    record { nodes = refl; disks = refl; clients = refl; broken = refl; links = refl; marks = sym (append-nil world.marks); steps = refl }
+one_carried node world (mark ask counts) = record { nodes = refl; disks = refl; clients = refl; broken = refl; links = refl; marks = refl; steps = refl }
+one_carried node world (tell ask how) = record { nodes = refl; disks = refl; clients = refl; broken = refl; links = refl; marks = refl; steps = refl }
 
 pub all_carried : (node : List ℕ) (world : World) (outs : List Out) → IsCarried node world outs (carry_all node world outs)
 unfolding carry_all given_all put_all
-all_carried node world [] = record { nodes = refl; clients = refl; broken = refl; links = refl; marks = sym (append-nil world.marks); steps = refl }
+all_carried node world [] =
+    record { nodes = refl; disks = refl; clients = refl; broken = refl; links = refl; marks = sym (append-nil world.marks); steps = refl }
 all_carried node world (out ∷ outs) =
     let one = one_carried node world out in
     let more = all_carried node (carry node world out) outs in
     record {
       nodes = more.nodes ∙ one.nodes;
+      disks = more.disks ∙ one.disks;
       clients = more.clients ∙ ap (λ c. given_all c outs) one.clients;
       broken = more.broken ∙ one.broken;
       links = more.links ∙ ap (λ (l : Links LinkMsg). put_all node l outs) one.links;
@@ -136,6 +143,7 @@ all_carried node world (out ∷ outs) =
 -- the world after a step of a node
 pub record IsMade (world : World) (node : List ℕ) (it : NodeState) (outs : List Out) (next : World) : Type 0 where
   pub nodes : next.nodes ≡ with_value (slice_cmp nat_cmp) world.nodes node it
+  pub disks : next.disks ≡ world.disks
   pub clients : next.clients ≡ given_all world.clients outs
   pub broken : next.broken ≡ world.broken
   pub links : next.links ≡ put_all node world.links outs
@@ -145,4 +153,4 @@ pub record IsMade (world : World) (node : List ℕ) (it : NodeState) (outs : Lis
 pub is_made : (world : World) (node : List ℕ) (it : NodeState) (outs : List Out) → IsMade world node it outs (made world node it outs)
 is_made world node it outs =
     let all = all_carried node (with_state world node it) outs in
-    record { nodes = all.nodes; clients = all.clients; broken = all.broken; links = all.links; marks = all.marks; steps = all.steps }
+    record { nodes = all.nodes; disks = all.disks; clients = all.clients; broken = all.broken; links = all.links; marks = all.marks; steps = all.steps }

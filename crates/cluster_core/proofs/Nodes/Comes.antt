@@ -1,4 +1,4 @@
--- What comes to a node is a step of what the node is, where no link is broken; all other nodes are as they were.
+-- What comes to a node is a step of what the node is, where no link is broken; all other nodes are as they were. The entry of the step is written first.
 use Rattle.std.proofs.Common.{◌≡◌, ◌≢◌, ℕ, List, [], Option, None, Some, refl, sym, ◌∙◌, ap, subst}
 use Rattle.std.specs.Ordering.{nat_cmp}
 use Rattle.std.specs.Cmp.Lexicographic.{slice_cmp}
@@ -25,7 +25,7 @@ use Rattle.node_step.specs.declared.node.NodeState.TheVariants as state
 use Rattle.node_step.specs.NodeStep.{as_front, as_back, as_master, front_takes, back_takes, master_takes, takes as node_takes}
 use Rattle.node_step.proofs.NodeKinds.{front_is, back_is, master_is, a_front, a_back, no_back, no_front}
 use Rattle.cluster_core.specs.declared.world.World.{World}
-use Rattle.cluster_core.specs.World.{comes, comes_to, front_at, home_at, master_at, node_at}
+use Rattle.cluster_core.specs.World.{comes, comes_to, front_at, home_at, master_at, node_at, with_written, written}
 use Rattle.cluster_core.proofs.Nodes.Carried.{acts_whole, is_made, made}
 
 -- a client does it
@@ -43,8 +43,12 @@ with_home world node next = made world node (state.Back next.state) next.outs
 abbrev pub with_master : World → List ℕ → Served → World
 with_master world node next = made world node (state.Master next.master) next.outs
 
+-- the world once the entry of what a node makes of an input is written
+abbrev pub wrote : World → List ℕ → NodeState → NodeInput → World
+wrote world node it input = with_written world node (node_takes it input).entry
+
 pub comes_by : (world : World) (node : List ℕ) (input : NodeInput) (it : NodeState) → world.broken ≡ [] → node_at world node ≡ Some it
-    → comes world node input ≡ made world node (node_takes it input).state (node_takes it input).outs
+    → comes world node input ≡ made (wrote world node it input) node (node_takes it input).state (node_takes it input).outs
 unfolding comes_to
 comes_by world node input it whole there = ap (comes_to world node input) there ∙ acts_whole world node (node_takes it input) whole
 
@@ -53,7 +57,7 @@ pub none_comes : (world : World) (node : List ℕ) (input : NodeInput) → node_
 unfolding comes_to
 none_comes world node input none = ap (comes_to world node input) none
 
--- ---- a frontend
+-- ---- a frontend, which writes nothing
 
 abbrev pub front_does : Front → NodeInput → Stepped
 front_does front (Opened conn) = connect front conn
@@ -62,8 +66,9 @@ front_does front (Hung conn) = front_still (hang front conn)
 front_does front (From name message) = deliver front name message
 
 front_step : (world : World) (node : List ℕ) (front : Front) (input : NodeInput)
-    → made world node (node_takes (state.Front front) input).state (node_takes (state.Front front) input).outs ≡ with_front world node (front_does front input)
-unfolding node_takes front_takes
+    → made (wrote world node (state.Front front) input) node (node_takes (state.Front front) input).state (node_takes (state.Front front) input).outs
+    ≡ with_front world node (front_does front input)
+unfolding node_takes front_takes written
 front_step world node front (Opened conn) = refl
 front_step world node front (Piece conn bytes) = refl
 front_step world node front (Hung conn) = refl
@@ -81,7 +86,8 @@ home_does home (From name message) = home_step home name message
 home_does home input = record { state = home; entry = None; outs = [] }
 
 back_step : (world : World) (node : List ℕ) (home : BackNode) (input : NodeInput)
-    → made world node (node_takes (state.Back home) input).state (node_takes (state.Back home) input).outs ≡ with_home world node (home_does home input)
+    → made (wrote world node (state.Back home) input) node (node_takes (state.Back home) input).state (node_takes (state.Back home) input).outs
+    ≡ with_home (wrote world node (state.Back home) input) node (home_does home input)
 unfolding node_takes back_takes
 back_step world node home (Opened conn) = refl
 back_step world node home (Piece conn bytes) = refl
@@ -89,7 +95,7 @@ back_step world node home (Hung conn) = refl
 back_step world node home (From name message) = refl
 
 pub home_comes : (world : World) (node : List ℕ) (input : NodeInput) (home : BackNode) → world.broken ≡ [] → home_at world node ≡ Some home
-    → comes world node input ≡ with_home world node (home_does home input)
+    → comes world node input ≡ with_home (wrote world node (state.Back home) input) node (home_does home input)
 home_comes world node input home whole at =
     comes_by world node input (state.Back home) whole (back_is (node_at world node) home at) ∙ back_step world node home input
 
@@ -102,8 +108,8 @@ master_does master (Hung conn) = still (without master (Outside conn))
 master_does master (From name message) = node_says master name message
 
 master_step : (world : World) (node : List ℕ) (master : Master) (input : NodeInput)
-    → made world node (node_takes (state.Master master) input).state (node_takes (state.Master master) input).outs
-    ≡ with_master world node (master_does master input)
+    → made (wrote world node (state.Master master) input) node (node_takes (state.Master master) input).state (node_takes (state.Master master) input).outs
+    ≡ with_master (wrote world node (state.Master master) input) node (master_does master input)
 unfolding node_takes master_takes
 master_step world node master (Opened conn) = refl
 master_step world node master (Piece conn bytes) = refl
@@ -111,9 +117,23 @@ master_step world node master (Hung conn) = refl
 master_step world node master (From name message) = refl
 
 pub master_comes : (world : World) (node : List ℕ) (input : NodeInput) (master : Master) → world.broken ≡ [] → master_at world node ≡ Some master
-    → comes world node input ≡ with_master world node (master_does master input)
+    → comes world node input ≡ with_master (wrote world node (state.Master master) input) node (master_does master input)
 master_comes world node input master whole at =
     comes_by world node input (state.Master master) whole (master_is (node_at world node) master at) ∙ master_step world node master input
+
+-- nothing is written of what a client does
+pub client_writes : (world : World) (node : List ℕ) (it : NodeState) (input : NodeInput) → IsOfClient input → wrote world node it input ≡ world
+unfolding node_takes front_takes back_takes master_takes written
+client_writes world node (state.Front front) (Opened conn) of = refl
+client_writes world node (state.Front front) (Piece conn bytes) of = refl
+client_writes world node (state.Front front) (Hung conn) of = refl
+client_writes world node (state.Back home) (Opened conn) of = refl
+client_writes world node (state.Back home) (Piece conn bytes) of = refl
+client_writes world node (state.Back home) (Hung conn) of = refl
+client_writes world node (state.Master master) (Opened conn) of = refl
+client_writes world node (state.Master master) (Piece conn bytes) of = refl
+client_writes world node (state.Master master) (Hung conn) of = refl
+client_writes world node it (From name message) of = absurd of
 
 -- ---- the nodes of the next world
 

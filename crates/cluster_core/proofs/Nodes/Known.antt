@@ -1,5 +1,6 @@
 -- What a frontend knows stays in each of its steps, but for its replica where the master tells it a line.
-use Rattle.std.proofs.Common.{◌≡◌, ◌≢◌, ℕ, nat_eq, Bool, true, false, List, codes, Option, None, Some, refl, sym, ap, subst, ◌∙◌, if◌then◌else◌}
+use Rattle.std.proofs.Common.{◌≡◌, ◌≢◌, ℕ, nat_eq, Bool, true, false, List, [], ◌∷◌, codes, Option, None, Some, refl, sym, ap, subst, ◌∙◌, if◌then◌else◌}
+use Rattle.std.specs.Map.{keys_of}
 use Rattle.std.specs.Cmp.Lexicographic.{pointwise, same_text}
 use Rattle.ask_routes.specs.Barrier.{barrier_answered, ok_ask, ok_under}
 use Rattle.feed_core.specs.declared.replica.Replica.{Replica}
@@ -11,7 +12,9 @@ use Rattle.front_core.specs.declared.connection.Connection.{Connection}
 use Rattle.front_core.specs.declared.connection.Stage.{Stage}
 use Rattle.front_core.specs.declared.connection.Stage.TheVariants.{Reading, Waits, Lists, Ended}
 use Rattle.front_core.specs.declared.front.Front.{Front}
-use Rattle.front_core.specs.Front.{answer_at, answer_from, bytes_by, bytes_in, connect, connect_at, connection_at, deliver, front_bytes_at, front_hang_at, hang, line_by, line_from, ok_at, up_from, waits_for}
+use Rattle.front_core.specs.Front.{all_end, answer_at, answer_from, awaited, bytes_by, bytes_in, connect, connect_at, connection_at, deliver, end_at, end_from, end_if, front_bytes_at, front_hang_at, hang}
+use Rattle.front_core.specs.Front.{line_by, line_from, ok_at, one_ends, up_from, waits_for, with_up, without_up}
+use Rattle.front_core.specs.Ups.{Ups, coming_up, going_down}
 use Rattle.link_msg.specs.declared.answer.BackAnswer.{BackAnswer}
 use Rattle.link_msg.specs.declared.message.LinkMsg.{LinkMsg}
 use Rattle.link_msg.specs.declared.message.LinkMsg.TheVariants.{Up, End, Line, Ask, Answer}
@@ -89,21 +92,48 @@ unfolding answer_from
 answer_known front answer true = answer_at_known front answer (connection_at front (answer.id).conn)
 answer_known front answer false = same_known front
 
-up_other : (front : Front) (same : Bool) → same ≡ false → KeepsKnown front (up_from same front).front
+-- with other links up
+noted_known : (front : Front) (ups : Ups) → KeepsKnown front (record front { ups = ups })
+noted_known front ups = record { self = record { me = refl; master = refl; first = refl; setting = refl }; replica = refl }
+
+up_other : (front : Front) (from : List ℕ) (same : Bool) → same ≡ false → KeepsKnown front (up_from same (with_up front from)).front
 unfolding up_from
-up_other front false e = same_known front
-up_other front true e = cc
+up_other front from false e = noted_known front (coming_up front.ups from)
+up_other front from true e = cc
+
+end_known : (front : Front) (conn : ℕ) (found : Option Connection) (was : Front) → KeepsKnown was front → KeepsKnown was (end_at front conn found).front
+unfolding end_at
+end_known front conn None was known = known
+end_known front conn (Some connection) was known = record {
+  self = record { me = known.self.me; master = known.self.master; first = known.self.first; setting = known.self.setting };
+  replica = known.replica;
+}
+
+if_known : (test : Bool) (front : Front) (conn : ℕ) (was : Front) → KeepsKnown was front → KeepsKnown was (end_if test front conn).front
+if_known true front conn was known = end_known front conn (connection_at front conn) was known
+if_known false front conn was known = known
+
+all_known : (front : Front) (node : List ℕ) (conns : List ℕ) (was : Front) → KeepsKnown was front → KeepsKnown was (all_end front node conns).front
+unfolding all_end
+all_known front node [] was known = known
+all_known front node (conn ∷ conns) was known =
+    all_known (one_ends front node conn).front node conns was
+    (if_known (awaited front.master (connection_at front conn) node) front conn was known)
 
 line_other : (front : Front) (bytes : List ℕ) (same : Bool) → same ≡ false → KeepsKnown front (line_from same front bytes).front
 unfolding line_from
 line_other front bytes false e = same_known front
 line_other front bytes true e = cc
 
+-- a link to it ends
+pub ends_known : (front : Front) (from : List ℕ) → KeepsKnown front (end_from (without_up front from) from).front
+ends_known front from = all_known (without_up front from) from (keys_of front.connections) front (noted_known front (going_down front.ups from))
+
 pub others_known : (front : Front) (from : List ℕ) (message : LinkMsg) → from ≢ front.master → KeepsKnown front (deliver front from message).front
 unfolding deliver
 others_known front from (Answer answer) ne = answer_known front answer (waits_for (connection_at front (answer.id).conn) from)
-others_known front from Up ne = up_other front (pointwise nat_eq from front.master) (other_name from front.master ne)
-others_known front from End ne = same_known front
+others_known front from Up ne = up_other front from (pointwise nat_eq from front.master) (other_name from front.master ne)
+others_known front from End ne = ends_known front from
 others_known front from (Line bytes) ne = line_other front bytes (pointwise nat_eq from front.master) (other_name from front.master ne)
 others_known front from (Ask ask) ne = same_known front
 
@@ -170,10 +200,10 @@ hears_line front from bytes is =
 
 -- whatever comes, it stays the frontend that it is
 
-up_self : (front : Front) (same : Bool) → KeepsSelf front (up_from same front).front
+up_self : (front : Front) (from : List ℕ) (same : Bool) → KeepsSelf front (up_from same (with_up front from)).front
 unfolding up_from
-up_self front true = record { me = refl; master = refl; first = refl; setting = refl }
-up_self front false = same_self front
+up_self front from true = record { me = refl; master = refl; first = refl; setting = refl }
+up_self front from false = record { me = refl; master = refl; first = refl; setting = refl }
 
 line_self : (front : Front) (bytes : List ℕ) (same : Bool) → KeepsSelf front (line_from same front bytes).front
 unfolding line_from
@@ -183,8 +213,8 @@ line_self front bytes false = same_self front
 deliver_self : (front : Front) (from : List ℕ) (message : LinkMsg) → KeepsSelf front (deliver front from message).front
 unfolding deliver
 deliver_self front from (Answer answer) = (answer_known front answer (waits_for (connection_at front (answer.id).conn) from)).self
-deliver_self front from Up = up_self front (pointwise nat_eq from front.master)
-deliver_self front from End = same_self front
+deliver_self front from Up = up_self front from (pointwise nat_eq from front.master)
+deliver_self front from End = (ends_known front from).self
 deliver_self front from (Line bytes) = line_self front bytes (pointwise nat_eq from front.master)
 deliver_self front from (Ask ask) = same_self front
 
@@ -193,3 +223,70 @@ front_self front (Opened conn) = (connect_known front conn).self
 front_self front (Piece conn bytes) = (bytes_known front conn bytes).self
 front_self front (Hung conn) = (hang_known front conn).self
 front_self front (From name message) = deliver_self front name message
+
+-- ---- its links
+
+-- what comes tells of no link
+abbrev pub TellsNoLink : NodeInput → Type 0
+TellsNoLink (From name Up) = ⊥
+TellsNoLink (From name End) = ⊥
+TellsNoLink input = Unit {0}
+
+connect_ups : (front : Front) (conn : ℕ) (found : Option Connection) → (connect_at front conn found).front.ups ≡ front.ups
+unfolding connect_at
+connect_ups front conn None = refl
+connect_ups front conn (Some there) = refl
+
+stage_ups : (front : Front) (conn : ℕ) (bytes : List ℕ) (connection : Connection) (stage : Stage)
+    → (bytes_by front conn bytes connection stage).front.ups ≡ front.ups
+unfolding bytes_by
+stage_ups front conn bytes connection Ended = refl
+stage_ups front conn bytes connection Reading = refl
+stage_ups front conn bytes connection (Waits tag it) = refl
+stage_ups front conn bytes connection (Lists tag it) = refl
+
+bytes_ups : (front : Front) (conn : ℕ) (bytes : List ℕ) (found : Option Connection) → (front_bytes_at front conn bytes found).front.ups ≡ front.ups
+unfolding front_bytes_at
+bytes_ups front conn bytes None = refl
+bytes_ups front conn bytes (Some connection) = stage_ups front conn bytes connection connection.stage
+
+hang_ups : (front : Front) (conn : ℕ) (found : Option Connection) → (front_hang_at front conn found).ups ≡ front.ups
+unfolding front_hang_at
+hang_ups front conn None = refl
+hang_ups front conn (Some connection) = refl
+
+answered_ups : (front : Front) (answer : BackAnswer) (found : Option Connection) → (answer_at front answer found).front.ups ≡ front.ups
+unfolding answer_at
+answered_ups front answer None = refl
+answered_ups front answer (Some connection) = refl
+
+answer_ups : (front : Front) (answer : BackAnswer) (is_asked : Bool) → (answer_from is_asked front answer).front.ups ≡ front.ups
+unfolding answer_from
+answer_ups front answer true = answered_ups front answer (connection_at front (answer.id).conn)
+answer_ups front answer false = refl
+
+ok_ups : (front : Front) (id : AskId) (found : Option Connection) → (ok_at front id found).front.ups ≡ front.ups
+unfolding ok_at
+ok_ups front id None = refl
+ok_ups front id (Some connection) = refl
+
+line_ups : (front : Front) (bytes : List ℕ) (found : Option AskId) → (line_by front bytes found).front.ups ≡ front.ups
+line_ups front bytes None = refl
+line_ups front bytes (Some id) = ok_ups front id (connection_at front id.conn)
+
+from_ups : (front : Front) (bytes : List ℕ) (same : Bool) → (line_from same front bytes).front.ups ≡ front.ups
+unfolding line_from
+from_ups front bytes true = line_ups front bytes (barrier_answered bytes)
+from_ups front bytes false = refl
+
+-- they stay as they are
+pub ups_stay : (front : Front) (input : NodeInput) → TellsNoLink input → (front_does front input).front.ups ≡ front.ups
+unfolding connect bytes_in hang deliver
+ups_stay front (Opened conn) none = connect_ups front conn (connection_at front conn)
+ups_stay front (Piece conn bytes) none = bytes_ups front conn bytes (connection_at front conn)
+ups_stay front (Hung conn) none = hang_ups front conn (connection_at front conn)
+ups_stay front (From name (Answer answer)) none = answer_ups front answer (waits_for (connection_at front (answer.id).conn) name)
+ups_stay front (From name (Line bytes)) none = from_ups front bytes (pointwise nat_eq name front.master)
+ups_stay front (From name (Ask ask)) none = refl
+ups_stay front (From name Up) none = absurd none
+ups_stay front (From name End) none = absurd none

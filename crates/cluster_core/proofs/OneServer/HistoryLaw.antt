@@ -25,10 +25,10 @@ pub record HistoryIs (config : Config) (heard : ℕ → Heard) (world : World) (
 pub history_is : (config : Config) (heard : ℕ → Heard) (world : World) (law : KeepsLaw config heard world) → HistoryIs config heard world law
 unfolding history_of
 history_is config heard world law = record {
-  legal = legal_histories (law_setting config) world.steps world.marks law.story law.is_told;
-  lost_next = loses_the_open (law_setting config) world.steps world.marks law.story law.is_told;
-  made_by_now = none_is_later (law_setting config) world.steps world.marks law.story law.is_told;
-  steps_rise = steps_rise (law_setting config) world.steps world.marks law.story law.is_told;
+  legal = legal_histories (law_setting config) world.steps world.marks law.story law.is_told.marked;
+  lost_next = loses_the_open (law_setting config) world.steps world.marks law.story law.is_told.marked;
+  made_by_now = none_is_later (law_setting config) world.steps world.marks law.story law.is_told.marked;
+  steps_rise = steps_rise (law_setting config) world.steps world.marks law.story law.is_told.marked;
 }
 
 -- and of that of a world to which it leads
@@ -39,5 +39,5 @@ StandsInTimeLater config now later world whole = (law : KeepsLaw config now worl
 pub stands_in_time : (config : Config) (now later : ℕ → Heard) (world whole : World) → StandsInTimeLater config now later world whole
 unfolding history_of
 stands_in_time config now later world whole law last on =
-    let its = later_are_in_time (law_setting config) world.steps whole.steps world.marks whole.marks law.story last.story law.is_told last.is_told on in
+    let its = later_are_in_time (law_setting config) world.steps whole.steps world.marks whole.marks law.story last.story law.is_told.marked last.is_told.marked on in
     record { behind_command = its.behind; before_reply = its.before }

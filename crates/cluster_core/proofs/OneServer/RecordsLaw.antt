@@ -42,7 +42,7 @@ use Rattle.cluster_core.proofs.Connections.KeepsLaw.{KeepsLaw}
 use Rattle.cluster_core.proofs.Feeds.AtMaster.{master_takes_placed, outside_same}
 use Rattle.cluster_core.proofs.Feeds.Backends.{ArePlaced}
 use Rattle.cluster_core.proofs.Nodes.Comes.{IsOfClient, a_master, front_comes, front_does, front_moved, home_comes, home_does, home_moved}
-use Rattle.cluster_core.proofs.Nodes.Comes.{master_comes, master_does, master_moved, none_comes, with_front, with_home, with_master}
+use Rattle.cluster_core.proofs.Nodes.Comes.{master_comes, master_does, master_moved, none_comes, with_front, with_home, with_master, wrote}
 use Rattle.cluster_core.proofs.OneServer.EachStep.{EachKeeps, LawBehind, kept_all, kept_behind}
 use Rattle.cluster_core.proofs.Runs.OneNodeLaw.{one_more_step}
 use Rattle.cluster_core.proofs.Starts.StartLaw.{home_place, start_table}
@@ -71,15 +71,16 @@ module _ (config : Config) (world : World) (whole : world.broken ≡ []) (holds 
     table = subst (AtHome config) (sym (ap table_by (masters (master_of config)))) holds.table;
   }
 
-  home_step : (home : BackNode) → home_at world node ≡ Some home → Holds (with_home world node (home_does home input))
+  home_step : (home : BackNode) → home_at world node ≡ Some home → Holds (with_home (wrote world node (state.Back home) input) node (home_does home input))
   home_step home there =
       let next = home_does home input in
-      let moved = home_moved world node home next there in
+      let put : World = wrote world node (state.Back home) input in
+      let moved = home_moved put node home next there in
       let own : IsAtBackend config next.state.flows.me = subst (IsAtBackend config) (sym (me_stays home there)) (holds.homes node home there) in
       record {
         homes = λ any it at. ⊎_elim
             (λ (e : any ≡ node).
-            (let both : Some next.state ≡ Some it = sym moved.own ∙ ap (home_at (with_home world node next)) (sym e) ∙ at in
+            (let both : Some next.state ≡ Some it = sym moved.own ∙ ap (home_at (with_home put node next)) (sym e) ∙ at in
             let same : next.state ≡ it = cc in
             subst (λ (h : BackNode). IsAtBackend config h.flows.me) same own))
             (λ (ne : any ≢ node). holds.homes any it (sym (moved.homes any ne) ∙ at))
@@ -87,15 +88,17 @@ module _ (config : Config) (world : World) (whole : world.broken ≡ []) (holds 
         table = subst (AtHome config) (sym (ap table_by (moved.masters (master_of config)))) holds.table;
       }
 
-  master_step : (master : Master) → master_at world node ≡ Some master → Holds (with_master world node (master_does master input))
+  master_step : (master : Master) → master_at world node ≡ Some master
+      → Holds (with_master (wrote world node (state.Master master) input) node (master_does master input))
   master_step master there =
       let next = master_does master input in
-      let moved = master_moved world node master next there in
+      let put : World = wrote world node (state.Master master) input in
+      let moved = master_moved put node master next there in
       record {
         homes = λ any home at. holds.homes any home (sym (moved.homes any) ∙ at);
         table = ⊎_elim
             (λ (e : master_of config ≡ node).
-            subst (AtHome config) (sym (ap (table_at (with_master world node next)) e ∙ ap table_by moved.own)) (placed master there))
+            subst (AtHome config) (sym (ap (table_at (with_master put node next)) e ∙ ap table_by moved.own)) (placed master there))
             (λ (ne : master_of config ≢ node). subst (AtHome config) (sym (ap table_by (moved.masters (master_of config) ne))) holds.table)
             (same_or_other (slice_cmp nat_cmp) names_apart (master_of config) node);
       }

@@ -50,7 +50,7 @@ use Rattle.cluster_core.proofs.Guests.AtMaster.{comes_so, happening_by}
 use Rattle.cluster_core.proofs.Guests.TablesStay.{step_tables}
 use Rattle.cluster_core.proofs.Keeps.Always.{HoldsAlways}
 use Rattle.cluster_core.proofs.Keeps.AlwaysRuns.{start_holds, step_holds}
-use Rattle.cluster_core.proofs.Nodes.Comes.{a_master, front_comes, front_does, front_moved, home_comes, home_does, home_moved, master_moved, none_comes}
+use Rattle.cluster_core.proofs.Nodes.Comes.{a_master, front_comes, front_does, front_moved, home_comes, home_does, home_moved, master_moved, none_comes, wrote}
 use Rattle.cluster_core.proofs.OneServer.EachStep.{LawBehind}
 use Rattle.cluster_core.proofs.Starts.Kinds.{master_named}
 use Rattle.cluster_core.proofs.Starts.StartLaw.{start_table}
@@ -158,7 +158,7 @@ module _ (config : Config) (here : is_master config (master_of config) ≡ true)
       let at : table_at world (master_of config) ≡ master.table = ap table_by (ap (master_at world) (sym e) ∙ there) in
       let now : table_at (comes world node input) (master_of config) ≡ acted.master.table =
       ap (λ n. table_at (comes world node input) n) (sym e) ∙ ap (λ (w : World). table_at w node) (comes_so world node input master whole there)
-      ∙ ap table_by (master_moved world node master acted there).own in
+      ∙ ap table_by (master_moved (wrote world node (state.Master master) input) node master acted there).own in
       let happens : at_master config node (happening_by input) ≡ Some (happening_by input) =
       ap (λ b. cond b (Some (happening_by input)) None) (ap (is_master config) e ∙ here) in
       subst (λ h. Rises world (comes world node input) h) (sym happens)
@@ -175,14 +175,15 @@ module _ (config : Config) (here : is_master config (master_of config) ≡ true)
   comes_by world node input (Some (state.Back home)) found whole =
       let there : home_at world node ≡ Some home = ap as_back found ∙ a_back home in
       same_rises world (comes world node input) _ (ap (λ (w : World). table_at w (master_of config)) (home_comes world node input home whole there)
-      ∙ ap table_by ((home_moved world node home (home_does home input) there).masters (master_of config)))
+      ∙ ap table_by ((home_moved (wrote world node (state.Back home) input) node home (home_does home input) there).masters (master_of config)))
   comes_by world node input (Some (state.Master master)) found whole =
       let there : master_at world node ≡ Some master = ap as_master found ∙ a_master master in
       ⊎_elim
       (λ (e : node ≡ master_of config). at_it world node input master whole there e)
       (λ (ne : node ≢ master_of config).
       same_rises world (comes world node input) _ (ap (λ (w : World). table_at w (master_of config)) (comes_so world node input master whole there)
-      ∙ ap table_by ((master_moved world node master (step_of master (happening_by input)) there).masters (master_of config) (λ e. ne (sym e)))))
+      ∙ ap table_by ((master_moved (wrote world node (state.Master master) input) node master (step_of master (happening_by input)) there).masters
+      (master_of config) (λ e. ne (sym e)))))
       (same_or_other (slice_cmp nat_cmp) names_apart node (master_of config))
 
   deliver_rises : (world : World) (from to : List ℕ) (queue : List LinkMsg) → world.broken ≡ []

@@ -5,6 +5,7 @@ use Rattle.std.proofs.lemmas.List.{append-nil}
 use Rattle.imap_command.specs.Ruled.{IsDate}
 use Rattle.imap_talk.specs.Heard.{Heard, bytes_heard, frames_heard}
 use Rattle.imap_talk.specs.Requests.{AreRequests}
+use Rattle.imap_talk.specs.Transcript.Stop.{silent as to_the_end}
 use Rattle.imap_talk.proofs.ReadLaw.{heard_sound, read_of_legal}
 use Rattle.imap_talk.proofs.RequestsOf.{asks_all}
 use Rattle.imap_talk.proofs.SoundStores.{empty_is}
@@ -55,7 +56,7 @@ use Rattle.cluster_core.proofs.OneServer.SaysOf.{IsSilent, SaysOf, says_of}
 use Rattle.cluster_core.proofs.OneServer.WaitsLaw.{next_waits}
 use Rattle.cluster_core.proofs.OneServer.MovingLaw.{moves_behind}
 use Rattle.mark_history.specs.Reached.{IsReached}
-use Rattle.mark_history.proofs.Reached.{all_reached}
+use Rattle.mark_history.proofs.Reached.{TellsReached, all_reached}
 use Rattle.cluster_core.proofs.OneServer.SerialsRise.{serials_are_low}
 use Rattle.cluster_core.proofs.OneServer.ShownHomes.{shows_boxes}
 use Rattle.cluster_core.proofs.OneServer.UidsBelow.{some_below}
@@ -69,9 +70,9 @@ OthersAreSilent config steps = (conn : ℕ) → is_guest (guest_of config conn s
 abbrev KeepsEarlier : Config → List Event → Talk → List Event → Type 0
 KeepsEarlier config all talk steps = (before later : List Event) → steps ≡ before ++ later → IsKeptAt config all talk before
 
-reached_in : (world : World) → All IsReached (history_of world)
+reached_in : (world : World) → All TellsReached world.marks → All IsReached (history_of world)
 unfolding history_of
-reached_in world = all_reached world.marks
+reached_in world all = all_reached world.marks all
 
 -- behind some steps of a run that ends so
 told_so_far : (config : Config) (steps : List Event) (talk : Talk) (before later : List Event) → AreNodes config.nodes → IsDate config.date
@@ -103,12 +104,12 @@ told_so_far config steps talk before later are date_is silent earlier fits now l
       asked = asked;
       given = λ conn mail. (says conn).given (λ _. silent conn mail);
       read = λ conn mail. read_of_legal (law_setting config) first_course (talk_told law.story) (history_of world) legal.last legal.legal date_is empty_is
-          (λ other. heard_sound (law_setting config) (came other) (law.story.talk.requests other) (asked other)) conn (given_to world conn)
+          (λ other. heard_sound (law_setting config) (came other) (law.story.talk.requests other) (asked other)) conn to_the_end (given_to world conn)
           (bytes_heard (came conn)) ((says conn).given (λ _. silent conn mail));
       ends_only_last = λ conn. (says conn).lasts;
       last = legal.last;
       legal = legal.legal;
-      reached = reached_in world;
+      reached = reached_in world law.is_told.reached;
       refusals = have_causes (law_setting config) first_course (talk_told law.story) (history_of world) legal.last legal.legal;
       one_content = subst (λ (s : Store). HasBoxesOf config s world) (sym legal.same_store) (has_boxes config came world law);
       rights = subst (λ (s : Store). HasItsRights config s world) (sym legal.same_store) (has_rights config came world law);

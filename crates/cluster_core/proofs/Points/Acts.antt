@@ -8,8 +8,7 @@ use Rattle.imap_types.specs.declared.request.Request.{Request}
 use Rattle.imap_types.specs.declared.request.Request.TheVariants.{Command as a_command}
 use Rattle.link_msg.specs.declared.counts.Counts.{Counts}
 use Rattle.link_msg.specs.declared.counts.Counts.TheVariants.{IfAnswered}
-use Rattle.mark_history.specs.Marked.{AreMarked, Tale, acting, done, open_ask, with_list}
-use Rattle.mark_history.specs.Marked.AreMarked.{carries_out, sees}
+use Rattle.mark_history.specs.Marked.{Tale, acting, done, open_ask, with_list}
 use Rattle.mark_history.specs.declared.mark.Mark.{Mark}
 use Rattle.mark_history.specs.declared.mark.MarkKind.TheVariants.{Home}
 use Rattle.mark_history.proofs.TakenBack.{list_at, list_elsewhere}
@@ -27,6 +26,7 @@ use Rattle.mur_model.specs.Needed.{Mailbox, Work}
 use Rattle.mur_model.proofs.HistoryGrows.{item_more, same_lists}
 use Rattle.point_links.specs.Carried.{CarriesOut, turn_at}
 use Rattle.point_links.specs.Commands.{ClientCommand}
+use Rattle.cluster_core.proofs.Commands.AllReached.{AreMarkedSo, carries_out, sees}
 use Rattle.cluster_core.proofs.Commands.Knows.{Brings, Knows, Undecided}
 use Rattle.cluster_core.proofs.Commands.Knows.Knows.{is_decided, undecided}
 use Rattle.cluster_core.proofs.Commands.Place.{Place}
@@ -35,7 +35,7 @@ use Rattle.cluster_core.proofs.Connections.ConnectionLaw.{GoesOnAt, session_at, 
 
 -- a command of a connection, which the one store hasn't replied to, in a tale up to this step
 pub record IsOpen (fixed : Fixed) (conn now : ℕ) (marks : List Mark) (story : Tale) (tag : Tag) (c : ClientCommand) : Type 0 where
-  pub is_told : AreMarked fixed.setting now marks story
+  pub is_told : AreMarkedSo fixed.setting now marks story
   pub setting_is : c.setting ≡ fixed.setting
   pub its : c.id ≡ next_id conn (story.told conn)
   pub was_is : c.was ≡ story.course.sessions conn
@@ -59,7 +59,7 @@ acted_on fixed story conn tag c serial = acting fixed.setting story conn (a_comm
 pub record IsCarriedOut (fixed : Fixed) (front : List ℕ) (conn now : ℕ) (marks : List Mark) (story : Tale) (tag : Tag) (c : ClientCommand) (later : Store)
     (counts : Counts) (here : Place) : Type 0 where
   pub serial : ℕ
-  pub is_told : AreMarked fixed.setting now (marks ++ home_mark now c.id counts ∷ []) (acted_on fixed story conn tag c serial)
+  pub is_told : AreMarkedSo fixed.setting now (marks ++ home_mark now c.id counts ∷ []) (acted_on fixed story conn tag c serial)
   pub store : (acted_on fixed story conn tag c serial).course.store ≡ later
   pub goes_on : GoesOnAt conn story (acted_on fixed story conn tag c serial)
   pub knows : KnowsOf fixed front conn tag c (acted_on fixed story conn tag c serial) here
@@ -67,7 +67,7 @@ pub record IsCarriedOut (fixed : Fixed) (front : List ℕ) (conn now : ℕ) (mar
 -- the step sees it, and does nothing
 pub record IsSeen (fixed : Fixed) (front : List ℕ) (conn now : ℕ) (marks : List Mark) (story : Tale) (tag : Tag) (c : ClientCommand) (here : Place)
     : Type 0 where
-  pub is_told : AreMarked fixed.setting now (marks ++ home_mark now c.id IfAnswered ∷ []) story
+  pub is_told : AreMarkedSo fixed.setting now (marks ++ home_mark now c.id IfAnswered ∷ []) story
   pub knows : KnowsOf fixed front conn tag c story here
 
 -- ---- the request that is carried out
@@ -135,10 +135,10 @@ module _ (fixed : Fixed) (front : List ℕ) (conn now : ℕ) (marks : List Mark)
 
   -- the mark is the command's
   as_its : (counts : Counts) (later : Tale)
-      → AreMarked fixed.setting now (marks ++ home_mark now (open_ask story conn) counts ∷ []) later
-      → AreMarked fixed.setting now (marks ++ home_mark now c.id counts ∷ []) later
+      → AreMarkedSo fixed.setting now (marks ++ home_mark now (open_ask story conn) counts ∷ []) later
+      → AreMarkedSo fixed.setting now (marks ++ home_mark now c.id counts ∷ []) later
   as_its counts later are =
-      subst (λ (id : AskId). AreMarked fixed.setting now (marks ++ home_mark now id counts ∷ []) later) (sym is_open.its) are
+      subst (λ (id : AskId). AreMarkedSo fixed.setting now (marks ++ home_mark now id counts ∷ []) later) (sym is_open.its) are
 
   -- ---- it is carried out
 

@@ -17,7 +17,7 @@ use Rattle.many_links.specs.HomeEvents.{is_served}
 use Rattle.many_links.specs.ManyHold.{ManyHold}
 use Rattle.many_links.specs.Murder.{Murder, home_takes}
 use Rattle.many_links.proofs.HomeLaw.{asks_keep_many, hears_keeps_many}
-use Rattle.mark_history.specs.Marked.{AreMarked, Tale, talk_told}
+use Rattle.mark_history.specs.Marked.{Tale, talk_told}
 use Rattle.mark_history.specs.declared.mark.Mark.{Mark}
 use Rattle.mur_base.specs.Map.{value_at}
 use Rattle.mur_base.proofs.MapLaws.{names_apart, same_or_other}
@@ -26,6 +26,7 @@ use Rattle.mur_model.specs.History.{TalkGoesOn}
 use Rattle.mur_model.proofs.HistoryGrows.{same_talk}
 use Rattle.node_step.specs.declared.node.NodeState.TheVariants as state
 use Rattle.cluster_core.specs.declared.world.World.{World}
+use Rattle.cluster_core.proofs.Commands.AllReached.{AreMarkedSo}
 use Rattle.cluster_core.proofs.Connections.ConnectionLaw.{MarksStay, SaysOn, says_on, says_same}
 use Rattle.cluster_core.proofs.Connections.KeepsLaw.{ConnectionIs, KeepsLaw, fixed_of, murder_of}
 use Rattle.cluster_core.proofs.Feeds.Many.{home_murder}
@@ -44,7 +45,7 @@ pub record StepKeeps (config : Config) (heard : ℕ → Heard) (world : World) (
   pub told : later.told ≡ law.story.told
   pub more : TalkGoesOn (talk_told law.story) (talk_told later)
   pub grows : SaysOn law.story later
-  pub is_told : AreMarked (setting_of config) next.steps next.marks later
+  pub is_told : AreMarkedSo (setting_of config) next.steps next.marks later
   pub many : ManyHold (murder_of next law.master) law.given later.course.store
   pub connections : (conn : ℕ) → ConnectionIs (fixed_of config) conn next later (heard conn)
 
@@ -153,8 +154,8 @@ module _ (config : Config) (heard : ℕ → Heard) (world : World) (law : KeepsL
     told = refl;
     more = same_talk (talk_told story);
     grows = says_same story;
-    is_told = subst (λ (s : ℕ). AreMarked (setting_of config) s next.marks story) (sym made.steps)
-        (subst (λ (m : List Mark). AreMarked (setting_of config) world.steps m story) (sym (none_marked own)) law.is_told);
+    is_told = subst (λ (s : ℕ). AreMarkedSo (setting_of config) s next.marks story) (sym made.steps)
+        (subst (λ (m : List Mark). AreMarkedSo (setting_of config) world.steps m story) (sym (none_marked own)) law.is_told);
     many = many_then own;
     connections = λ conn. home_step_is_others config heard world law conn from to node message rest story there first
         (λ e. (let no : of_nobody ≡ of_connection conn = sym own ∙ e in cc)) (nobody_fits message own)

@@ -13,8 +13,7 @@ use Rattle.link_msg.specs.declared.message.LinkMsg.{LinkMsg}
 use Rattle.link_queue.specs.Links.{on_link, without_first}
 use Rattle.many_links.specs.ManyHold.{ManyHold}
 use Rattle.many_links.specs.Murder.{Murder, after_master}
-use Rattle.mark_history.specs.Marked.{AreMarked, Tale, acting, last_mark}
-use Rattle.mark_history.specs.Marked.AreMarked.{carries_out}
+use Rattle.mark_history.specs.Marked.{Tale, acting, last_mark}
 use Rattle.mark_history.specs.declared.mark.Mark.{Mark}
 use Rattle.mark_history.proofs.TakenBack.{list_at}
 use Rattle.master_core.specs.Linked.{node_says}
@@ -39,6 +38,7 @@ use Rattle.route_links.specs.Answered.{noop_of}
 use Rattle.route_links.specs.Barriers.{Place as barrier}
 use Rattle.cluster_core.specs.declared.world.World.{World}
 use Rattle.cluster_core.specs.World.{client_at, front_at, master_of, setting_of, taken_from_link}
+use Rattle.cluster_core.proofs.Commands.AllReached.{AreMarkedSo, carries_out}
 use Rattle.cluster_core.proofs.Commands.Knows.{listed_by}
 use Rattle.cluster_core.proofs.Commands.Knows.KnowsNames.{is_listed, not_yet}
 use Rattle.cluster_core.proofs.Commands.Moving.{MovesBy}
@@ -82,13 +82,13 @@ may_list setting course conn tag it listing need = subst (λ n. MayAct course.st
 -- the step carries it out, and its place tells its client's reply
 pub record IsListedSo (fixed : Fixed) (conn now : ℕ) (marks : List Mark) (story : Tale) (tag : Tag) (it : Command) (listing : Listing) (was : Sess)
     (table : MailboxTable) : Type 0 where
-  pub is_told : AreMarked fixed.setting now (marks ++ home_mark now (next_id conn (story.told conn)) IfAnswered ∷ [])
+  pub is_told : AreMarkedSo fixed.setting now (marks ++ home_mark now (next_id conn (story.told conn)) IfAnswered ∷ [])
       (acting fixed.setting story conn (a_command tag it) 0)
   pub store : (acting fixed.setting story conn (a_command tag it) 0).course.store ≡ story.course.store
   pub knows : NamesOf conn tag listing was (acting fixed.setting story conn (a_command tag it) 0) (cleared_at table)
 
 module _ (fixed : Fixed) (conn now : ℕ) (marks : List Mark) (story : Tale) (tag : Tag) (it : Command) (listing : Listing) (was : Sess) (table : MailboxTable)
-    (is_told : AreMarked fixed.setting now marks story) (said : story.talk.answers conn ≡ story.told conn) (was_is : was ≡ story.course.sessions conn)
+    (is_told : AreMarkedSo fixed.setting now marks story) (said : story.talk.answers conn ≡ story.told conn) (was_is : was ≡ story.course.sessions conn)
     (need : need_of fixed.setting was it ≡ Names listing)
     (asked : numbered (story.talk.requests conn) (length (story.told conn) + 1) ≡ Some (a_command tag it))
     (names : names_in story.course.store ≡ mailbox_names (recs_of table)) where
@@ -200,8 +200,8 @@ module _ (config : Config) (heard : ℕ → Heard) (world : World) (law : KeepsL
         later = later;
         told = refl;
         goes_on = acting_goes_on fixed.setting conn story (a_command waits.tag waits.it) 0 said;
-        is_told = subst (λ (s : ℕ). AreMarked (setting_of config) s next.marks later) (sym made.steps)
-            (subst (λ (m : List Mark). AreMarked (setting_of config) world.steps m later) (sym marks_are) done.is_told);
+        is_told = subst (λ (s : ℕ). AreMarkedSo (setting_of config) s next.marks later) (sym made.steps)
+            (subst (λ (m : List Mark). AreMarkedSo (setting_of config) world.steps m later) (sym marks_are) done.is_told);
         marks = λ other ne. subst (MarksStay other world.marks) (sym marks_are) (others_marked other world.marks mark (λ e. ne (sym e)));
         many = subst (λ (s : Store). ManyHold (murder_of next says.master) law.given s) (sym done.store) many_then;
         mine = waits.goes_on next later (cleared_at table) (record {

@@ -22,7 +22,7 @@ use Rattle.many_links.specs.MasterEvents.{IsDoneFor, StoreTakes, created, nothin
 use Rattle.many_links.specs.Murder.{Murder, after_master, master_takes as murder_takes}
 use Rattle.many_links.proofs.MasterLaw.{frontends_keep_many}
 use Rattle.many_links.proofs.TakesLaw.{takes_keeps_many}
-use Rattle.mark_history.specs.Marked.{AreMarked, Tale, talk_told}
+use Rattle.mark_history.specs.Marked.{Tale, talk_told}
 use Rattle.mark_history.specs.declared.mark.Mark.{Mark}
 use Rattle.master_core.specs.Linked.{node_says}
 use Rattle.master_core.specs.Outside.{Stepped}
@@ -40,6 +40,7 @@ use Rattle.node_step.specs.declared.node.NodeState.TheVariants as state
 use Rattle.name_commands.specs.Whose.{its_command}
 use Rattle.name_links.specs.Serials.{Given}
 use Rattle.cluster_core.specs.declared.world.World.{World}
+use Rattle.cluster_core.proofs.Commands.AllReached.{AreMarkedSo}
 use Rattle.cluster_core.proofs.Commands.Moving.{MovesBy}
 use Rattle.cluster_core.proofs.Commands.Place.{Place}
 use Rattle.cluster_core.proofs.Commands.Standing.{Fixed, next_id}
@@ -71,7 +72,7 @@ pub record MasterKeeps (config : Config) (heard : ℕ → Heard) (world : World)
   pub told : later.told ≡ law.story.told
   pub more : TalkGoesOn (talk_told law.story) (talk_told later)
   pub grows : SaysOn law.story later
-  pub is_told : AreMarked (setting_of config) next.steps next.marks later
+  pub is_told : AreMarkedSo (setting_of config) next.steps next.marks later
   pub many : ManyHold (murder_of next said.master) given later.course.store
   pub connections : (conn : ℕ) → ConnectionIs (fixed_of config) conn next later (heard conn)
 
@@ -273,8 +274,8 @@ module _ (config : Config) (heard : ℕ → Heard) (world : World) (law : KeepsL
             told = refl;
             more = same_talk (talk_told story);
             grows = says_same story;
-            is_told = subst (λ (s : ℕ). AreMarked (setting_of config) s next.marks story) (sym made.steps)
-                (subst (λ (m : List Mark). AreMarked (setting_of config) world.steps m story) (sym none_marked) law.is_told);
+            is_told = subst (λ (s : ℕ). AreMarkedSo (setting_of config) s next.marks story) (sym made.steps)
+                (subst (λ (m : List Mark). AreMarkedSo (setting_of config) world.steps m story) (sym none_marked) law.is_told);
             many = keeps.1;
             connections = λ conn. connection_goes conn (λ e. (let no : of_nobody ≡ of_connection conn = sym own ∙ e in cc)) (clients conn) story
                 (subst (MarksStay conn world.marks) (sym none_marked) (λ command. refl)) refl refl refl refl;

@@ -8,7 +8,7 @@ use Rattle.imap_types.specs.declared.command.Tag.{Tag}
 use Rattle.link_msg.specs.declared.counts.Counts.{Counts}
 use Rattle.link_msg.specs.declared.counts.Counts.TheVariants.{IfAnswered}
 use Rattle.many_links.specs.ManyHold.{ManyHold}
-use Rattle.mark_history.specs.Marked.{AreMarked, Tale}
+use Rattle.mark_history.specs.Marked.{Tale}
 use Rattle.mark_history.specs.declared.mark.Mark.{Mark}
 use Rattle.master_core.specs.declared.master.Master.{Master}
 use Rattle.mur_base.specs.declared.point.AskId.{AskId}
@@ -17,6 +17,7 @@ use Rattle.mur_model.specs.declared.store.Store.{Store}
 use Rattle.name_links.specs.Serials.{Given}
 use Rattle.point_links.specs.Commands.{ClientCommand}
 use Rattle.cluster_core.specs.declared.world.World.{World}
+use Rattle.cluster_core.proofs.Commands.AllReached.{AreMarkedSo}
 use Rattle.cluster_core.proofs.Commands.Place.{Place}
 use Rattle.cluster_core.proofs.Commands.Standing.{Fixed, WaitsAt, next_id}
 use Rattle.cluster_core.proofs.Connections.ConnectionLaw.{GoesOnAt, IsInPlaceOf, IsMarkedAt, MarksStay, same_story}
@@ -29,7 +30,7 @@ pub record OwnStep (config : Config) (conn : ℕ) (heard : Heard) (world : World
   pub later : Tale
   pub told : later.told ≡ story.told
   pub goes_on : GoesOnAt conn story later
-  pub is_told : AreMarked (setting_of config) next.steps next.marks later
+  pub is_told : AreMarkedSo (setting_of config) next.steps next.marks later
   pub marks : (other : ℕ) → other ≢ conn → MarksStay other world.marks next.marks
   pub many : ManyHold (murder_of next master) given later.course.store
   pub mine : ConnectionIs (fixed_of config) conn next later heard
@@ -45,7 +46,7 @@ pub record Outcome (fixed : Fixed) (front : List ℕ) (conn now : ℕ) (marks : 
   pub later : Tale
   pub told : later.told ≡ story.told
   pub goes_on : GoesOnAt conn story later
-  pub is_told : AreMarked fixed.setting now (marks ++ made_by now c.id counts) later
+  pub is_told : AreMarkedSo fixed.setting now (marks ++ made_by now c.id counts) later
   pub store_is : later.course.store ≡ store
   pub knows : KnowsOf fixed front conn tag c later there
 
@@ -72,13 +73,13 @@ module _ (fixed : Fixed) (front : List ℕ) (conn now : ℕ) (marks : List Mark)
     knows = seen.knows;
   }
 
-  pub of_known : AreMarked fixed.setting now marks story → KnowsOf fixed front conn tag c story there
+  pub of_known : AreMarkedSo fixed.setting now marks story → KnowsOf fixed front conn tag c story there
       → Outcome fixed front conn now marks story tag c story.course.store None there
   of_known are knows = record {
     later = story;
     told = refl;
     goes_on = same_story conn story;
-    is_told = subst (λ (m : List Mark). AreMarked fixed.setting now m story) (sym (append-nil marks)) are;
+    is_told = subst (λ (m : List Mark). AreMarkedSo fixed.setting now m story) (sym (append-nil marks)) are;
     store_is = refl;
     knows = knows;
   }
@@ -112,8 +113,8 @@ module _ (config : Config) (conn : ℕ) (node : List ℕ) (front : Front) (world
         later = later;
         told = out.told;
         goes_on = out.goes_on;
-        is_told = subst (λ (s : ℕ). AreMarked (setting_of config) s next.marks later) (sym leaves.steps)
-            (subst (λ (m : List Mark). AreMarked (setting_of config) world.steps m later) (sym leaves.marks) out.is_told);
+        is_told = subst (λ (s : ℕ). AreMarkedSo (setting_of config) s next.marks later) (sym leaves.steps)
+            (subst (λ (m : List Mark). AreMarkedSo (setting_of config) world.steps m later) (sym leaves.marks) out.is_told);
         marks = λ other ne. subst (MarksStay other world.marks) (sym leaves.marks) (made_stays conn world.steps waits.c.id world.marks counts its other ne);
         many = subst (λ (s : Store). ManyHold (murder_of next master) given s) (sym out.store_is) many;
         mine = waits.goes_on next later there (record {

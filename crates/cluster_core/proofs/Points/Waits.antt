@@ -27,7 +27,7 @@ use Rattle.link_msg.specs.declared.ask.FrontAsk.{FrontAsk}
 use Rattle.link_msg.specs.declared.message.LinkMsg.{LinkMsg}
 use Rattle.link_queue.proofs.Placed.{Carried}
 use Rattle.link_queue.specs.Links.{on_link}
-use Rattle.mark_history.specs.Marked.{AreMarked, Tale}
+use Rattle.mark_history.specs.Marked.{Tale}
 use Rattle.mark_history.specs.declared.mark.Mark.{Mark}
 use Rattle.mur_base.specs.declared.home.Location.{Location}
 use Rattle.mur_base.specs.declared.point.AskId.{AskId}
@@ -40,6 +40,7 @@ use Rattle.route_links.specs.Barriers.{Place as Barrier, Place as barrier}
 use Rattle.cluster_core.specs.declared.world.World.{World}
 use Rattle.cluster_core.specs.declared.world.Client.{Client}
 use Rattle.cluster_core.specs.World.{client_at, front_at}
+use Rattle.cluster_core.proofs.Commands.AllReached.{AreMarkedSo}
 use Rattle.cluster_core.proofs.Commands.Knows.{Brings, Undecided}
 use Rattle.cluster_core.proofs.Commands.Knows.Knows.{is_decided, undecided}
 use Rattle.cluster_core.proofs.Commands.Place.{Place, its_message, Place as place}
@@ -348,7 +349,7 @@ pub record IsOpenAt (fixed : Fixed) (front : List ℕ) (conn now : ℕ) (marks :
 
 abbrev pub IsOpenWhereNothingComes : Type 0
 IsOpenWhereNothingComes = (fixed : Fixed) (front : List ℕ) (conn now : ℕ) (marks : List Mark) (story : Tale) (tag : Tag) (c : ClientCommand) (here : Place)
-    → AreMarked fixed.setting now marks story → c.setting ≡ fixed.setting → c.id ≡ next_id conn (story.told conn)
+    → AreMarkedSo fixed.setting now marks story → c.setting ≡ fixed.setting → c.id ≡ next_id conn (story.told conn)
     → numbered (story.talk.requests conn) (length (story.told conn) + 1) ≡ Some (a_command tag c.it)
     → KnowsOf fixed front conn tag c story here → BringsNothing here → IsOpenAt fixed front conn now marks story tag c here
 

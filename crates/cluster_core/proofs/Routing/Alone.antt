@@ -7,12 +7,13 @@ use Rattle.imap_types.specs.declared.command.Tag.{Tag}
 use Rattle.imap_types.specs.declared.reply.BadText.TheVariants.{State}
 use Rattle.imap_types.specs.declared.reply.Code.{Code}
 use Rattle.imap_types.specs.declared.reply.Verdict.TheVariants.{Ok as ok_reply, Bad as bad_reply}
+use Rattle.imap_types.specs.declared.reply.NoText.TheVariants.{BeingMoved, NotReached}
 use Rattle.imap_types.specs.declared.request.Answer.{Answer}
 use Rattle.imap_types.specs.declared.request.Request.{Request}
 use Rattle.imap_types.specs.declared.request.Request.TheVariants.{Command as a_command}
 use Rattle.link_msg.specs.declared.how.How.TheVariants.{Here}
 use Rattle.mark_history.specs.Marked.{AreMarked, Tale, done, refusal, telling, talk_told}
-use Rattle.mark_history.specs.Marked.AreMarked.{nothing, a_step, asks, sees, carries_out, tells, tells_at_once, refuses, takes_back}
+use Rattle.mark_history.specs.Marked.AreMarked.{nothing, a_step, asks, sees, carries_out, tells, tells_at_once, refuses, refuses_at_once, takes_back}
 use Rattle.mark_history.specs.declared.mark.Mark.{Mark}
 use Rattle.mark_history.specs.declared.mark.MarkKind.TheVariants.{Told}
 use Rattle.mark_history.proofs.TakenBack.{list_at}
@@ -100,7 +101,11 @@ module _ (setting : Setting) where
       })
   answered_alone now marks tale (refuses at those its conn tag it serial can made) =
       push _ those _
-      (still_so its _ (same_lists its.talk.requests) (tells_one its conn (refusal its conn tag it).answer) those (answered_alone at those its made))
+      (still_so its _ (same_lists its.talk.requests) (tells_one its conn (refusal its conn tag it BeingMoved).answer) those (answered_alone at those its made))
+      (λ here. cc)
+  answered_alone now marks tale (refuses_at_once at those its conn tag it node serial can made) =
+      push _ those _
+      (still_so its _ (same_lists its.talk.requests) (tells_one its conn (refusal its conn tag it NotReached).answer) those (answered_alone at those its made))
       (λ here. cc)
   answered_alone now marks tale (takes_back at those its conn answer untold last made) =
       still_so its _ (same_lists its.talk.requests) (same_lists its.told) those (answered_alone at those its made)

@@ -2,46 +2,60 @@
 use Rattle.std.proofs.Common.{◌≡◌, ◌≢◌, ◌⊎◌, inl, inr, ℕ, ◌+◌, ◌≤◌, ◌<◌, nat_eq, Bool, true, false, List, [], ◌∷◌, ◌++◌, Option, None, Some, refl, sym, ◌∙◌, ap, arith}
 use Rattle.std.specs.Prelude.{⊤}
 use Rattle.std.specs.List.{AllByRecursion}
+use Rattle.std.specs.Map.{keys_of}
 use Rattle.std.specs.Ordering.{nat_cmp}
 use Rattle.std.specs.Cmp.Lexicographic.{pointwise}
 use Rattle.ask_routes.specs.Barrier.{barrier_answered}
 use Rattle.asking_core.specs.Answered.{WentOn, answered}
+use Rattle.asking_core.specs.Begins.{Begun}
 use Rattle.asking_core.specs.Cleared.{cleared}
 use Rattle.asking_core.specs.declared.then.Then.{Then}
 use Rattle.asking_core.specs.declared.then.Then.TheVariants as then
 use Rattle.asking_core.specs.declared.waiting.At.{At}
 use Rattle.asking_core.specs.declared.waiting.At.TheVariants.{Home, Barrier}
+use Rattle.asking_core.specs.declared.waiting.Sent.{Sent}
 use Rattle.asking_core.specs.declared.waiting.Waiting.{Waiting}
 use Rattle.front_core.specs.Reading.{inputs_of_more}
 use Rattle.front_core.specs.declared.connection.Connection.{Connection}
 use Rattle.front_core.specs.declared.connection.Stage.{Stage}
 use Rattle.front_core.specs.declared.connection.Stage.TheVariants.{Reading, Waits, Lists, Ended}
 use Rattle.front_core.specs.declared.front.Front.{Front}
-use Rattle.front_core.specs.Answered.{answer_by, answer_comes, by_then, clears_at, need_behind, ok_by, ok_comes, reading_again, reads_on}
+use Rattle.front_core.specs.Answered.{answer_by, answer_comes, by_then, clears_at, end_by, end_comes, ends_at, how_for, need_behind, ok_by, ok_comes, reading_again}
+use Rattle.front_core.specs.Answered.{reads_on, refused_behind, sends_if, waiting_come}
 use Rattle.front_core.specs.Ended.{released, released_at}
-use Rattle.front_core.specs.Front.{Stepped, answer_at, answer_from, bytes_by, bytes_in, connect, connect_at, connection_at, deliver, front_bytes_at, front_hang_at, hang, having_read, hung_up, line_by, line_from, ok_at, still, up_from, waits_for, ways_of, with_turned}
-use Rattle.front_core.specs.Taken.{Turned, Ways, answers_last, answers_now, comes_at, input_comes, input_in, inputs_come, request_in, turned_by_need}
+use Rattle.front_core.specs.Front.{Stepped, all_end, answer_at, answer_from, awaited, behind_them, bytes_by, bytes_in, connect, connect_at, connection_at, deliver, end_at}
+use Rattle.front_core.specs.Front.{end_from, end_if, front_bytes_at, front_hang_at, hang, having_read, hung_up, line_by, line_from, ok_at, one_ends, still, up_from}
+use Rattle.front_core.specs.Front.{waits_for, ways_of, with_turned, with_up, without_up}
+use Rattle.front_core.specs.Taken.{Turned, Ways, answers_last, answers_now, asks, begins_if, comes_at, input_comes, input_in, inputs_come, list_refused, lists, lists_if}
+use Rattle.front_core.specs.Taken.{request_in, says_bye, told_now, turned_by_need}
+use Rattle.front_core.specs.Ups.{Ups, coming_up, going_down, is_up}
 use Rattle.imap_talk.specs.declared.inputs.Input.{Input}
 use Rattle.imap_talk.specs.declared.inputs.Input.TheVariants.{GoesOn, Asks, Faults}
+use Rattle.imap_reply.specs.ReplyText.{reply_text}
 use Rattle.imap_types.specs.declared.command.Tag.{Tag}
+use Rattle.imap_types.specs.declared.reply.Bye.TheVariants.{Lost as lost_bye}
 use Rattle.imap_types.specs.declared.reply.Reply.{Reply}
 use Rattle.imap_types.specs.declared.request.Request.{Request}
 use Rattle.imap_types.specs.declared.request.Request.TheVariants.{Command as a_command, Unknown as unknown, TooBig as too_big}
 use Rattle.link_msg.specs.declared.answer.BackAnswer.{BackAnswer}
 use Rattle.link_msg.specs.declared.how.How.{How}
-use Rattle.link_msg.specs.declared.how.How.TheVariants.{Here, Behind, Reserved}
+use Rattle.link_msg.specs.declared.how.How.TheVariants.{Here, Behind, Reserved, Unreached}
 use Rattle.link_msg.specs.declared.message.LinkMsg.{LinkMsg}
 use Rattle.link_msg.specs.declared.message.LinkMsg.TheVariants.{Up, End, Line, Ask, Answer}
 use Rattle.link_msg.specs.declared.out.Out.{Out}
 use Rattle.link_msg.specs.declared.out.Out.TheVariants.{Client, Close, Link, Mark as mark, Told as tell}
 use Rattle.mur_base.specs.Map.{with_value}
 use Rattle.mur_base.specs.declared.point.AskId.{AskId}
+use Rattle.mur_base.specs.declared.point.What.{What}
+use Rattle.mur_base.specs.declared.point.What.TheVariants.{Unreached as unreached}
 use Rattle.mur_base.proofs.MapLaws.{numbers_apart, same_or_other, value_at-with_entry-other, value_at-with_value, value_at-with_value-other}
+use Rattle.mur_model.specs.declared.commands.list.Listing.{Listing}
 use Rattle.mur_model.specs.declared.need.Need.{Need}
 use Rattle.mur_model.specs.declared.need.Need.TheVariants as needs
 use Rattle.mur_model.specs.declared.session.Sess.{Sess}
 use Rattle.mur_model.specs.declared.setting.Setting.{Setting}
 use Rattle.session_core.specs.Begin.{begin}
+use Rattle.session_core.specs.Relocated.{Refused, relocated}
 
 -- how many commands of a connection have begun: those that were answered, and the one that waits or that ended it
 abbrev pub begun_at : Stage → ℕ
@@ -72,6 +86,7 @@ one_less : (conn most less : ℕ) (out : Out) → less ≤ most → TellsBeyond 
 one_less conn most less (tell ask Here) le is = (is.0, omega (arith, le, is.1))
 one_less conn most less (tell ask Behind) le is = tt
 one_less conn most less (tell ask Reserved) le is = tt
+one_less conn most less (tell ask (Unreached node)) le is = tt
 one_less conn most less (mark ask counts) le is = is
 one_less conn most less (Client other bytes) le is = tt
 one_less conn most less (Close other) le is = tt
@@ -98,7 +113,7 @@ module _ (setting : Setting) (ways : Ways) (conn : ℕ) where
   -- one that reads
   now_goes : (connection : Connection) (session : Sess) (tag : Tag) (reply : Reply) → connection.stage ≡ Reading
       → Goes conn connection (answers_now conn connection session tag reply)
-  unfolding answers_now
+  unfolding told_now
   now_goes connection session tag reply reads =
       let none : begun_at connection.stage ≡ 0 = ap begun_at reads in
       record { outs = (tt, ((refl, omega (arith, none)), tt)); more = omega arith }
@@ -109,15 +124,27 @@ module _ (setting : Setting) (ways : Ways) (conn : ℕ) where
       let none : begun_at connection.stage ≡ 0 = ap begun_at reads in
       record { outs = (tt, ((refl, omega (arith, none)), (tt, tt))); more = omega (arith, none) }
 
+  -- a command begins, for which a message goes out or which is refused; no more than it had begun
+  begins_go : (up : Bool) (was connection : Connection) (tag : Tag) (begun_so : Begun) → connection.answered ≡ was.answered → begun_at was.stage ≤ 1
+      → Goes conn was (begins_if up conn connection tag begun_so)
+  unfolding told_now
+  begins_go true was connection tag begun_so same one = record { outs = (tt, tt); more = omega (arith, same, one) }
+  begins_go false was connection tag begun_so same one = record { outs = (tt, (tt, tt)); more = omega (arith, same, one) }
+
+  lists_go : (up : Bool) (was connection : Connection) (tag : Tag) (it : Listing) → connection.answered ≡ was.answered → begun_at was.stage ≤ 1
+      → Goes conn was (lists_if up ways.master conn connection tag it)
+  unfolding told_now
+  lists_go true was connection tag it same one = record { outs = (tt, tt); more = omega (arith, same, one) }
+  lists_go false was connection tag it same one = record { outs = (tt, (tt, tt)); more = omega (arith, same, one) }
+
   need_goes : (connection : Connection) (tag : Tag) (need : Need) → connection.stage ≡ Reading
       → Goes conn connection (turned_by_need ways conn connection tag need)
   unfolding turned_by_need
   need_goes connection tag (needs.Reply reply) reads = now_goes connection connection.session tag reply reads
   need_goes connection tag (needs.Leave reply) reads = last_goes connection tag reply reads
-  need_goes connection tag (needs.Home name asking) reads =
-      let none : begun_at connection.stage ≡ 0 = ap begun_at reads in record { outs = (tt, tt); more = omega (arith, none) }
+  need_goes connection tag (needs.Home name asking) reads = begins_go (is_up ways.ups _) connection connection tag _ refl (omega (arith, ap begun_at reads))
   need_goes connection tag (needs.Names it) reads =
-      let none : begun_at connection.stage ≡ 0 = ap begun_at reads in record { outs = (tt, tt); more = omega (arith, none) }
+      lists_go (is_up ways.ups ways.master) connection connection tag it refl (omega (arith, ap begun_at reads))
 
   request_goes : (connection : Connection) (request : Request) → connection.stage ≡ Reading
       → Goes conn connection (request_in setting ways conn connection request)
@@ -168,6 +195,11 @@ module _ (setting : Setting) (ways : Ways) (conn : ℕ) where
   tells_behind most ask Here is = absurd is
   tells_behind most ask Behind is = tt
   tells_behind most ask Reserved is = tt
+  tells_behind most ask (Unreached node) is = tt
+
+  refused_behind_it : (cause : What) → IsBehind (how_for cause)
+  refused_behind_it (unreached node) = tt
+  refused_behind_it cause = tt
 
   reads_on_goes : (connection : Connection) (how : How) (text : List ℕ) → begun_at connection.stage ≡ 1 → IsBehind how
       → Goes conn connection (reads_on setting ways conn connection how text)
@@ -185,20 +217,53 @@ module _ (setting : Setting) (ways : Ways) (conn : ℕ) where
         more = omega (arith, waits, rest.more);
       }
 
+  -- the inputs that waited come
+  come_goes : (connection : Connection) (turned : Turned) → Goes conn connection turned → Goes conn connection (waiting_come setting ways conn turned)
+  come_goes connection turned one =
+      let free : Connection = record turned.connection { waiting = [] } in
+      let rest = inputs_go free turned.connection.waiting in
+      record {
+        outs = both conn (begun connection) turned.outs (inputs_come setting ways conn free turned.connection.waiting).outs one.outs
+            (all_less conn (begun turned.connection) (begun connection) (inputs_come setting ways conn free turned.connection.waiting).outs one.more rest.outs);
+        more = omega (arith, one.more, rest.more);
+      }
+
   behind_goes : (connection : Connection) (tag : Tag) (how : How) (need : Need) → begun_at connection.stage ≡ 1 → IsBehind how
       → Goes conn connection (need_behind setting ways conn connection tag how need)
   behind_goes connection tag how (needs.Reply reply) waits is = reads_on_goes connection how _ waits is
   behind_goes connection tag how (needs.Leave reply) waits is =
       record { outs = (tt, (tells_behind (begun connection) _ how is, (tt, tt))); more = omega (arith, waits) }
-  behind_goes connection tag how (needs.Home name asking) waits is = record { outs = (tt, tt); more = omega (arith, waits) }
-  behind_goes connection tag how (needs.Names it) waits is = record { outs = (tt, tt); more = omega (arith, waits) }
+  behind_goes connection tag how (needs.Home name asking) waits is =
+      let reads : Connection = record connection { stage = Reading } in
+      come_goes connection (asks ways conn reads tag name asking) (begins_go (is_up ways.ups _) connection reads tag _ refl (omega (arith, waits)))
+  behind_goes connection tag how (needs.Names it) waits is =
+      let reads : Connection = record connection { stage = Reading } in
+      come_goes connection (lists ways conn reads tag it) (lists_go (is_up ways.ups ways.master) connection reads tag it refl (omega (arith, waits)))
+
+  -- the client is told that it is refused
+  refusal_goes : (connection : Connection) (tag : Tag) (refused : Refused) (node : List ℕ) → begun_at connection.stage ≡ 1
+      → Goes conn connection (refused_behind setting ways conn connection tag refused node)
+  refusal_goes connection tag refused node waits =
+      let its = reads_on_goes (record connection { session = refused.session }) (Unreached node) (reply_text tag refused.reply) waits tt in
+      record { outs = its.outs; more = its.more }
+
+  sends_go : (up : Bool) (connection : Connection) (tag : Tag) (it : Waiting) (sent : Sent) → begun_at connection.stage ≡ 1
+      → Goes conn connection (sends_if up setting ways conn connection tag it sent)
+  sends_go true connection tag it sent waits = record { outs = (tt, tt); more = omega (arith, waits) }
+  sends_go false connection tag it sent waits =
+      refusal_goes connection tag (relocated connection.session it.asking.awaited (unreached sent.to)) sent.to waits
+
+  -- its connection ends
+  bye_goes : (connection : Connection) → begun_at connection.stage ≡ 1 → Goes conn connection (says_bye conn connection lost_bye)
+  bye_goes connection waits = record { outs = (tt, (tt, tt)); more = omega (arith, waits) }
 
   then_goes : (connection : Connection) (tag : Tag) (it : Waiting) (what : Then) → begun_at connection.stage ≡ 1
       → Goes conn connection (by_then setting ways conn connection tag it what)
-  then_goes connection tag it (then.Sends sent) waits = record { outs = (tt, tt); more = omega (arith, waits) }
+  then_goes connection tag it (then.Sends sent) waits = sends_go (is_up ways.ups sent.to) connection tag it sent waits
   then_goes connection tag it (then.Needs need) waits = behind_goes connection tag Behind need waits tt
-  then_goes connection tag it (then.Refused cause need) waits = behind_goes connection tag Reserved need waits tt
-  then_goes connection tag it then.Lost waits = record { outs = tt; more = omega arith }
+  then_goes connection tag it (then.Refused cause reply) waits =
+      reads_on_goes connection (how_for cause) (reply_text tag reply) waits (refused_behind_it cause)
+  then_goes connection tag it then.Lost waits = bye_goes connection waits
   then_goes connection tag it then.Stays waits = record { outs = tt; more = omega arith }
 
   went_goes : (connection : Connection) (tag : Tag) (next : WentOn) → begun_at connection.stage ≡ 1
@@ -240,6 +305,23 @@ module _ (setting : Setting) (ways : Ways) (conn : ℕ) where
   pub ok_goes : (connection : Connection) (id : AskId) → Goes conn connection (ok_comes setting ways conn connection id)
   unfolding ok_comes
   ok_goes connection id = ok_goes_by connection _ connection.stage refl
+
+  -- the link to the node for which it waits ends
+  ends_go : (connection : Connection) (tag : Tag) (it : Waiting) (at : At) → begun_at connection.stage ≡ 1
+      → Goes conn connection (ends_at setting ways conn connection tag it at)
+  ends_go connection tag it (Home server) waits = bye_goes connection waits
+  ends_go connection tag it (Barrier why) waits =
+      refusal_goes connection tag (relocated connection.session it.asking.awaited (unreached ways.master)) ways.master waits
+
+  end_goes_by : (connection : Connection) (stage : Stage) → connection.stage ≡ stage → Goes conn connection (end_by setting ways conn connection stage)
+  unfolding end_by
+  end_goes_by connection (Waits tag it) e = ends_go connection tag it it.at (ap begun_at e)
+  end_goes_by connection (Lists tag it) e = refusal_goes connection tag (list_refused connection.session) ways.master (ap begun_at e)
+  end_goes_by connection Reading e = record { outs = tt; more = omega arith }
+  end_goes_by connection Ended e = record { outs = tt; more = omega arith }
+
+  pub end_goes : (connection : Connection) → Goes conn connection (end_comes setting ways conn connection)
+  end_goes connection = end_goes_by connection connection.stage refl
 
 -- ---- a frontend
 
@@ -285,6 +367,7 @@ module _ (front : Front) (conn : ℕ) (connection : Connection) (at : connection
   out_tells (tell ask Here) is = record { connection = connection; at = ap (connection_at front) is.0 ∙ at; beyond = is.1 }
   out_tells (tell ask Behind) is = tt
   out_tells (tell ask Reserved) is = tt
+  out_tells (tell ask (Unreached node)) is = tt
   out_tells (mark ask counts) is = is
   out_tells (Client other bytes) is = tt
   out_tells (Close other) is = tt
@@ -319,6 +402,99 @@ module _ (front : Front) (conn : ℕ) (connection : Connection) (at : connection
     outs = outs_tell turned.outs goes.outs;
     more = changed_has (released turned.connection) (omega (arith, goes.more, released_begun turned.connection));
   }
+
+  -- what the frontend answers alone then, it would have answered alone before
+  told_before : (turned : Turned) → Goes conn connection turned → (out : Out) → FrontTells (with_turned front conn turned).front out → FrontTells front out
+  told_before turned goes (tell ask Here) is = by (same_or_other nat_cmp numbers_apart ask.conn conn)
+    where
+      now : Front
+      now = (with_turned front conn turned).front
+
+      by : (ask.conn ≡ conn) ⊎ (ask.conn ≢ conn) → AnswersAlone front ask
+      by (inl e) =
+          let same : is.connection ≡ released turned.connection = same_connection (sym is.at ∙ ap (connection_at now) e
+          ∙ value_at-with_value nat_cmp numbers_apart front.connections conn (released turned.connection) connection at) in
+          record {
+            connection = connection;
+            at = ap (connection_at front) e ∙ at;
+            beyond = omega (arith, is.beyond, goes.more, released_begun turned.connection, ap begun same);
+          }
+      by (inr ne) = record {
+        connection = is.connection;
+        at = sym (value_at-with_value-other nat_cmp numbers_apart front.connections conn ask.conn (released turned.connection) ne) ∙ is.at;
+        beyond = is.beyond;
+      }
+  told_before turned goes (tell ask Behind) is = tt
+  told_before turned goes (tell ask Reserved) is = tt
+  told_before turned goes (tell ask (Unreached node)) is = tt
+  told_before turned goes (mark ask counts) is = is
+  told_before turned goes (Client other bytes) is = tt
+  told_before turned goes (Close other) is = tt
+  told_before turned goes (Link node message) is = tt
+
+-- one step of a frontend, and then others
+record GoesFurther (front : Front) (next : Stepped) : Type 0 where
+  goes : FrontGoes front next
+  before : (out : Out) → FrontTells next.front out → FrontTells front out
+
+all_before : (front now : Front) (outs : List Out) → ((out : Out) → FrontTells now out → FrontTells front out) → AllByRecursion (FrontTells now) outs
+    → AllByRecursion (FrontTells front) outs
+all_before front now [] before tell_so = tt
+all_before front now (out ∷ outs) before tell_so = (before out tell_so.0, all_before front now outs before tell_so.1)
+
+join : (front : Front) (one two : List Out) → AllByRecursion (FrontTells front) one → AllByRecursion (FrontTells front) two
+    → AllByRecursion (FrontTells front) (one ++ two)
+join front [] two first second = second
+join front (out ∷ one) two first second = (first.0, join front one two first.1 second)
+
+further : (front : Front) (one two : Stepped) → GoesFurther front one → GoesFurther one.front two → GoesFurther front (behind_them one.outs two)
+further front one two first second = record {
+  goes = record {
+    outs = join front one.outs two.outs first.goes.outs (all_before front one.front two.outs first.before second.goes.outs);
+    more = λ conn number has. second.goes.more conn number (first.goes.more conn number has);
+  };
+  before = λ out is. first.before out (second.before out is);
+}
+
+no_further : (front : Front) → GoesFurther front (still front)
+no_further front = record { goes = nothing_goes front; before = λ out is. is }
+
+-- it notes which links are up
+noted_goes : (front : Front) (ups : Ups) → GoesFurther front (still (record front { ups = ups }))
+noted_goes front ups = record {
+  goes = record { outs = tt; more = λ conn number has. record { connection = has.connection; at = has.at; most = has.most } };
+  before = before;
+}
+  where
+    before : (out : Out) → FrontTells (record front { ups = ups }) out → FrontTells front out
+    before (tell ask Here) is = record { connection = is.connection; at = is.at; beyond = is.beyond }
+    before (tell ask Behind) is = tt
+    before (tell ask Reserved) is = tt
+    before (tell ask (Unreached node)) is = tt
+    before (mark ask counts) is = is
+    before (Client other bytes) is = tt
+    before (Close other) is = tt
+    before (Link node message) is = tt
+
+ends_further : (front : Front) (conn : ℕ) (found : Option Connection) → connection_at front conn ≡ found → GoesFurther front (end_at front conn found)
+unfolding end_at
+ends_further front conn None at = no_further front
+ends_further front conn (Some connection) at =
+    let goes = end_goes front.setting (ways_of front) conn connection in
+    let turned : Turned = end_comes front.setting (ways_of front) conn connection in
+    record { goes = turned_goes front conn connection at turned goes; before = told_before front conn connection at turned goes }
+
+one_further : (front : Front) (conn : ℕ) (test : Bool) → GoesFurther front (end_if test front conn)
+one_further front conn true = ends_further front conn (connection_at front conn) refl
+one_further front conn false = no_further front
+
+all_further : (front : Front) (node : List ℕ) (conns : List ℕ) → GoesFurther front (all_end front node conns)
+unfolding all_end
+all_further front node [] = no_further front
+all_further front node (conn ∷ conns) =
+    let one : Stepped = one_ends front node conn in
+    further front one (all_end one.front node conns) (one_further front conn (awaited front.master (connection_at front conn) node))
+    (all_further one.front node conns)
 
 connects : (front : Front) (conn : ℕ) (found : Option Connection) → connection_at front conn ≡ found → FrontGoes front (connect_at front conn found)
 unfolding connect_at
@@ -392,10 +568,10 @@ unfolding line_from
 lines_go front bytes true = heard_goes front bytes (barrier_answered bytes)
 lines_go front bytes false = nothing_goes front
 
-ups_go : (front : Front) (is_master : Bool) → FrontGoes front (up_from is_master front)
+ups_go : (front : Front) (from : List ℕ) (is_master : Bool) → FrontGoes front (up_from is_master (with_up front from))
 unfolding up_from
-ups_go front true = record { outs = (tt, tt); more = λ conn number has. record { connection = has.connection; at = has.at; most = has.most } }
-ups_go front false = nothing_goes front
+ups_go front from true = record { outs = (tt, tt); more = λ conn number has. record { connection = has.connection; at = has.at; most = has.most } }
+ups_go front from false = (noted_goes front (coming_up front.ups from)).goes
 
 -- whatever comes to it
 
@@ -415,6 +591,8 @@ pub message_goes : (front : Front) (from : List ℕ) (message : LinkMsg) → Fro
 unfolding deliver
 message_goes front from (Answer answer) = answers_go front answer (waits_for (connection_at front (answer.id).conn) from)
 message_goes front from (Line line) = lines_go front line (pointwise nat_eq from front.master)
-message_goes front from Up = ups_go front (pointwise nat_eq from front.master)
-message_goes front from End = nothing_goes front
+message_goes front from Up = ups_go front from (pointwise nat_eq from front.master)
+message_goes front from End =
+    (further front (still (without_up front from)) (end_from (without_up front from) from) (noted_goes front (going_down front.ups from))
+    (all_further (without_up front from) from (keys_of front.connections))).goes
 message_goes front from (Ask ask) = nothing_goes front

@@ -54,7 +54,7 @@ use Rattle.cluster_core.specs.Shown.{held_by}
 use Rattle.cluster_core.specs.World.{deliver_first, home_at, stepped, steps_by, taken_from_link, takes}
 use Rattle.cluster_core.proofs.Connections.KeepsLaw.{KeepsLaw, murder_of}
 use Rattle.cluster_core.proofs.Nodes.Carried.{IsMade, is_made, marks_made}
-use Rattle.cluster_core.proofs.Nodes.Comes.{home_comes, home_moved, with_home}
+use Rattle.cluster_core.proofs.Nodes.Comes.{home_comes, home_moved, with_home, wrote}
 use Rattle.cluster_core.proofs.OneServer.OpenLaw.{HasIt, has_it, open_found, open_test}
 use Rattle.cluster_core.proofs.Routing.Works.{AskTells, ask_tells, backend_is}
 
@@ -234,11 +234,13 @@ module _ (config : Config) (heard : ℕ → Heard) (world : World) (are : AreNod
   acted = node_takes home from (Ask ask)
 
   abbrev begun : World
-  begun = taken_from_link (stepped world) from to
+  begun = wrote (taken_from_link (stepped world) from to) to (state.Back home) (From from (Ask ask))
 
   next_is : steps_by world (Deliver from to) ≡ with_home begun to acted
   unfolding takes deliver_first
-  next_is = ap (deliver_first (stepped world) from to) first ∙ home_comes begun to (From from (Ask ask)) home law.whole tells.there
+  next_is =
+      ap (deliver_first (stepped world) from to) first
+      ∙ home_comes (taken_from_link (stepped world) from to) to (From from (Ask ask)) home law.whole tells.there
 
   made : IsMade begun to (state.Back acted.state) acted.outs (with_home begun to acted)
   made = is_made begun to (state.Back acted.state) acted.outs

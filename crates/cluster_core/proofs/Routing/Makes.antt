@@ -53,7 +53,7 @@ use Rattle.store_links.proofs.BoxesLaw.{each_is_a_box}
 use Rattle.cluster_core.specs.declared.world.World.{World}
 use Rattle.cluster_core.proofs.Connections.KeepsLaw.{KeepsLaw, murder_of}
 use Rattle.cluster_core.proofs.Nodes.Carried.{is_made, marks_made}
-use Rattle.cluster_core.proofs.Nodes.Comes.{master_comes, master_moved, with_master}
+use Rattle.cluster_core.proofs.Nodes.Comes.{master_comes, master_moved, with_master, wrote}
 use Rattle.cluster_core.proofs.OneServer.Boxes.{table_is}
 use Rattle.cluster_core.proofs.Routing.MasterMarks.{TellsStep, line_marks, marks_of_it}
 
@@ -132,8 +132,11 @@ module _ (config : Config) (heard : ℕ → Heard) (world : World) (law : KeepsL
   abbrev says : Stepped
   says = node_says law.master from message
 
+  abbrev taken : World
+  taken = taken_from_link (stepped world) from (master_of config)
+
   abbrev begun : World
-  begun = taken_from_link (stepped world) from (master_of config)
+  begun = wrote taken (master_of config) (state.Master law.master) (From from message)
 
   abbrev murder : Murder
   murder = murder_of world law.master
@@ -148,7 +151,7 @@ module _ (config : Config) (heard : ℕ → Heard) (world : World) (law : KeepsL
   unfolding takes deliver_first
   next_is =
       ap (deliver_first (stepped world) from (master_of config)) first
-      ∙ master_comes begun (master_of config) (From from message) law.master law.whole law.nodes.is_there
+      ∙ master_comes taken (master_of config) (From from message) law.master law.whole law.nodes.is_there
 
   marks_are : next.marks ≡ world.marks ++ marks_made (world.steps + 1) says.outs
   marks_are = ap (λ (w : World). w.marks) next_is ∙ (is_made begun (master_of config) (state.Master says.master) says.outs).marks

@@ -17,7 +17,7 @@ use Rattle.link_msg.specs.declared.answer.AnswerBody.{AnswerBody}
 use Rattle.link_msg.specs.declared.ask.FrontAsk.{FrontAsk}
 use Rattle.link_msg.specs.declared.counts.Counts.{Counts}
 use Rattle.link_msg.specs.declared.how.How.{How}
-use Rattle.link_msg.specs.declared.how.How.TheVariants.{Here, Behind, Reserved}
+use Rattle.link_msg.specs.declared.how.How.TheVariants.{Here, Behind, Reserved, Unreached}
 use Rattle.link_msg.specs.declared.message.LinkMsg.{LinkMsg}
 use Rattle.link_msg.specs.declared.message.LinkMsg.TheVariants.{Up, End, Line, Ask, Answer}
 use Rattle.link_msg.specs.declared.out.Out.{Out}
@@ -99,6 +99,7 @@ module _ (now : ℕ) (front : Front) (input : NodeInput) where
   told_is ask Here is = by_front front Here refl refl (λ e. is)
   told_is ask Behind is = by_front front Behind refl refl (λ e. (let no : Behind ≡ Here = e in cc))
   told_is ask Reserved is = by_front front Reserved refl refl (λ e. (let no : Reserved ≡ Here = e in cc))
+  told_is ask (Unreached node) is = by_front front (Unreached node) refl refl (λ e. (let no : Unreached node ≡ Here = e in cc))
 
   outs_have : (outs : List Out) → AllByRecursion (FrontTells front) outs → AllByRecursion (MarkHas now FrontIs) outs
   outs_have [] are = tt

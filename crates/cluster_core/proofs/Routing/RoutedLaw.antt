@@ -20,14 +20,16 @@ use Rattle.mark_history.specs.declared.mark.MarkKind.TheVariants.{Home, Told}
 use Rattle.mark_history.specs.History.{counts_as, point_as, points_of}
 use Rattle.mark_history.specs.Marked.{talk_told}
 use Rattle.mark_history.specs.Moments.{GoOn}
-use Rattle.mark_history.proofs.Counted.{always_lost, always_replied, each_counted, each_told, here_replies, none_lost}
+use Rattle.mark_history.proofs.Counted.{TellsPoint, always_lost, always_replied, each_counted, each_told, none_lost, told_points}
+use Rattle.mark_history.proofs.Counted.TellsPoint.{here_replies, here_unreached}
+use Rattle.mark_history.proofs.Reached.{TellsReached}
 use Rattle.mark_history.proofs.MarkLaw.{holds}
 use Rattle.mark_history.proofs.Tally.{command_of, conn_of}
 use Rattle.mark_history.proofs.Tellings.{has_tellings, tells_client}
 use Rattle.mur_base.specs.declared.point.AskId.{AskId}
 use Rattle.mur_base.specs.declared.point.Point.{Point}
 use Rattle.mur_base.specs.declared.point.What.{What}
-use Rattle.mur_base.specs.declared.point.What.TheVariants.{Reply as replied, Lost as lost}
+use Rattle.mur_base.specs.declared.point.What.TheVariants.{Reply as replied, Lost as lost, Unreached as unreached_point}
 use Rattle.mur_config.specs.declared.config.Config.{Config}
 use Rattle.mur_config.specs.Nodes.{AreNodes}
 use Rattle.mur_model.specs.History.{Talk, TalkGoesOn}
@@ -153,7 +155,7 @@ module _ (config : Config) (are : AreNodes config.nodes) (steps : List Event)
           let law_then = laws taken.before _ taken.parts in
           let low : command_of made ≤ length (law_then.story.told (conn_of made)) =
           All-contains (λ (m : Mark). tells_client m.kind ≡ true → command_of m ≤ length (law_then.story.told (conn_of m))) (at taken.before).marks made
-          (has_tellings (setting_of config) (at taken.before).steps (at taken.before).marks law_then.story law_then.is_told).low
+          (has_tellings (setting_of config) (at taken.before).steps (at taken.before).marks law_then.story law_then.is_told.marked).low
           (early taken.before _ taken.parts made there (omega (arith, later, told.at.step_is))) (tells_it made.kind how kind) in
           absurd (omega (arith, low, (under_way made.ask taken works).last))
 
@@ -161,8 +163,8 @@ module _ (config : Config) (are : AreNodes config.nodes) (steps : List Event)
 
   always_is : (made : Mark) → Contains whole.marks made → made.kind ≡ Home Always → IsItsPoint talk (points_of whole.marks) made.step made.ask
   always_is made there kind = record {
-    told = λ low. always_replied (setting_of config) whole.steps whole.marks law.story law.is_told made there kind low;
-    untold = λ high. always_lost (setting_of config) whole.steps whole.marks law.story law.is_told made there kind high;
+    told = λ low. always_replied (setting_of config) whole.steps whole.marks law.story law.is_told.marked made there kind low;
+    untold = λ high. always_lost (setting_of config) whole.steps whole.marks law.story law.is_told.marked made there kind high;
   }
 
   -- ---- a step of these
@@ -194,7 +196,7 @@ module _ (config : Config) (are : AreNodes config.nodes) (steps : List Event)
     of_step P new more each =
         let IfThen : Mark → Type 0 = λ made. made.step ≡ length before + 1 → P made in
         let then = laws before (event ∷ later) parts in
-        let timely = (holds (setting_of config) (at before).steps (at before).marks then.story then.is_told).order.timely in
+        let timely = (holds (setting_of config) (at before).steps (at before).marks then.story then.is_told.marked).order.timely in
         subst (λ (m : List Mark). All IfThen m) (sym (behind.parts ∙ ap (λ m. m ++ behind.rest) more))
         (All-append IfThen ((at before).marks ++ new) behind.rest
         (All-append IfThen (at before).marks new
@@ -251,7 +253,7 @@ module _ (config : Config) (are : AreNodes config.nodes) (steps : List Event)
       no_loss = each_counted IfThen IsNoLoss
           (λ made next what if_then e. λ then same is_lost. none_lost next what (ap (λ k. counts_as k next) (sym (if_then then ∙ ap Home only)) ∙ e) is_lost)
           whole.marks only_mark;
-      told = each_told (setting_of config) whole.steps whole.marks law.story law.is_told IfThen IsOfTold
+      told = each_told (setting_of config) whole.steps whole.marks law.story law.is_told.marked IfThen IsOfTold
           (λ made next what if_then low e. λ then same.
           subst (λ (i : AskId). i.command ≤ length (law.story.told i.conn)) same (low (if_then then ∙ ap Home only))) only_mark;
     }
@@ -365,8 +367,12 @@ module _ (config : Config) (are : AreNodes config.nodes) (steps : List Event)
   stands made next what (is_taken counts kind taken works step, there) e =
       where_taken taken works step (does made there next what counts kind e taken step works)
   stands made next what (is_told how kind so, there) e =
-      let its = here_replies how next what (ap (λ k. counts_as k next) (sym kind) ∙ e) in
-      at_frontend its.1 (so its.0).at (no_step made how there kind (so its.0))
+      stands_told (told_points how next what (ap (λ k. counts_as k next) (sym kind) ∙ e))
+    where
+      stands_told : TellsPoint how what → StandsAt config steps (point_as made what)
+      stands_told (here_replies here replies) = at_frontend replies (so here).at (no_step made how there kind (so here))
+      stands_told (here_unreached node unreached is) =
+          absurd (All-contains TellsReached whole.marks made law.is_told.reached there node (kind ∙ ap Told unreached))
 
   points_stand : All (StandsAt config steps) (points_of whole.marks)
   points_stand = each_counted MadeHere (StandsAt config steps) stands whole.marks (λ k d h. (all k d h, All-contains_itself whole.marks k d h))
@@ -389,12 +395,16 @@ module _ (config : Config) (are : AreNodes config.nodes) (steps : List Event)
   at_noop made next what (is_taken counts kind taken works step, alone) e replies listed =
       record { taken = taken; at = step; takes = noop_of taken made.ask listed.is_list works }
   at_noop made next what (is_told how kind so, alone) e replies listed =
-      let its = here_replies how next what (ap (λ k. counts_as k next) (sym kind) ∙ e) in absurd (alone (kind ∙ ap Told its.0) listed)
+      by (told_points how next what (ap (λ k. counts_as k next) (sym kind) ∙ e))
+    where
+      by : TellsPoint how what → IsAtItsNoop config steps (point_as made what)
+      by (here_replies here is) = absurd (alone (kind ∙ ap Told here) listed)
+      by (here_unreached node unreached is) = (let no : unreached_point node ≡ replied = sym is ∙ replies in cc)
 
   listed : All StandsAtNoop (points_of whole.marks)
   listed =
       each_counted (λ made. IsMadeSo config steps made × NotAlone made) StandsAtNoop at_noop whole.marks
-      (λ k d h. (all k d h, none_listed (setting_of config) whole.steps whole.marks law.story law.is_told k d h))
+      (λ k d h. (all k d h, none_listed (setting_of config) whole.steps whole.marks law.story law.is_told.marked k d h))
 
   -- ---- all of it
 

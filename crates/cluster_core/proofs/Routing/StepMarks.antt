@@ -13,7 +13,7 @@ use Rattle.cluster_core.specs.declared.world.World.{World}
 use Rattle.cluster_core.specs.Headline.OneNode.{node_of, worker}
 use Rattle.cluster_core.specs.World.{client_at, client_does, comes_to, deliver_first, node_at, opens, stepped, steps_by, taken_from_link, takes, with_client}
 use Rattle.cluster_core.proofs.Nodes.Carried.{acts_whole, is_made, marks_made}
-use Rattle.cluster_core.proofs.Nodes.Comes.{IsOfClient}
+use Rattle.cluster_core.proofs.Nodes.Comes.{IsOfClient, wrote}
 
 -- what comes to a node in a step: a message that was the first on its link, or what a client does
 pub data ComesBy (world : World) (event : Event) (node : List ℕ) : NodeInput → Type 0 where
@@ -40,7 +40,7 @@ comes_marks world node input None there whole = nobody_is_there refl
 comes_marks world node input (Some it) there whole =
     it_acts it there
     (ap (λ (w : World). w.marks) (acts_whole world node (node_takes it input) whole)
-    ∙ (is_made world node (node_takes it input).state (node_takes it input).outs).marks)
+    ∙ (is_made (wrote world node it input) node (node_takes it input).state (node_takes it input).outs).marks)
 
 -- in a world that has the nodes, the marks and the count of the step of this one
 step_of : (world begun : World) (event : Event) (node : List ℕ) (input : NodeInput) (next : World) → begun.nodes ≡ world.nodes → begun.marks ≡ world.marks

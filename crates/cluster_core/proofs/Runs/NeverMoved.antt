@@ -33,7 +33,7 @@ use Rattle.schedule_text.specs.declared.event.Event.{Event}
 use Rattle.schedule_text.specs.declared.event.Event.TheVariants.{Open, Data, Hang, Deliver}
 use Rattle.cluster_core.specs.declared.world.World.{World}
 use Rattle.cluster_core.specs.Flow.{run_steps}
-use Rattle.cluster_core.specs.World.{carry, carry_all, client_at, client_does, comes_to, deliver_first, first_state, given_more, no_world, node_at, not_lost, opens, start, stepped, steps_by, taken_from_link, takes, told_up, with_client, with_node, with_nodes, with_state, with_ups}
+use Rattle.cluster_core.specs.World.{carry, carry_all, client_at, client_does, comes_to, deliver_first, first_state, given_more, no_world, node_at, not_lost, opens, start, stepped, steps_by, taken_from_link, takes, told_up, with_client, with_node, with_nodes, with_ups, with_acted}
 use Rattle.cluster_core.proofs.Runs.NotLost.{let_left}
 use Rattle.cluster_core.proofs.Runs.OwnNodes.{OfEachNode, comes_of_each}
 use Rattle.cluster_core.proofs.Runs.QuietFlows.{LooksForNone}
@@ -79,7 +79,7 @@ comes_links : (world : World) (node : List ℕ) (input : NodeInput) (found : Opt
 unfolding comes_to
 comes_links world node input None lets on = on
 comes_links world node input (Some it) lets on =
-    carry_all_quiet (MayMark it) node (with_state world node (node_takes it input).state) (not_lost world.broken node (node_takes it input).outs)
+    carry_all_quiet (MayMark it) node (with_acted world node (node_takes it input)) (not_lost world.broken node (node_takes it input).outs)
     (let_left AnyClient QuietTo (MayMark it) world.broken node (node_takes it input).outs (lets it refl)) on
 
 -- ---- a world

@@ -11,11 +11,11 @@ use Rattle.std.proofs.lemmas.Option.{same_Some}
 use Rattle.back_node.specs.declared.node.BackNode.{BackNode}
 use Rattle.back_node.proofs.Said.{none_owed_at_start}
 use Rattle.cluster_core.specs.declared.world.Client.{Client}
-use Rattle.cluster_core.specs.World.{home_of, master_of, carry, carry_all, client_at, client_does, comes_to, deliver_first, first_state, front_at, home_at, no_world, node_at, not_lost, opens, place_of, start, stepped, steps_by, taken_from_link, takes, told_up, with_client, with_node, with_nodes, with_state, with_ups}
+use Rattle.cluster_core.specs.World.{home_of, master_of, carry, carry_all, client_at, client_does, comes_to, deliver_first, first_state, front_at, home_at, no_world, node_at, not_lost, opens, place_of, start, stepped, steps_by, taken_from_link, takes, told_up, with_client, with_node, with_nodes, with_ups, with_acted}
 use Rattle.feed_core.specs.Feed.{Recs}
 use Rattle.feed_core.specs.Routes.{server_at}
 use Rattle.front_core.specs.declared.front.Front.{Front}
-use Rattle.front_core.specs.Front.{deliver, new_front, up_from, ways_of}
+use Rattle.front_core.specs.Front.{deliver, new_front, up_from, ways_of, with_up}
 use Rattle.front_core.proofs.OwnOuts.{AreLetOut, IsLetOut, MayAsk}
 use Rattle.imap_talk.specs.Heard.{Heard}
 use Rattle.link_msg.specs.declared.answer.AnswerBody.TheVariants.{Moved}
@@ -174,7 +174,7 @@ module _ (config : Config) (are : AreNodes config.nodes) where
   unfolding comes_to
   comes_on world node input None there each may on = on
   comes_on world node input (Some it) there each may on =
-      carry_all_on pairs AnyClient (MayMark it) node (with_state world node (node_takes it input).state) (not_lost world.broken node (node_takes it input).outs)
+      carry_all_on pairs AnyClient (MayMark it) node (with_acted world node (node_takes it input)) (not_lost world.broken node (node_takes it input).outs)
       (let_left AnyClient (OverLink pairs node) (MayMark it) world.broken node (node_takes it input).outs
       (node_lets node it input (each node it there) may.from (may.sends it there)).outs) on
 
@@ -348,7 +348,7 @@ module _ (config : Config) (are : AreNodes config.nodes) where
 
   ups_records : (it : NodeState) (from : List ℕ) → HasNoRecords it → HasNoRecords (node_takes it (From from Up)).state
   unfolding node_takes front_takes back_takes master_takes deliver
-  ups_records (state.Front front) from none = up_records front _ none
+  ups_records (state.Front front) from none = up_records (with_up front from) _ none
   ups_records (state.Back home) from none = tt
   ups_records (state.Master master) from none = tt
 

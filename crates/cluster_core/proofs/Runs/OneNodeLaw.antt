@@ -13,7 +13,7 @@ use Rattle.link_msg.specs.declared.out.Out.TheVariants.{Client as to_client, Clo
 use Rattle.mur_base.specs.Map.{value_at, with_value}
 use Rattle.mur_base.proofs.MapLaws.{names_apart, numbers_apart, not_equal, same_or_other, value_at-with_entry, value_at-with_entry-other, value_at-with_value, value_at-with_value-other}
 use Rattle.node_step.specs.declared.node.NodeState.{NodeState}
-use Rattle.node_step.specs.NodeStep.{takes as node_takes}
+use Rattle.node_step.specs.NodeStep.{Acted, takes as node_takes}
 use Rattle.schedule_text.specs.declared.event.Event.{Event}
 use Rattle.schedule_text.specs.declared.event.Event.TheVariants.{Open, Data, Hang, Deliver}
 use Rattle.cluster_core.specs.declared.world.Client.{Client}
@@ -24,13 +24,14 @@ use Rattle.cluster_core.specs.declared.world.World.{World}
 use Rattle.cluster_core.specs.Flow.{run_steps}
 use Rattle.link_queue.specs.Links.{Links, same_link, on_link, without_first}
 use Rattle.cluster_core.specs.Headline.OneNode.{node_of, worker, connected, leaves_on, WasSent, OnlyWorks, WorksBy, OneNodeWorks, OneNodeWorksEach}
-use Rattle.cluster_core.specs.World.{not_lost, marked, client_at, node_at, given_more, carry, carry_all, with_state, comes_to, with_client, opens, client_does, taken_from_link, deliver_first, takes, stepped, steps_by}
+use Rattle.cluster_core.specs.World.{not_lost, marked, client_at, node_at, given_more, carry, carry_all, comes_to, with_client, opens, client_does, taken_from_link, deliver_first, takes, stepped, steps_by, Disks, with_acted, written, written_on}
 use Rattle.cluster_core.proofs.Runs.InTime.{takes_adds}
 use Rattle.link_queue.proofs.Wires.{same_names, on_link-sent, on_link-taken}
 
--- what a node's outputs do: messages stand behind those on its links, clients are given bytes, and nothing else of nodes and links changes
+-- what a node's outputs do: messages stand behind those on its links, clients are given bytes, and nothing else of nodes, disks and links changes
 pub record Sends (node : List ℕ) (before after : World) : Type 0 where
   pub nodes : after.nodes ≡ before.nodes
+  pub disks : after.disks ≡ before.disks
   pub clients : (conn : ℕ) → node_of (client_at after conn) ≡ node_of (client_at before conn)
   pub others : (from to : List ℕ) → from ≢ node → on_link after.links from to ≡ on_link before.links from to
   goes : (to : List ℕ) → WasSent (on_link before.links node to) (on_link after.links node to)
@@ -47,6 +48,7 @@ sent_on one two three first second = record {
 sends_nothing : (node : List ℕ) (world : World) → Sends node world world
 sends_nothing node world = record {
   nodes = refl;
+  disks = refl;
   clients = λ conn. refl;
   others = λ from to ne. refl;
   goes = λ to. none_sent (on_link world.links node to) (on_link world.links node to) refl;
@@ -55,6 +57,7 @@ sends_nothing node world = record {
 sends_more : (node : List ℕ) (one two three : World) → Sends node one two → Sends node two three → Sends node one three
 sends_more node one two three first second = record {
   nodes = second.nodes ∙ first.nodes;
+  disks = second.disks ∙ first.disks;
   clients = λ conn. second.clients conn ∙ first.clients conn;
   others = λ from to ne. second.others from to ne ∙ first.others from to ne;
   goes = λ to. sent_on (on_link one.links node to) (on_link two.links node to) (on_link three.links node to) (first.goes to) (second.goes to);
@@ -79,6 +82,7 @@ unfolding given_more
 given_sends node world conn bytes None there = sends_nothing node world
 given_sends node world conn bytes (Some client) there = record {
   nodes = refl;
+  disks = refl;
   clients = stays_there world conn client (record client { given = client.given ++ bytes }) there refl;
   others = λ from to ne. refl;
   goes = λ to. none_sent (on_link world.links node to) (on_link world.links node to) refl;
@@ -87,6 +91,7 @@ given_sends node world conn bytes (Some client) there = record {
 marked_sends : (node : List ℕ) (world : World) (ask : AskId) (kind : MarkKind) → Sends node world (marked world ask kind)
 marked_sends node world ask kind = record {
   nodes = refl;
+  disks = refl;
   clients = λ conn. refl;
   others = λ from to ne. refl;
   goes = λ to. none_sent (on_link world.links node to) (on_link world.links node to) refl;
@@ -100,6 +105,7 @@ carry_sends node world (mark_out ask counts) = marked_sends node world ask (Home
 carry_sends node world (tell ask how) = marked_sends node world ask (Told how)
 carry_sends node world (to_node other message) = record {
   nodes = refl;
+  disks = refl;
   clients = λ conn. refl;
   others = λ from to ne. on_link-sent world.links node other from to message
       ∙ ap (λ m. on_link world.links from to ++ m) (elsewhere_none from node to other message ne) ∙ append-nil (on_link world.links from to);
@@ -117,6 +123,7 @@ works_and_sends : (event : Event) (node : List ℕ) (one two three : World) → 
     → OnlyWorks event node one three
 works_and_sends event node one two three works out = record {
   nodes = λ other ne. ap (λ n. value_at (slice_cmp nat_cmp) n other) out.nodes ∙ works.nodes other ne;
+  disks = λ other ne. ap (λ d. value_at (slice_cmp nat_cmp) d other) out.disks ∙ works.disks other ne;
   clients = λ conn. out.clients conn ∙ works.clients conn;
   stays = λ from to ne. out.others from to ne ∙ works.stays from to ne;
   sends = λ to. sent_on (leaves_on event node to (on_link one.links node to)) (on_link two.links node to) (on_link three.links node to) (works.sends to)
@@ -133,6 +140,7 @@ idle : (event : Event) (node : List ℕ) (world : World) (clients : List (ℕ ×
     → OnlyWorks event node world (record world { clients = clients })
 idle event node world clients none there = record {
   nodes = λ other ne. refl;
+  disks = λ other ne. refl;
   clients = there;
   stays = λ from to ne. sym (none from to (on_link world.links from to));
   sends = λ to. none_sent (leaves_on event node to (on_link world.links node to)) (on_link world.links node to)
@@ -143,6 +151,7 @@ idle event node world clients none there = record {
 takes_first : (from to : List ℕ) (world : World) → OnlyWorks (Deliver from to) to world (taken_from_link world from to)
 takes_first from to world = record {
   nodes = λ other ne. refl;
+  disks = λ other ne. refl;
   clients = λ conn. refl;
   stays = λ one other ne. on_link-taken world.links from to one other;
   sends = λ other. none_sent (leaves_on (Deliver from to) to other (on_link world.links to other))
@@ -160,17 +169,33 @@ nothing_first links from to one other false h none = refl
 takes_nothing : (from to : List ℕ) (world : World) → on_link world.links from to ≡ [] → OnlyWorks (Deliver from to) to world world
 takes_nothing from to world none = record {
   nodes = λ other ne. refl;
+  disks = λ other ne. refl;
   clients = λ conn. refl;
   stays = λ one other ne. nothing_first world.links from to one other (same_link one other from to) refl none;
   sends = λ other. none_sent (leaves_on (Deliver from to) to other (on_link world.links to other)) (on_link world.links to other)
       (nothing_first world.links from to to other (same_link to other from to) refl none);
 }
 
+-- an entry is written to the disk of its node alone
+written_elsewhere : (disks : Disks) (node entry : List ℕ) (found : Option (List (List ℕ))) (other : List ℕ) → other ≢ node
+    → value_at (slice_cmp nat_cmp) (written_on disks node entry found) other ≡ value_at (slice_cmp nat_cmp) disks other
+unfolding written_on
+written_elsewhere disks node entry None other ne = refl
+written_elsewhere disks node entry (Some entries) other ne =
+    value_at-with_value-other (slice_cmp nat_cmp) names_apart disks node other (entries ++ entry ∷ []) ne
+
+pub others_disks : (disks : Disks) (node : List ℕ) (entry : Option (List ℕ)) (other : List ℕ) → other ≢ node
+    → value_at (slice_cmp nat_cmp) (written disks node entry) other ≡ value_at (slice_cmp nat_cmp) disks other
+unfolding written
+others_disks disks node None other ne = refl
+others_disks disks node (Some entry) other ne = written_elsewhere disks node entry (value_at (slice_cmp nat_cmp) disks node) other ne
+
 -- what a node does itself
-state_changes : (event : Event) (node : List ℕ) (before world : World) (it : NodeState) → OnlyWorks event node before world
-    → OnlyWorks event node before (with_state world node it)
-state_changes event node before world it works = record {
-  nodes = λ other ne. value_at-with_value-other (slice_cmp nat_cmp) names_apart world.nodes node other it ne ∙ works.nodes other ne;
+acts_itself : (event : Event) (node : List ℕ) (before world : World) (acted : Acted) → OnlyWorks event node before world
+    → OnlyWorks event node before (with_acted world node acted)
+acts_itself event node before world acted works = record {
+  nodes = λ other ne. value_at-with_value-other (slice_cmp nat_cmp) names_apart world.nodes node other acted.state ne ∙ works.nodes other ne;
+  disks = λ other ne. others_disks world.disks node acted.entry other ne ∙ works.disks other ne;
   clients = works.clients;
   stays = works.stays;
   sends = works.sends;
@@ -181,7 +206,7 @@ comes_works : (event : Event) (node : List ℕ) (before world : World) (input : 
 unfolding comes_to
 comes_works event node before world input None works = works
 comes_works event node before world input (Some it) works =
-    works_and_sends event node before _ _ (state_changes event node before world (node_takes it input).state works)
+    works_and_sends event node before _ _ (acts_itself event node before world (node_takes it input) works)
     (carry_all_sends node _ (not_lost world.broken node (node_takes it input).outs))
 
 -- a client that is connected stays where it is
@@ -260,6 +285,7 @@ before_counting : (event : Event) (at : Option (List ℕ)) (world after : World)
 before_counting event None world after works = works
 before_counting event (Some node) world after works = record {
   nodes = works.nodes;
+  disks = works.disks;
   clients = works.clients;
   stays = works.stays;
   sends = works.sends;

@@ -9,7 +9,7 @@ use Rattle.std.proofs.lemmas.Option.{same_Some}
 use Rattle.back_node.proofs.Said.{none_owed_at_start}
 use Rattle.cluster_core.specs.declared.layout.Layout.{Layout}
 use Rattle.cluster_core.specs.declared.world.Client.{Client}
-use Rattle.cluster_core.specs.World.{master_of, carry, carry_all, client_at, client_does, comes_to, deliver_first, first_state, given_more, no_world, node_at, not_lost, opens, place_of, start, stepped, steps_by, taken_from_link, takes, told_up, with_client, with_node, with_nodes, with_state, with_ups}
+use Rattle.cluster_core.specs.World.{master_of, carry, carry_all, client_at, client_does, comes_to, deliver_first, first_state, given_more, no_world, node_at, not_lost, opens, place_of, start, stepped, steps_by, taken_from_link, takes, told_up, with_client, with_node, with_nodes, with_ups, with_acted}
 use Rattle.front_core.specs.Front.{new_front}
 use Rattle.front_core.proofs.OwnOuts.{AreLetOut, IsLetOut, MovesBy}
 use Rattle.link_msg.specs.declared.message.LinkMsg.{LinkMsg}
@@ -113,7 +113,7 @@ unfolding comes_to
 comes_same world node input other None there each from ne = refl
 comes_same world node input other (Some it) there each from ne =
     carry_all_same (IsClientOf world node) Anyone (MayMark it) node other (λ conn is e. ne (ap (λ c. node_of (client_at world c)) e ∙ is))
-    (with_state world node (node_takes it input).state) (not_lost world.broken node (node_takes it input).outs)
+    (with_acted world node (node_takes it input)) (not_lost world.broken node (node_takes it input).outs)
     (let_left (IsClientOf world node) Anyone (MayMark it) world.broken node (node_takes it input).outs
     (node_lets (IsClientOf world node) it input (each node it there) from).outs)
 
@@ -148,7 +148,7 @@ comes_stay : (world : World) (node : List ℕ) (input : NodeInput) (found : Opti
 unfolding comes_to
 comes_stay world node input None any conn is = is
 comes_stay world node input (Some it) any conn is =
-    (carry_all_sends node (with_state world node (node_takes it input).state) (not_lost world.broken node (node_takes it input).outs)).clients conn ∙ is
+    (carry_all_sends node (with_acted world node (node_takes it input)) (not_lost world.broken node (node_takes it input).outs)).clients conn ∙ is
 
 pub comes_own : (world : World) (node : List ℕ) (input : NodeInput) → HaveOwnClients world → ComesFrom (IsClientOf world node) Anyone input
     → HaveOwnClients (comes_to world node input (node_at world node))

@@ -10,7 +10,7 @@ use Rattle.node_step.specs.declared.input.NodeInput.{NodeInput}
 use Rattle.node_step.specs.declared.node.NodeState.{NodeState}
 use Rattle.node_step.specs.NodeStep.{takes as node_takes}
 use Rattle.cluster_core.specs.declared.world.World.{World}
-use Rattle.cluster_core.specs.World.{acts, comes_to, node_at, not_lost, with_state}
+use Rattle.cluster_core.specs.World.{acts, comes_to, node_at, not_lost, with_state, with_acted}
 use Rattle.cluster_core.proofs.Runs.OneNodeLaw.{carry_all_sends}
 
 -- this holds of each node, by its name
@@ -39,6 +39,6 @@ pub comes_of_each : (P : List ℕ → NodeState → Type 0) (world : World) (nod
 unfolding comes_to
 comes_of_each P world node input None there each next = each
 comes_of_each P world node input (Some it) there each next =
-    of_same_nodes P (with_state world node (node_takes it input).state) (acts world node (node_takes it input))
-    (carry_all_sends node (with_state world node (node_takes it input).state) (not_lost world.broken node (node_takes it input).outs)).nodes
+    of_same_nodes P (with_acted world node (node_takes it input)) (acts world node (node_takes it input))
+    (carry_all_sends node (with_acted world node (node_takes it input)) (not_lost world.broken node (node_takes it input).outs)).nodes
     (of_changed P world node it (node_takes it input).state there each (next it refl))

@@ -30,7 +30,7 @@ use Rattle.schedule_text.specs.declared.event.Event.TheVariants.{Open, Data, Han
 use Rattle.schedule_text.specs.Brings.{steps_of, bytes_brought}
 use Rattle.cluster_core.specs.declared.world.Client.{Client}
 use Rattle.cluster_core.specs.declared.world.World.{World}
-use Rattle.cluster_core.specs.World.{not_lost, no_world, start, told_up, with_ups, first_state, with_node, with_nodes, client_at, node_at, front_at, with_state, acts, comes_to, with_client, opens, home_of, master_of, setting_of, client_does, taken_from_link, deliver_first, takes, stepped, steps_by}
+use Rattle.cluster_core.specs.World.{not_lost, no_world, start, told_up, with_ups, first_state, with_node, with_nodes, client_at, node_at, front_at, with_state, acts, comes_to, with_client, opens, home_of, master_of, setting_of, client_does, taken_from_link, deliver_first, takes, stepped, steps_by, with_acted}
 use Rattle.link_queue.specs.Links.{on_link}
 use Rattle.cluster_core.specs.Room.{HaveCommands, HasRoom}
 use Rattle.cluster_core.proofs.Runs.InTime.{comes_add, takes_adds}
@@ -61,7 +61,7 @@ unfolding comes_to
 comes_commands world node input n None there have = more_commands world n (n + bytes_of input) (omega arith) have
 comes_commands world node input n (Some it) there have =
     let acted = node_takes it input in
-    same_nodes (with_state world node acted.state) (acts world node acted) (n + bytes_of input) (carry_all_sends node _
+    same_nodes (with_acted world node acted) (acts world node acted) (n + bytes_of input) (carry_all_sends node _
     (not_lost world.broken node acted.outs)).nodes
     (changed_commands world node it acted.state n (n + bytes_of input) there (omega arith) have
     (takes_counts it input n (at_node world node it n there have)))

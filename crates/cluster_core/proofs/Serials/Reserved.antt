@@ -26,9 +26,9 @@ use Rattle.schedule_text.specs.declared.event.Event.{Event}
 use Rattle.schedule_text.specs.declared.event.Event.TheVariants.{Deliver}
 use Rattle.cluster_core.specs.declared.world.World.{World}
 use Rattle.cluster_core.specs.Headline.OneNode.{OnlyWorks, WasSent, WorksBy, leaves_on, worker}
-use Rattle.cluster_core.specs.World.{comes, home_at}
+use Rattle.cluster_core.specs.World.{comes, home_at, Disks}
 use Rattle.cluster_core.proofs.Nodes.Carried.{is_made}
-use Rattle.cluster_core.proofs.Nodes.Comes.{IsOfClient, home_comes, home_does, home_moved, with_home}
+use Rattle.cluster_core.proofs.Nodes.Comes.{IsOfClient, home_comes, home_does, home_moved, with_home, client_writes}
 
 -- ---- messages on their way
 
@@ -89,6 +89,19 @@ pub record IsReserved (master : List ℕ) (world : World) (conn : ℕ) : Type 0 
 reserved_more : (name : List ℕ) (flow : Flow) (down more : List LinkMsg) → HasReserved name flow down → HasReserved name flow (down ++ more)
 reserved_more name flow down more (hears_ok it among known heard) = hears_ok it (among_more (answer_message flow it) down more among) known heard
 reserved_more name flow down more (makes stage) = makes stage
+
+-- so it is whatever stands on the disks
+pub reserved_so : (master : List ℕ) (world : World) (disks : Disks) (conn : ℕ) → IsReserved master world conn → IsReserved master (record world { disks = disks }) conn
+reserved_so master world disks conn is = record {
+  server = is.server;
+  node = is.node;
+  there = is.there;
+  name = is.name;
+  flow = is.flow;
+  runs = is.runs;
+  own = is.own;
+  reserved = is.reserved;
+}
 
 -- ---- steps that leave it
 
@@ -160,6 +173,8 @@ module _ (master : List ℕ) (world : World) (conn : ℕ) (is : IsReserved maste
       let idle : BackActed = record { state = is.node; entry = None; outs = [] } in
       let next : World = with_home world is.server idle in
       subst (λ (w : World). IsReserved master w conn)
-      (sym (home_comes world is.server input is.node whole is.there ∙ ap (with_home world is.server) (home_idles input of)))
+      (sym (home_comes world is.server input is.node whole is.there
+      ∙ ap (λ w. with_home w is.server (home_does is.node input)) (client_writes world is.server (state.Back is.node) input of)
+      ∙ ap (with_home world is.server) (home_idles input of)))
       (stays next ((home_moved world is.server is.node idle is.there).own ∙ sym is.there)
       (behind_all (down world) (down next) (ap (λ l. on_link l master is.server) (is_made world is.server (state.Back is.node) []).links)))

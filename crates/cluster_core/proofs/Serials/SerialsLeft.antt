@@ -93,7 +93,7 @@ module _ (config : Config) (came : ℕ → Heard) (world : World) (law : KeepsLa
 
   asked_so : (conn n : ℕ) → CountedIn config world law.story conn n → n ≤ asked conn
   asked_so conn n (replied few) =
-      omega (arith, few, (has_tellings (setting_of config) world.steps world.marks law.story law.is_told).replied conn, ap length (law.requests conn))
+      omega (arith, few, (has_tellings (setting_of config) world.steps world.marks law.story (law.is_told).marked).replied conn, ap length (law.requests conn))
   asked_so conn n (waiting is few) =
       let waits = waits_in_flow config came world law is.server is.node is.there is.name is.flow is.runs conn is.own in
       omega (arith, few, numbered_within (requests_of (setting_of config) (frames_heard (came conn))) (length (law.story.told conn) + 1) _ (waits.waits).asked)

@@ -18,6 +18,7 @@ use Rattle.node_record.specs.Table.{MailboxTable}
 use Rattle.node_step.specs.declared.input.NodeInput.{NodeInput}
 use Rattle.node_step.specs.declared.input.NodeInput.TheVariants.{Opened, Piece, Hung, From}
 use Rattle.node_step.specs.declared.node.NodeState.{NodeState}
+use Rattle.node_step.specs.declared.node.NodeState.TheVariants as state
 use Rattle.node_step.specs.NodeStep.{as_master}
 use Rattle.schedule_text.specs.declared.event.Event.{Event}
 use Rattle.schedule_text.specs.declared.event.Event.TheVariants.{Open, Data, Hang, Deliver, Cut, Join, Crash, Arm, Start, Flow, Heal}
@@ -29,15 +30,16 @@ use Rattle.cluster_core.specs.Headline.Serials.{asks_reserve, last_serial}
 use Rattle.cluster_core.specs.Numbers.{NumbersFit}
 use Rattle.cluster_core.specs.World.{client_at, client_does, comes, deliver_first, master_of, opens, stepped, taken_from_link, takes, with_client}
 use Rattle.cluster_core.proofs.Connections.KeepsLaw.{KeepsLaw}
+use Rattle.cluster_core.proofs.Connections.KeepsStill.{disks_law}
 use Rattle.cluster_core.proofs.Guests.TablesStay.{step_tables}
-use Rattle.cluster_core.proofs.Nodes.Comes.{IsOfClient, home_comes, master_comes, master_moved, with_master}
+use Rattle.cluster_core.proofs.Nodes.Comes.{IsOfClient, home_comes, master_comes, master_moved, with_master, wrote}
 use Rattle.cluster_core.proofs.OneServer.SerialsRise.{step_rises}
 use Rattle.cluster_core.proofs.Runs.OneNodeLaw.{takes_works}
 use Rattle.cluster_core.proofs.Serials.AtHome.{home_goes}
 use Rattle.cluster_core.proofs.Serials.AtMaster.{Gives, IsGiven, master_gives}
 use Rattle.cluster_core.proofs.Serials.AtMaster.Gives.{gives_none, gives_one}
 use Rattle.cluster_core.proofs.Serials.Counting.{times, times_else, times_first}
-use Rattle.cluster_core.proofs.Serials.Reserved.{IsReserved, beside, client_leaves}
+use Rattle.cluster_core.proofs.Serials.Reserved.{IsReserved, beside, client_leaves, reserved_so}
 
 -- so many are of a connection's commands: the one store has replied to as many, or there is one more, which waits in this world
 pub data IsCounted (master : List ℕ) (told said : ℕ) (world : World) (conn n : ℕ) : Type 0 where
@@ -98,9 +100,11 @@ module _ (config : Config) (heard : ℕ → Heard) (before : World) (law : Keeps
     delivered from to [] first same = inl is
     delivered from to (message ∷ rest) first same =
         let first_there = ap (on_link world.links from) (sym same) ∙ first in
+        let put : World = wrote world is.server (state.Back is.node) (From from message) in
         subst (λ n. Goes (comes (taken_from_link world from n) n (From from message)) conn) (sym same)
         (subst (λ w. Goes w conn) (sym (home_comes (taken_from_link world from is.server) is.server (From from message) is.node law.whole is.there))
-        (home_goes config heard world law fits is.server is.node is.there conn is.name is.flow is.runs is.own is.reserved from message rest first_there))
+        (home_goes config heard put (disks_law config heard world put.disks law) fits is.server is.node is.there conn is.name is.flow is.runs is.own is.reserved
+        from message rest first_there))
 
     at_itself : (event : Event) → worker world event ≡ Some is.server → Goes (next event) conn
     unfolding takes
@@ -158,7 +162,14 @@ module _ (config : Config) (heard : ℕ → Heard) (before : World) (law : Keeps
       abbrev says : Stepped
       says = node_says law.master from message
 
-      takes_it : next (Deliver from name) ≡ with_master (taken_from_link world from name) name says
+      -- the world once its entry is written, in which the law holds too
+      abbrev put : World
+      put = wrote world name (state.Master law.master) (From from message)
+
+      abbrev put_law : KeepsLaw config heard put
+      put_law = disks_law config heard world put.disks law
+
+      takes_it : next (Deliver from name) ≡ with_master (taken_from_link put from name) name says
       unfolding takes deliver_first
       takes_it =
           ap (deliver_first world from name) first
@@ -170,16 +181,16 @@ module _ (config : Config) (heard : ℕ → Heard) (before : World) (law : Keeps
       serial_then : last_serial config (next (Deliver from name)) ≡ says.master.table.serial
       serial_then =
           ap (last_serial config) takes_it
-          ∙ ap (λ (m : Option Master). (table_by m).serial) (master_moved (taken_from_link world from name) name law.master says law.nodes.is_there).own
+          ∙ ap (λ (m : Option Master). (table_by m).serial) (master_moved (taken_from_link put from name) name law.master says law.nodes.is_there).own
 
       rises : (asks : Bool) → asks_reserve message ≡ asks → says.master.table.serial ≤ law.master.table.serial + cond asks 1 0
       unfolding step_of
       rises asks e = subst (λ b. says.master.table.serial ≤ law.master.table.serial + cond b 1 0) e (step_rises law.master (sends from message))
 
-      module _ (conn : ℕ) (given : IsGiven config heard world law fits from message rest first conn) where
+      module _ (conn : ℕ) (given : IsGiven config heard put put_law fits from message rest first conn) where
         once : (n : ℕ) → Counted world conn n → n ≤ told conn
         once n (replied few) = omega (arith, few, ap length given.said)
-        once n (waiting is few) = absurd (given.fresh is)
+        once n (waiting is few) = absurd (given.fresh (reserved_so name world put.disks conn is))
 
         one_more : (other : ℕ) → Counted (next (Deliver from name)) other (times other (conn ∷ reserved))
         one_more other = ⊎_elim
@@ -195,12 +206,12 @@ module _ (config : Config) (heard : ℕ → Heard) (before : World) (law : Keeps
         reserves_one : says.master.table.serial ≤ law.master.table.serial + 1 → CountsThen (Deliver from name)
         reserves_one more = (conn ∷ reserved, record { few = omega (arith, counts.few, more, serial_now, serial_then); each = one_more })
 
-      by_gives : asks_reserve message ≡ true → Gives config heard world law fits from message rest first → CountsThen (Deliver from name)
+      by_gives : asks_reserve message ≡ true → Gives config heard put put_law fits from message rest first → CountsThen (Deliver from name)
       by_gives asks (gives_none stays) = serial_stays (Deliver from name) (omega (arith, stays, serial_now, serial_then))
       by_gives asks (gives_one conn given) = reserves_one conn given (rises true asks)
 
       by_asks : (asks : Bool) → asks_reserve message ≡ asks → CountsThen (Deliver from name)
-      by_asks true e = by_gives e (master_gives config heard world law fits from message rest first e)
+      by_asks true e = by_gives e (master_gives config heard put put_law fits from message rest first e)
       by_asks false e = serial_stays (Deliver from name) (omega (arith, rises false e, serial_now, serial_then))
 
       pub master_counts : CountsThen (Deliver from name)

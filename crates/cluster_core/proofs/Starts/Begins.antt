@@ -1,6 +1,6 @@
 -- The nodes before the first step: each frontend and each backend was told once that its link with the master is up.
 use Rattle.std.proofs.Common.{◌≡◌, ◌≢◌, ℕ, zero, suc, ◌<◌, ◌≤◌, ◌&&◌, nat_eq, Bool, true, false, if◌then◌else◌, is_some, List, [], ◌∷◌, ◌++◌, length, Option, None, Some, refl, sym, ◌∙◌, ap, subst, arith, slice_index_or}
-use Rattle.std.specs.List.{AllByRecursion}
+use Rattle.std.specs.List.{AllByRecursion, list_any}
 use Rattle.std.specs.Ordering.{nat_cmp, is_eq}
 use Rattle.std.specs.Cmp.Lexicographic.{pointwise, slice_cmp}
 use Rattle.back_node.specs.declared.node.BackNode.{BackNode}
@@ -9,16 +9,14 @@ use Rattle.back_node.specs.Acted.{acted}
 use Rattle.back_node.specs.Takes.{passed_over, taken_up, talks}
 use Rattle.cluster_core.specs.Headline.Outside.{is_master_node}
 use Rattle.cluster_core.specs.Heard.{is_frontend_node}
-use Rattle.cluster_core.specs.World.{backends_of, home_of, master_of, setting_of, first_state, front_at, home_at, node_at, place_of, start}
-use Rattle.feed_core.specs.Stream.{update_line}
+use Rattle.cluster_core.specs.World.{backends_of, master_of, first_state, front_at, home_at, node_at, place_of, start}
 use Rattle.feed_links.specs.Lines.{messages_to}
 use Rattle.feed_links.proofs.Names.{other_name, same_name}
 use Rattle.front_core.proofs.OneConnection.Places.{IsPlaced, of_connection}
 use Rattle.front_core.specs.declared.front.Front.{Front}
-use Rattle.front_core.specs.Front.{Stepped, deliver, new_front, up_from}
-use Rattle.link_msg.specs.declared.message.LinkMsg.TheVariants.{Line}
+use Rattle.front_core.specs.Front.{new_front}
+use Rattle.front_core.specs.Ups.{is_up}
 use Rattle.link_msg.specs.declared.out.Out.{Out}
-use Rattle.link_msg.specs.declared.out.Out.TheVariants.{Link as to_node}
 use Rattle.link_queue.specs.Links.{on_link}
 use Rattle.many_links.specs.Start.{told_up}
 use Rattle.master_core.specs.declared.master.Master.{Master}
@@ -34,19 +32,21 @@ use Rattle.mur_config.specs.Nodes.{AreNodes, are_kinds_linked, is_node_of_kind, 
 use Rattle.mur_config.proofs.OncePairs.{pairs_once, times}
 use Rattle.node_step.specs.declared.node.NodeState.{NodeState}
 use Rattle.node_step.specs.declared.node.NodeState.TheVariants as state
-use Rattle.node_step.specs.NodeStep.{Acted, as_back, as_front, as_master, back_takes, front_takes, takes as node_takes}
-use Rattle.mur_model.specs.declared.setting.Setting.{Setting}
+use Rattle.node_step.specs.NodeStep.{Acted, as_back, as_front, as_master, back_acted, back_takes, takes as node_takes}
 use Rattle.name_flows.specs.Listing.{up_step}
 use Rattle.node_record.specs.Table.{empty_table}
 use Rattle.cluster_core.specs.declared.world.World.{World}
+use Rattle.cluster_core.proofs.Connections.KeepsLaw.{IsLinked}
+use Rattle.cluster_core.proofs.Nodes.LinksUp.{linked_up, ups_on}
 use Rattle.cluster_core.proofs.Starts.Fresh.{first_by, fresh_at, fresh_empty, fresh_nodes}
-use Rattle.cluster_core.proofs.Starts.Kinds.{is_backend_node, master_named, master_node, named_among, named_so, pair_of}
+use Rattle.cluster_core.proofs.Starts.Kinds.{HasNode, backend_is, backend_named, is_backend_node, master_named, master_node, named_among, named_so, pair_of}
 use Rattle.cluster_core.proofs.Starts.Quiet.{IsQuiet, no_place, ups_quiet}
+use Rattle.cluster_core.proofs.Starts.FrontUps.{asks_often, links_up, noting_front}
 use Rattle.cluster_core.proofs.Starts.Ups.{Heeds, Ignores, takes_up, up_acted, ups_leave, ups_once, one_if}
 
--- a frontend that has done nothing
+-- a frontend that has done nothing but note its links
 abbrev pub first_front : Config → List ℕ → Front
-first_front config name = new_front name (home_of config) (master_of config) (setting_of config)
+first_front config name = noting_front config name (ups_on name [] (links_of config.nodes))
 
 abbrev pub first_home : Config → Node → BackNode
 first_home config node = new_node (place_of node) (master_of config)
@@ -56,38 +56,12 @@ abbrev pub first_master : Config → Master
 first_master config = booted (master_of config) (backends_of config.nodes) empty_table
 
 abbrev pub asks_once : Config → List Out
-asks_once config = to_node (master_of config) (Line update_line) ∷ []
+asks_once config = asks_often config 1
 
 -- ---- what each does as its link comes up
 
-front_heeds : (config : Config) (name : List ℕ) → Heeds (state.Front (first_front config name)) (master_of config)
-unfolding new_front
-front_heeds config name from ne = other_name from (master_of config) ne
-
-front_up : (config : Config) (name : List ℕ) (same : Bool) → same ≡ true
-    → up_from same (first_front config name) ≡ record { front = first_front config name; outs = asks_once config }
-unfolding new_front up_from
-front_up config name true e = refl
-front_up config name false e = cc
-
-new_master : (name first master : List ℕ) (setting : Setting) → (new_front name first master setting).master ≡ master
-unfolding new_front
-new_master name first master setting = refl
-
-knows : (config : Config) (name : List ℕ) → pointwise nat_eq (master_of config) (first_front config name).master ≡ true
-knows config name =
-    ap (pointwise nat_eq (master_of config)) (new_master name (home_of config) (master_of config) (setting_of config)) ∙ same_name (master_of config)
-
-pub front_acts : (config : Config) (name : List ℕ)
-    → up_acted (state.Front (first_front config name)) (master_of config) ≡ record { state = state.Front (first_front config name); outs = asks_once config }
-unfolding node_takes front_takes deliver
-front_acts config name =
-    ap (λ (s : Stepped). record { state = state.Front s.front; outs = s.outs }) (front_up config name
-    (pointwise nat_eq (master_of config) (first_front config name).master) (knows config name))
-
 pub home_acts : (config : Config) (node : Node)
-    → up_acted (state.Back (first_home config node)) (master_of config)
-    ≡ record { state = state.Back (told_up (place_of node) (master_of config)).state; outs = (told_up (place_of node) (master_of config)).outs }
+    → up_acted (state.Back (first_home config node)) (master_of config) ≡ back_acted (told_up (place_of node) (master_of config))
 unfolding node_takes back_takes
 home_acts config node = refl
 
@@ -162,6 +136,7 @@ module _ (config : Config) (are : AreNodes config.nodes) where
   pub record FrontStarts (name : List ℕ) : Type 0 where
     pub at : front_at (start config) name ≡ Some (first_front config name)
     pub sent : (other : List ℕ) → on_link (start config).links name other ≡ messages_to other (asks_once config)
+    pub linked : IsLinked (ups_on name [] pairs) master (λ server. list_any (pointwise nat_eq server) (backends_of config.nodes))
 
   not_master_front : (node : Node) → node.kind ≡ Frontend → is_node_of_kind master_kind node ≡ false
   unfolding is_node_of_kind is_of_kind
@@ -171,19 +146,48 @@ module _ (config : Config) (are : AreNodes config.nodes) where
   unfolding is_node_of_kind is_of_kind
   not_master_back node is = rw is refl
 
+  -- a link stands among the pairs from each node of a kind with which frontends are linked
+  linked_from : (kind : Kind) (from name : List ℕ) (node : Node) → node_named name config.nodes ≡ Some node → node.kind ≡ Frontend
+      → are_kinds_linked kind Frontend ≡ true → HasNode config.nodes kind from → from ≢ name → is_up (ups_on name [] pairs) from ≡ true
+  linked_from kind from name node named is kinds has ne =
+      let there = pair_of config.nodes kind Frontend from name kinds has
+      (record { node = node; among = named_among name config.nodes node named; kind_is = is; named = named_so name config.nodes node named }) ne in
+      linked_up name from [] pairs there.0 there.1 there.2
+
+  backend_linked : (name server : List ℕ) (node : Node) (found : Option Node) → node_named name config.nodes ≡ Some node → node.kind ≡ Frontend
+      → node_named server config.nodes ≡ found → is_backend_node found ≡ true → is_up (ups_on name [] pairs) server ≡ true
+  unfolding are_kinds_linked
+  backend_linked name server node None named is at back = cc
+  backend_linked name server node (Some other) named is at back =
+      let kind : other.kind ≡ Backend = backend_is other other.kind refl back in
+      linked_from Backend server name node named is refl
+      (record { node = other; among = named_among server config.nodes other at; kind_is = kind; named = named_so server config.nodes other at })
+      (λ e. (let same : Some other ≡ Some node = sym at ∙ ap (λ n. node_named n config.nodes) e ∙ named in
+      let one : other ≡ node = cc in
+      let no : Backend ≡ Frontend = sym kind ∙ ap (λ (n : Node). n.kind) one ∙ is in cc))
+
+  front_linked : (name : List ℕ) (node : Node) → node_named name config.nodes ≡ Some node → node.kind ≡ Frontend
+      → IsLinked (ups_on name [] pairs) master (λ server. list_any (pointwise nat_eq server) (backends_of config.nodes))
+  unfolding are_kinds_linked
+  front_linked name node named is = record {
+    to_master = linked_from master_kind master name node named is refl (master_node config.nodes (omega (arith, are.master)))
+        (λ e. apart_of name node named (not_master_front node is) (sym e));
+    to_backend = λ server there. backend_linked name server node (node_named server config.nodes) named is refl
+        (backend_named server config.nodes are.names ∙ there);
+  }
+
   front_starts : (name : List ℕ) (node : Node) → node_named name config.nodes ≡ Some node → node.kind ≡ Frontend → FrontStarts name
-  unfolding start first_state are_kinds_linked as_front
+  unfolding start first_state are_kinds_linked as_front new_front
   front_starts name node named is =
-      let acts = front_acts config name in
-      let at : node_at begun name ≡ Some (state.Front (first_front config name)) =
-      begun_at name node Frontend named is ∙ ap (λ n. Some (state.Front (first_front config n))) (named_so name config.nodes node named) in
-      let once = ups_once begun pairs name master (state.Front (first_front config name)) (fresh_empty config).broken at (front_heeds config name)
-      (subst (λ (a : Acted). Heeds a.state master) (sym acts) (front_heeds config name))
-      (linked_once Frontend name node named is refl (apart_of name node named (not_master_front node is))) in
+      let at : node_at begun name ≡ Some (state.Front (noting_front config name [])) =
+      begun_at name node Frontend named is ∙ ap (λ n. Some (state.Front (noting_front config n []))) (named_so name config.nodes node named) in
+      let up = links_up config name begun pairs [] (fresh_empty config).broken at in
+      let once = linked_once Frontend name node named is refl (apart_of name node named (not_master_front node is)) in
       record {
-        at = ap as_front (once.node ∙ ap (λ (a : Acted). Some a.state) acts);
-        sent = λ other. once.sent other ∙ ap (λ l. l ++ messages_to other (up_acted (state.Front (first_front config name)) master).outs) (nothing_on name other)
-            ∙ ap (λ (a : Acted). messages_to other a.outs) acts;
+        at = ap as_front up.node;
+        sent = λ other. up.sent other ∙ ap (λ l. l ++ messages_to other (asks_often config (times master name pairs))) (nothing_on name other)
+            ∙ ap (λ n. messages_to other (asks_often config n)) once;
+        linked = front_linked name node named is;
       }
 
   -- ---- a backend

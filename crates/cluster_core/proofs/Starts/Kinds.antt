@@ -228,6 +228,12 @@ abbrev pub is_backend_node : Option Node → Bool
 is_backend_node None = false
 is_backend_node (Some node) = is_node_of_kind Backend node
 
+pub backend_is : (node : Node) (kind : Kind) → node.kind ≡ kind → is_node_of_kind Backend node ≡ true → kind ≡ Backend
+unfolding is_node_of_kind is_of_kind
+backend_is node Backend k is = refl
+backend_is node Frontend k is = absurd (let no : false ≡ true = sym (rw k refl) ∙ is in cc)
+backend_is node Master k is = absurd (let no : false ≡ true = sym (rw k refl) ∙ is in cc)
+
 back_by : (name : List ℕ) (node : Node) (nodes : List Node) (kind : Kind) (same : Bool) → node.kind ≡ kind → is_node_named name node ≡ same
     → AllPairs (λ (one other : Node). one.name ≢ other.name) (node ∷ nodes)
     → is_backend_node (node_named name nodes) ≡ list_any (pointwise nat_eq name) (backends_of nodes)

@@ -9,7 +9,7 @@ use Rattle.back_node.specs.Acted.{acted}
 use Rattle.cluster_core.specs.declared.world.Client.{Client}
 use Rattle.front_core.proofs.OneConnection.Places.{About, IsPlaced, about, about_command, nobody_whom, of_connection, of_nobody, others_sent, update_nobodys}
 use Rattle.front_core.specs.declared.front.Front.{Front}
-use Rattle.front_core.specs.Front.{deliver, up_from}
+use Rattle.front_core.specs.Front.{deliver, up_from, with_up}
 use Rattle.link_msg.specs.declared.message.LinkMsg.{LinkMsg}
 use Rattle.link_msg.specs.declared.message.LinkMsg.TheVariants.{Up}
 use Rattle.link_msg.specs.declared.out.Out.{Out}
@@ -30,7 +30,7 @@ use Rattle.name_flows.specs.Listing.{resync_line, up_step}
 use Rattle.cluster_core.specs.declared.world.World.{World}
 use Rattle.cluster_core.specs.World.{node_at, told_up, with_ups}
 use Rattle.cluster_core.proofs.Nodes.Carried.{given_all, given_out, is_made, made, marks_made}
-use Rattle.cluster_core.proofs.Nodes.Comes.{comes_by, none_comes}
+use Rattle.cluster_core.proofs.Nodes.Comes.{comes_by, none_comes, wrote}
 use Rattle.cluster_core.proofs.Starts.Ups.{up_acted}
 
 -- messages about nobody, and nothing else
@@ -58,7 +58,7 @@ back_ups home false = tt
 
 pub ups_nobodys : (it : NodeState) (from : List ℕ) → AreNobodys (up_acted it from).outs
 unfolding node_takes front_takes back_takes master_takes deliver taken_up node_says
-ups_nobodys (state.Front front) from = front_ups front (pointwise nat_eq from front.master)
+ups_nobodys (state.Front front) from = front_ups (with_up front from) (pointwise nat_eq from front.master)
 ups_nobodys (state.Back home) from = back_ups home (is_my_master home from)
 ups_nobodys (state.Master master) from = tt
 
@@ -116,7 +116,8 @@ told_quiet : (world : World) (link : Link) (found : Option NodeState) → node_a
 told_quiet world link None at quiet = subst IsQuiet (sym (none_comes world link.to (From link.from Up) at)) quiet
 told_quiet world link (Some it) at quiet =
     subst IsQuiet (sym (comes_by world link.to (From link.from Up) it quiet.broken at))
-    (made_quiet world link.to (up_acted it link.from).state (up_acted it link.from).outs (ups_nobodys it link.from) quiet)
+    (made_quiet (wrote world link.to it (From link.from Up)) link.to (up_acted it link.from).state (up_acted it link.from).outs (ups_nobodys it link.from)
+    (record { clients = quiet.clients; broken = quiet.broken; marks = quiet.marks; steps = quiet.steps; placed = quiet.placed }))
 
 pub ups_quiet : (world : World) (links : List Link) → IsQuiet world → IsQuiet (with_ups world links)
 unfolding with_ups

@@ -27,14 +27,13 @@ use Rattle.link_queue.specs.Links.{on_link}
 use Rattle.many_links.specs.ManyHold.{ManyHold}
 use Rattle.many_links.specs.Start.{HasBegun, told_up}
 use Rattle.many_links.proofs.BegunLaw.{many_begin}
-use Rattle.mark_history.specs.Marked.{AreMarked, first_tale}
-use Rattle.mark_history.specs.Marked.AreMarked.{nothing}
+use Rattle.mark_history.specs.Marked.{first_tale}
 use Rattle.master_core.specs.declared.master.Master.{Master}
 use Rattle.master_core.specs.Boot.{booted}
 use Rattle.mur_base.specs.Map.{IsInOrder, value_at}
 use Rattle.mur_config.specs.declared.config.Config.{Config}
 use Rattle.mur_config.specs.declared.node.Node.{Node}
-use Rattle.mur_config.specs.Nodes.{AreNodes, node_named}
+use Rattle.mur_config.specs.Nodes.{AreNodes, links_of, node_named}
 use Rattle.mur_model.specs.declared.setting.Setting.{Setting}
 use Rattle.mur_model.specs.Store.{empty_store}
 use Rattle.mupdate_codec.specs.declared.tag.Tag.{Tag}
@@ -49,13 +48,15 @@ use Rattle.node_step.specs.declared.node.NodeState.{NodeState}
 use Rattle.node_step.specs.NodeStep.{as_back, as_front, as_master}
 use Rattle.node_step.proofs.NodeKinds.{back_is, back_no_front, front_is, front_no_back}
 use Rattle.cluster_core.specs.declared.world.World.{World}
+use Rattle.cluster_core.proofs.Commands.AllReached.{AreMarkedSo, nothing}
 use Rattle.cluster_core.proofs.Feeds.Beside.{no_one}
 use Rattle.cluster_core.proofs.Nodes.Comes.{a_master}
 use Rattle.cluster_core.proofs.Commands.InPlace.{ShowEach}
 use Rattle.cluster_core.proofs.Commands.Place.{Place as place}
 use Rattle.cluster_core.proofs.Connections.ConnectionLaw.{IsInNoneOf}
-use Rattle.cluster_core.proofs.Connections.KeepsLaw.{AreAtBackends, AreKeptAtBackends, AreNodesOf, ConnectionIs, FeedsHold, IsFedAt, IsFrontOf, NamesBackends, TableNamesBackends, TellsBackends, fixed_of, murder_of}
+use Rattle.cluster_core.proofs.Connections.KeepsLaw.{AreAtBackends, AreKeptAtBackends, AreNodesOf, ConnectionIs, FeedsHold, IsFedAt, IsFrontOf, IsLinked, NamesBackends, TableNamesBackends, TellsBackends, fixed_of, murder_of}
 use Rattle.cluster_core.proofs.Connections.KeepsLaw.ConnectionIs.{is_nobody}
+use Rattle.cluster_core.proofs.Nodes.LinksUp.{ups_on}
 use Rattle.cluster_core.proofs.Starts.Begins.{HomeStarts, Starts, asks_once, first_front, first_master, master_starts, start_quiet, starts, told_keeps}
 use Rattle.cluster_core.proofs.Starts.Begins.Starts.{is_front, is_home, is_silent}
 use Rattle.cluster_core.proofs.OneServer.MovingLaw.{StartsWith}
@@ -103,6 +104,7 @@ module _ (config : Config) (are : AreNodes config.nodes) where
   record FrontIs (name : List ℕ) (front : Front) : Type 0 where
     is : front ≡ first_front config name
     sent : (other : List ℕ) → on_link world.links name other ≡ messages_to other (asks_once config)
+    linked : IsLinked (ups_on name [] (links_of config.nodes)) me (λ server. list_any (pointwise nat_eq server) backends)
     no_home : home_at world name ≡ None
     no_backend : list_any (pointwise nat_eq name) backends ≡ false
 
@@ -111,6 +113,7 @@ module _ (config : Config) (are : AreNodes config.nodes) where
   front_by name front found named (is_front node begins front_kind back_kind master_kind) at = record {
     is = (let same : Some (first_front config name) ≡ Some front = sym begins.at ∙ at in let is : first_front config name ≡ front = cc in sym is);
     sent = begins.sent;
+    linked = begins.linked;
     no_home = front_no_back (node_at world name) front at;
     no_backend = sym (backend_named name config.nodes are.names) ∙ ap is_backend_node named ∙ back_kind;
   }
@@ -152,6 +155,8 @@ module _ (config : Config) (are : AreNodes config.nodes) where
         master_is = ap (λ (f : Front). f.master) first.is;
         first_is = ap (λ (f : Front). f.first) first.is;
         setting_is = ap (λ (f : Front). f.setting) first.is;
+        ups_are = ap (λ (f : Front). f.ups) first.is;
+        linked = first.linked;
         no_master = λ e. no_one (master_at world name) master
             (ap (master_at world) e ∙ ap as_master (master_starts config are).at ∙ a_master master)
             (front_no_master (node_at world name) front at);
@@ -299,10 +304,10 @@ module _ (config : Config) (are : AreNodes config.nodes) where
       (λ name front at. no_connection front name conn (front_first name front at).is)
       (record { told = refl; said = refl; session = refl; nothing = start_in_none conn })
 
-  pub start_marked : (moving : ℕ → List ℕ → Bool) → AreMarked (setting_of config) (start config).steps (start config).marks (first_tale moving)
+  pub start_marked : (moving : ℕ → List ℕ → Bool) → AreMarkedSo (setting_of config) (start config).steps (start config).marks (first_tale moving)
   start_marked moving =
-      subst (λ n. AreMarked (setting_of config) n (start config).marks (first_tale moving)) (sym (start_quiet config are).steps)
-      (subst (λ m. AreMarked (setting_of config) 0 m (first_tale moving)) (sym (start_quiet config are).marks) (nothing moving))
+      subst (λ n. AreMarkedSo (setting_of config) n (start config).marks (first_tale moving)) (sym (start_quiet config are).steps)
+      (subst (λ m. AreMarkedSo (setting_of config) 0 m (first_tale moving)) (sym (start_quiet config are).marks) (nothing (setting_of config) moving))
 
 no_requests : (setting : Setting) → [] ≡ requests_of setting (frames_heard nobody)
 unfolding requests_in inputs_of frames_heard

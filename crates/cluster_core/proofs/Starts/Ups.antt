@@ -1,16 +1,14 @@
--- Links come up one after another: a node does something only where the link is its master's, and then it sends messages of nobody.
-use Rattle.std.proofs.Common.{◌≡◌, ◌≢◌, ℕ, ◌+◌, ◌&&◌, nat_eq, Bool, true, false, cond, List, [], ◌∷◌, ◌++◌, Option, None, Some, refl, sym, ◌∙◌, ap, subst, arith}
+-- Links come up one after another: a backend does something only where the link is its master's, and then it sends messages of nobody; the master does nothing.
+use Rattle.std.proofs.Common.{◌≡◌, ◌≢◌, ℕ, ◌+◌, ◌&&◌, Bool, true, false, cond, List, [], ◌∷◌, ◌++◌, Option, None, Some, refl, sym, ◌∙◌, ap, subst, arith}
 use Rattle.std.specs.List.{AllByRecursion}
 use Rattle.std.specs.Ordering.{nat_cmp, is_eq}
-use Rattle.std.specs.Cmp.Lexicographic.{pointwise, slice_cmp}
+use Rattle.std.specs.Cmp.Lexicographic.{slice_cmp}
 use Rattle.std.proofs.Math.Logic.{⊎_elim}
 use Rattle.back_node.specs.declared.node.BackNode.{BackNode}
 use Rattle.back_node.specs.Node.{is_my_master}
 use Rattle.back_node.specs.Takes.{taken_up, UpToEntry, passed_over}
 use Rattle.back_node.specs.Acted.{acted}
 use Rattle.feed_links.specs.Lines.{messages_to}
-use Rattle.front_core.specs.declared.front.Front.{Front}
-use Rattle.front_core.specs.Front.{Stepped, deliver, up_from}
 use Rattle.link_msg.specs.declared.message.LinkMsg.{LinkMsg}
 use Rattle.link_msg.specs.declared.message.LinkMsg.TheVariants.{Up}
 use Rattle.link_msg.specs.declared.out.Out.{Out}
@@ -24,25 +22,20 @@ use Rattle.mur_config.proofs.OncePairs.{times}
 use Rattle.node_step.specs.declared.input.NodeInput.TheVariants.{From}
 use Rattle.node_step.specs.declared.node.NodeState.{NodeState}
 use Rattle.node_step.specs.declared.node.NodeState.TheVariants as state
-use Rattle.node_step.specs.NodeStep.{Acted, back_takes, front_takes, idle, master_takes, takes as node_takes}
+use Rattle.node_step.specs.NodeStep.{Acted, back_acted, back_takes, idle, master_takes, takes as node_takes}
 use Rattle.cluster_core.specs.declared.world.World.{World}
 use Rattle.cluster_core.specs.World.{node_at, told_up, with_ups}
 use Rattle.cluster_core.proofs.Nodes.Carried.{is_made, made}
-use Rattle.cluster_core.proofs.Nodes.Comes.{comes_by, made_here, made_other, none_comes}
+use Rattle.cluster_core.proofs.Nodes.Comes.{comes_by, made_here, made_other, none_comes, wrote}
 
--- the link is that of the node's master
+-- a frontend notes every link, a backend takes that of its master
 abbrev pub takes_up : NodeState → List ℕ → Bool
-takes_up (state.Front front) from = pointwise nat_eq from front.master
+takes_up (state.Front front) from = true
 takes_up (state.Back home) from = is_my_master home from
 takes_up (state.Master master) from = false
 
 abbrev pub up_acted : NodeState → List ℕ → Acted
 up_acted it from = node_takes it (From from Up)
-
-up_still : (front : Front) (same : Bool) → same ≡ false → up_from same front ≡ record { front = front; outs = [] }
-unfolding up_from
-up_still front false e = refl
-up_still front true e = cc
 
 up_passed : (home : BackNode) (from : List ℕ) → is_my_master home from ≡ false → taken_up home from Up ≡ passed_over home
 unfolding taken_up
@@ -53,18 +46,16 @@ passed_acted home = refl
 
 -- no other link is any matter to it
 pub no_up : (it : NodeState) (from : List ℕ) → takes_up it from ≡ false → up_acted it from ≡ idle it
-unfolding node_takes front_takes back_takes master_takes deliver node_says
-no_up (state.Front front) from e =
-    ap (λ (s : Stepped). record { state = state.Front s.front; outs = s.outs }) (up_still front (pointwise nat_eq from front.master) e)
+unfolding node_takes back_takes master_takes node_says
+no_up (state.Front front) from e = cc
 no_up (state.Back home) from e =
-    ap (λ (u : UpToEntry). record { state = state.Back (acted u.node u.rest).state; outs = (acted u.node u.rest).outs }) (up_passed home from e)
-    ∙ ap (λ next. record { state = state.Back next.state; outs = next.outs }) (passed_acted home)
+    ap (λ (u : UpToEntry). back_acted (acted u.node u.rest)) (up_passed home from e) ∙ ap back_acted (passed_acted home)
 no_up (state.Master master) from e = refl
 
 -- ---- one link comes up
 
 up_comes : (world : World) (link : Link) (it : NodeState) → world.broken ≡ [] → node_at world link.to ≡ Some it
-    → told_up world link ≡ made world link.to (up_acted it link.from).state (up_acted it link.from).outs
+    → told_up world link ≡ made (wrote world link.to it (From link.from Up)) link.to (up_acted it link.from).state (up_acted it link.from).outs
 up_comes world link it whole at = comes_by world link.to (From link.from Up) it whole at
 
 -- a node and what it sent stay as they were
@@ -92,12 +83,13 @@ idle_leaves : (world : World) (link : Link) (it : NodeState) → world.broken �
     → LeavesNode world (told_up world link) link.to
 unfolding put_all
 idle_leaves world link it whole at ignored =
-    let is : told_up world link ≡ made world link.to it [] =
-    up_comes world link it whole at ∙ ap (λ (a : Acted). made world link.to a.state a.outs) (no_up it link.from ignored) in
+    let put : World = wrote world link.to it (From link.from Up) in
+    let is : told_up world link ≡ made put link.to it [] =
+    up_comes world link it whole at ∙ ap (λ (a : Acted). made put link.to a.state a.outs) (no_up it link.from ignored) in
     record {
-      node = ap (λ w. node_at w link.to) is ∙ made_here world link.to it [] it at ∙ sym at;
+      node = ap (λ w. node_at w link.to) is ∙ made_here put link.to it [] it at ∙ sym at;
       sent = λ other. ap (λ (w : World). on_link w.links link.to other) is
-          ∙ ap (λ (l : Links LinkMsg). on_link l link.to other) (is_made world link.to it []).links;
+          ∙ ap (λ (l : Links LinkMsg). on_link l link.to other) (is_made put link.to it []).links;
     }
 
 told_by : (world : World) (link : Link) (name : List ℕ) (found : Option NodeState) → world.broken ≡ [] → node_at world link.to ≡ found
@@ -106,10 +98,11 @@ told_by world link name None whole at ignores = leaves_same world (told_up world
 told_by world link name (Some it) whole at ignores = ⊎_elim
     (λ (e : name ≡ link.to). subst (LeavesNode world (told_up world link)) (sym e) (idle_leaves world link it whole at (ignores (sym e) it refl)))
     (λ (ne : name ≢ link.to). subst (λ w. LeavesNode world w name) (sym (up_comes world link it whole at))
-    (made_leaves world link.to name (up_acted it link.from).state (up_acted it link.from).outs ne))
+    (leaves_on world (wrote world link.to it (From link.from Up)) _ name (record { node = refl; sent = λ other. refl })
+    (made_leaves (wrote world link.to it (From link.from Up)) link.to name (up_acted it link.from).state (up_acted it link.from).outs ne)))
     (same_or_other (slice_cmp nat_cmp) names_apart name link.to)
 
-told_leaves : (world : World) (link : Link) (name : List ℕ) → world.broken ≡ [] → Ignores (node_at world name) name link
+pub told_leaves : (world : World) (link : Link) (name : List ℕ) → world.broken ≡ [] → Ignores (node_at world name) name link
     → LeavesNode world (told_up world link) name
 told_leaves world link name whole ignores =
     told_by world link name (node_at world link.to) whole refl
@@ -119,9 +112,9 @@ still_whole : (world : World) (link : Link) (found : Option NodeState) → world
 still_whole world link None whole at = ap (λ (w : World). w.broken) (none_comes world link.to (From link.from Up) at) ∙ whole
 still_whole world link (Some it) whole at =
     ap (λ (w : World). w.broken) (up_comes world link it whole at)
-    ∙ (is_made world link.to (up_acted it link.from).state (up_acted it link.from).outs).broken ∙ whole
+    ∙ (is_made (wrote world link.to it (From link.from Up)) link.to (up_acted it link.from).state (up_acted it link.from).outs).broken ∙ whole
 
-told_whole : (world : World) (link : Link) → world.broken ≡ [] → (told_up world link).broken ≡ []
+pub told_whole : (world : World) (link : Link) → world.broken ≡ [] → (told_up world link).broken ≡ []
 told_whole world link whole = still_whole world link (node_at world link.to) whole refl
 
 -- ---- several
@@ -166,15 +159,16 @@ pub record IsUpOnce (world next : World) (name master : List ℕ) (it : NodeStat
   pub node : node_at next name ≡ Some (up_acted it master).state
   pub sent : (other : List ℕ) → on_link next.links name other ≡ on_link world.links name other ++ messages_to other (up_acted it master).outs
 
-up_here : (world : World) (link : Link) (it : NodeState) → world.broken ≡ [] → node_at world link.to ≡ Some it
+pub up_here : (world : World) (link : Link) (it : NodeState) → world.broken ≡ [] → node_at world link.to ≡ Some it
     → IsUpOnce world (told_up world link) link.to link.from it
 up_here world link it whole at =
     let is = up_comes world link it whole at in
+    let put : World = wrote world link.to it (From link.from Up) in
     let next : Acted = up_acted it link.from in
     record {
-      node = ap (λ w. node_at w link.to) is ∙ made_here world link.to next.state next.outs it at;
+      node = ap (λ w. node_at w link.to) is ∙ made_here put link.to next.state next.outs it at;
       sent = λ other. ap (λ (w : World). on_link w.links link.to other) is
-          ∙ ap (λ (l : Links LinkMsg). on_link l link.to other) (is_made world link.to next.state next.outs).links
+          ∙ ap (λ (l : Links LinkMsg). on_link l link.to other) (is_made put link.to next.state next.outs).links
           ∙ puts_own link.to world.links next.outs other;
     }
 

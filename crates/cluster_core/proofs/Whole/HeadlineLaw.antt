@@ -30,6 +30,7 @@ use Rattle.cluster_core.proofs.Asking.AsksLaw.{asks_by_records}
 use Rattle.cluster_core.proofs.Asking.OnceLaw.{asks_once}
 use Rattle.cluster_core.proofs.Lines.LinesLaw.{begins_only_as_asked}
 use Rattle.cluster_core.proofs.Connections.KeepsLaw.{KeepsLaw}
+use Rattle.cluster_core.proofs.Disks.OnDisks.{stands_on_disks}
 use Rattle.cluster_core.proofs.Guests.GuestsServed.{serves_guests}
 use Rattle.cluster_core.proofs.Keeps.AnyStep.{law_of_run}
 use Rattle.cluster_core.proofs.Starts.Kinds.{master_named}
@@ -76,6 +77,7 @@ one_mail_server config events are dated fit each =
       asks_once = asks_once config events (λ before later parts. (law_at before later parts).whole);
       lines = begins_only_as_asked config events are fit each;
       records = records_stand_each config events are each;
+      disks = stands_on_disks config events each;
       one_home = keeps_one_home_each config events are each;
       serials = leaves_serials config events are fit each;
     }

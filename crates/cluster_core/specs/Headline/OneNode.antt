@@ -1,4 +1,4 @@
--- One node works in a step, as one machine does in a network: it takes what came to it, sends, and gives bytes to its own clients.
+-- One node works in a step, as one machine does in a network: it takes what came to it, writes to its disk, sends, and gives bytes to its own clients.
 use Rattle.std.specs.Prelude.{◌≡◌, ◌≢◌, ℕ, ◌+◌, ◌==◌, if◌then◌else◌, List, [], ◌∷◌, ◌++◌, drop, Contains, Option, None, Some}
 use Rattle.link_msg.specs.declared.message.LinkMsg.{LinkMsg}
 use Rattle.mur_config.specs.declared.config.Config.{Config}
@@ -10,7 +10,7 @@ use Rattle.cluster_core.specs.declared.layout.Layout.{Layout}
 use Rattle.cluster_core.specs.declared.world.World.{World}
 use Rattle.cluster_core.specs.Flow.{run_steps, steps_of_event, steps_of_run}
 use Rattle.link_queue.specs.Links.{same_link, on_link}
-use Rattle.cluster_core.specs.World.{start, client_at, node_at}
+use Rattle.cluster_core.specs.World.{start, client_at, disk_at, node_at}
 
 -- the node at which a client is connected
 abbrev pub node_of : Option Client → Option (List ℕ)
@@ -40,10 +40,11 @@ pub record WasSent (before after : List LinkMsg) : Type 0 where
   pub more : List LinkMsg
   pub behind : after ≡ before ++ more
 
--- every other node is as it was, and each client where it was; on each link stands what the event left there, and behind it, on a
--- link that begins at this node, what it sent
+-- every other node is as it was, its disk too, and each client where it was; on each link stands what the event left there, and
+-- behind it, on a link that begins at this node, what it sent
 pub record OnlyWorks (event : Event) (node : List ℕ) (before after : World) : Type 0 where
   pub nodes : (other : List ℕ) → other ≢ node → node_at after other ≡ node_at before other
+  pub disks : (other : List ℕ) → other ≢ node → disk_at after other ≡ disk_at before other
   pub clients : (conn : ℕ) → node_of (client_at after conn) ≡ connected event conn (node_of (client_at before conn))
   pub stays : (from to : List ℕ) → from ≢ node → on_link after.links from to ≡ leaves_on event from to (on_link before.links from to)
   pub sends : (to : List ℕ) → WasSent (leaves_on event node to (on_link before.links node to)) (on_link after.links node to)

@@ -3,7 +3,8 @@ use Rattle.std.specs.Prelude.{◌≡◌, ◌⊎◌, ℕ, ◌+◌, ◌≤◌, tru
 use Rattle.std.specs.List.{list_any}
 use Rattle.mail_store.specs.Kept.{AreUidsBelowNext}
 use Rattle.imap_talk.specs.Transcript.{transcript_of, ends}
-use Rattle.imap_talk.specs.TranscriptRead.{IsAllReadAsMeant}
+use Rattle.imap_talk.specs.Transcript.Stop.{silent}
+use Rattle.imap_talk.specs.TranscriptRead.{IsAllReadTill}
 use Rattle.mail_message.specs.Boxes.{Content, IsRising}
 use Rattle.mark_history.specs.FirstCourse.{first_course}
 use Rattle.mark_history.specs.Reached.{IsReached}
@@ -107,7 +108,7 @@ pub record IsToldSoFar (config : Config) (talk : Talk) (points : List Point) (st
       → given_to world conn ≡ transcript_of (law_setting config) (bytes_heard (heard config conn steps)) (so_far.answers conn)
   -- no text of a user forges a reply: each client reads just the greeting, the continuations and the lines of these answers
   pub read : (conn : ℕ) → is_guest (guest_of config conn steps) ≡ false
-      → IsAllReadAsMeant (law_setting config) (given_to world conn) (bytes_heard (heard config conn steps)) (so_far.answers conn)
+      → IsAllReadTill silent (law_setting config) (given_to world conn) (bytes_heard (heard config conn steps)) (so_far.answers conn)
   pub ends_only_last : (conn : ℕ) → EndsOnlyLast (so_far.answers conn)
   pub last : Course
   pub legal : IsLegal (law_setting config) first_course so_far (history_of world) last

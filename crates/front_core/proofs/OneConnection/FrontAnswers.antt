@@ -2,7 +2,7 @@
 -- answer of the connection; or it begins to wait, for an answer of a server or for the master's OK.
 use Rattle.std.proofs.Common.{◌≡◌, ℕ, true, false, List, Option, None, Some, refl, sym, ◌∙◌, ap}
 use Rattle.front_core.specs.declared.connection.Connection.{Connection}
-use Rattle.front_core.specs.Taken.{Ways, answers_now, answers_last, asks, begun_in, lists, turned_by_need, request_in}
+use Rattle.front_core.specs.Taken.{Ways, answers_now, answers_last, asks, begun_in, lists, told_now, turned_by_need, request_in}
 use Rattle.imap_types.specs.declared.command.Command.{Command}
 use Rattle.imap_types.specs.declared.command.Tag.{Tag}
 use Rattle.mur_model.specs.Needed.{Needed, NeedsNothing, Refusal, Turned as turned_at_once, Mailbox, Names, Work}
@@ -76,7 +76,7 @@ turn_goes_on setting ways conn session tag it next reply e stays lasts form =
 turn_taken : (setting : Setting) (ways : Ways) (conn : ℕ) (session : Sess) (tag : Tag) (it : Command) (next : Option Sess) (reply : Reply)
     → need_of setting session it ≡ turned_at_once (record { session = next; reply = reply }) → TurnEnds (record { session = next; reply = reply })
     → has_ended session ≡ false → IsTaken setting ways conn session (a_command tag it)
-unfolding answer_of act_of act_by NeedsNoStore NeedsNothing begun_of told_with turned_by_need answers_now answers_last
+unfolding answer_of act_of act_by NeedsNoStore NeedsNothing begun_of told_with turned_by_need told_now answers_last
 turn_taken setting ways conn session tag it None reply e stays lasts =
     turn_goes_on setting ways conn session tag it None reply e stays lasts (λ connection. refl)
 turn_taken setting ways conn session tag it (Some Off) reply e stays lasts =
@@ -94,7 +94,7 @@ turn_taken setting ways conn session tag it (Some session_ended) reply e is_end 
 
 need_taken : (setting : Setting) (ways : Ways) (conn : ℕ) (session : Sess) (tag : Tag) (it : Command) (need : Needed) → need_of setting session it ≡ need
     → has_ended session ≡ false → IsTaken setting ways conn session (a_command tag it)
-unfolding answer_of act_of act_by NeedsNoStore NeedsNothing begun_of turned_by_need answers_now ends
+unfolding answer_of act_of act_by NeedsNoStore NeedsNothing begun_of turned_by_need told_now ends
 need_taken setting ways conn session tag it (Refusal verdict) e lasts =
     here tag (reply_of verdict) session
     (λ store. rw e refl)

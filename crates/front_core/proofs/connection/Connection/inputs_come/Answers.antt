@@ -6,19 +6,19 @@ use Rattle.front_core.proofs.connection.Connection.inputs_come.Goals as goal
 
 pub returns-else-not-has_ended : goal.returns-else-not-has_ended
 returns-else-not-has_ended c =
-    ended_over c.args.desk.setting.now (ways_by c.args.desk.replica.now.records c.args.desk.master.now c.args.desk.first.now) c.args.desk.conn c.loop-taken.outs c.loop-taken.self _ (sym c.if-not-has_ended.ensures)
+    ended_over c.args.desk.setting.now (ways_by c.args.desk.replica.now.records c.args.desk.master.now c.args.desk.first.now c.args.desk.ups.now) c.args.desk.conn c.loop-taken.outs c.loop-taken.self _ (sym c.if-not-has_ended.ensures)
     ∙ ap with_released c.loop-taken.invariant.turned
 
 pub returns-else-not-ended : goal.returns-else-not-ended
 returns-else-not-ended c =
     ap with_released
-    (reader_over c.args.desk.setting.now (ways_by c.args.desk.replica.now.records c.args.desk.master.now c.args.desk.first.now) c.args.desk.conn c.loop-taken.outs c.loop-taken.self _ (sym c.if-not-ended.ensures)
+    (reader_over c.args.desk.setting.now (ways_by c.args.desk.replica.now.records c.args.desk.master.now c.args.desk.first.now c.args.desk.ups.now) c.args.desk.conn c.loop-taken.outs c.loop-taken.self _ (sym c.if-not-ended.ensures)
     ∙ c.loop-taken.invariant.turned)
 
 pub returns-after-loop-taken : goal.returns-after-loop-taken
 returns-after-loop-taken c =
     ap with_released
-    (piece_over c.args.desk.setting.now (ways_by c.args.desk.replica.now.records c.args.desk.master.now c.args.desk.first.now) c.args.desk.conn c.loop-taken.outs c.loop-taken.self c.args.piece.now
+    (piece_over c.args.desk.setting.now (ways_by c.args.desk.replica.now.records c.args.desk.master.now c.args.desk.first.now c.args.desk.ups.now) c.args.desk.conn c.loop-taken.outs c.loop-taken.self c.args.piece.now
     c.loop-taken.taken c.loop-taken-test.false
     ∙ c.loop-taken.invariant.turned)
 
@@ -30,7 +30,7 @@ loop-taken-preserved c =
     record {
       within = omega (arith, c.in_ok-input.ensures.within);
       turned =
-          rest_on c.args.desk.setting.now (ways_by c.args.desk.replica.now.records c.args.desk.master.now c.args.desk.first.now) c.args.desk.conn c.loop-taken.outs c.next_comes.new.outs c.loop-taken.self c.next_comes.new.self _
+          rest_on c.args.desk.setting.now (ways_by c.args.desk.replica.now.records c.args.desk.master.now c.args.desk.first.now c.args.desk.ups.now) c.args.desk.conn c.loop-taken.outs c.next_comes.new.outs c.loop-taken.self c.next_comes.new.self _
           c.args.piece.now c.loop-taken.taken c.in_ok-input.more c.in_ok-input.input
           c.in_ok-input.ensures.inputs c.in_ok-input.ensures.rest c.in_ok-next_comes.ensures
           ∙ c.loop-taken.invariant.turned;
@@ -38,7 +38,7 @@ loop-taken-preserved c =
           omega (
             arith,
             some,
-            next_counts c.args.desk.setting.now (ways_by c.args.desk.replica.now.records c.args.desk.master.now c.args.desk.first.now) c.args.desk.conn c.loop-taken.outs c.next_comes.new.outs _ c.next_comes.new.self c.in_ok-input.input
+            next_counts c.args.desk.setting.now (ways_by c.args.desk.replica.now.records c.args.desk.master.now c.args.desk.first.now c.args.desk.ups.now) c.args.desk.conn c.loop-taken.outs c.next_comes.new.outs _ c.next_comes.new.self c.in_ok-input.input
                 c.in_ok-next_comes.ensures,
             c.loop-taken.invariant.commands,
           );

@@ -12,7 +12,7 @@ does-requires-clause-fits c =
 pub returns-in_ok-then-in-Waits : goal.returns-in_ok-then-in-Waits
 returns-in_ok-then-in-Waits c =
     subst (λ (t : Turned). IfOk c.does.result (λ outs. record { connection = c.does.new.self; outs = outs } ≡ t))
-    (ok_done c.args.desk.setting.now (ways_by c.args.desk.replica.now.records c.args.desk.master.now c.args.desk.first.now) c.args.desk.conn
+    (ok_done c.args.desk.setting.now (ways_by c.args.desk.replica.now.records c.args.desk.master.now c.args.desk.first.now c.args.desk.ups.now) c.args.desk.conn
     c.args.self.now c.in-Waits.field-0 c.in-Waits.it c.cleared.new.self c.cleared.new.session c.in_ok-then-in-Waits.then
     c.routes-routes.result.id c.in-Waits.is c.routes-routes.ensures.id c.args.id c.in-Some.why c.routes-routes.result.replica.now.records
     c.routes-routes.result.master.now c.routes-routes.result.first.now c.if-id-self.true c.in-Some.ensures
@@ -21,5 +21,5 @@ returns-in_ok-then-in-Waits c =
 
 pub returns-in-Lists : goal.returns-in-Lists
 returns-in-Lists c =
-    listed_done c.args.desk.setting.now (ways_by c.args.desk.replica.now.records c.args.desk.master.now c.args.desk.first.now) c.args.desk.conn
+    listed_done c.args.desk.setting.now (ways_by c.args.desk.replica.now.records c.args.desk.master.now c.args.desk.first.now c.args.desk.ups.now) c.args.desk.conn
     c.args.self.now c.listed.new.self c.args.id c.listed.result c.in-Lists.field-0 c.in-Lists.field-1 c.in-Lists.is c.if-id-self-2.true c.listed.ensures

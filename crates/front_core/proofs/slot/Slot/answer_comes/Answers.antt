@@ -10,7 +10,7 @@ use Rattle.front_core.proofs.slot.Slot.answer_comes.Goals as goal
 pub of-requires : goal.of-requires
 of-requires c = record {
   begun = subst (λ (t : Turned). IsBegun t.connection) (sym c.in_ok-outs-in-Live.ensures)
-      (answer_begun c.args.desk.setting.now (ways_by c.args.desk.replica.now.records c.args.desk.master.now c.args.desk.first.now) c.args.desk.conn _ c.args.answer
+      (answer_begun c.args.desk.setting.now (ways_by c.args.desk.replica.now.records c.args.desk.master.now c.args.desk.first.now c.args.desk.ups.now) c.args.desk.conn _ c.args.answer
       (subst (λ (x : Connection). IsBegun x) (sym c.deref_mut.ensures.value)
       (subst (λ (h : Held). IsLive h) (sym c.in-Live.ensures.value) c.self.invariant).1));
 }

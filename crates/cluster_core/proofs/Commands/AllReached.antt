@@ -1,0 +1,80 @@
+-- The marks of a run: each is made so as mark_history says, and no client was told that a node isn't reached.
+use Rattle.std.proofs.Common.{◌≡◌, ℕ, ◌+◌, ◌≤◌, Bool, List, [], ◌∷◌, ◌++◌, length, Some, All}
+use Rattle.std.proofs.lemmas.List.Elements.{All-append, All-cons, All-nil}
+use Rattle.imap_types.specs.declared.command.Command.{Command}
+use Rattle.imap_types.specs.declared.command.Tag.{Tag}
+use Rattle.imap_types.specs.declared.reply.NoText.TheVariants.{BeingMoved}
+use Rattle.imap_types.specs.declared.request.Answer.{Answer}
+use Rattle.imap_types.specs.declared.request.Request.{Request}
+use Rattle.link_msg.specs.declared.counts.Counts.{Counts}
+use Rattle.link_msg.specs.declared.counts.Counts.TheVariants.{IfAnswered}
+use Rattle.link_msg.specs.declared.how.How.TheVariants.{Here, Behind, Reserved}
+use Rattle.mark_history.specs.Marked.{AreMarked, AreMarked as made, CanAct, CanRefuse, IsUnreplied, IsUntold, Tale, acting, asking, done, first_tale, mark_now, refusal}
+use Rattle.mark_history.specs.Marked.{refusing, telling}
+use Rattle.mark_history.specs.declared.mark.Mark.{Mark}
+use Rattle.mark_history.specs.declared.mark.MarkKind.TheVariants.{Home, Told}
+use Rattle.mark_history.proofs.Reached.{TellsReached}
+use Rattle.mur_model.specs.Answer.{NeedsNoStore}
+use Rattle.mur_model.specs.History.{GoesOn, numbered}
+use Rattle.mur_model.specs.declared.setting.Setting.{Setting}
+
+pub record AreMarkedSo (setting : Setting) (now : ℕ) (marks : List Mark) (tale : Tale) : Type 0 where
+  pub marked : AreMarked setting now marks tale
+  pub reached : All TellsReached marks
+
+one_more : (marks : List Mark) (mark : Mark) → All TellsReached marks → TellsReached mark → All TellsReached (marks ++ mark ∷ [])
+one_more marks mark all is = All-append TellsReached marks (mark ∷ []) all (All-cons TellsReached mark [] is (All-nil TellsReached))
+
+pub nothing : (setting : Setting) (moving : ℕ → List ℕ → Bool) → AreMarkedSo setting 0 [] (first_tale moving)
+nothing setting moving = record { marked = made.nothing moving; reached = All-nil TellsReached }
+
+module _ {setting : Setting} where
+  pub a_step : (now next : ℕ) (marks : List Mark) (tale : Tale) → now ≤ next → AreMarkedSo setting now marks tale → AreMarkedSo setting next marks tale
+  a_step now next marks tale le so = record { marked = made.a_step now next marks tale le so.marked; reached = so.reached }
+
+  pub asks : (now : ℕ) (marks : List Mark) (tale : Tale) (requests : ℕ → List Request) → GoesOn tale.talk.requests requests
+      → AreMarkedSo setting now marks tale → AreMarkedSo setting now marks (asking tale requests)
+  asks now marks tale requests more so = record { marked = made.asks now marks tale requests more so.marked; reached = so.reached }
+
+  pub sees : (now : ℕ) (marks : List Mark) (tale : Tale) (conn : ℕ) (request : Request) → IsUnreplied tale conn
+      → numbered (tale.talk.requests conn) (length (tale.told conn) + 1) ≡ Some request
+      → AreMarkedSo setting now marks tale → AreMarkedSo setting now (marks ++ mark_now now tale conn (Home IfAnswered) ∷ []) tale
+  sees now marks tale conn request unreplied asked so = record {
+    marked = made.sees now marks tale conn request unreplied asked so.marked;
+    reached = one_more marks (mark_now now tale conn (Home IfAnswered)) so.reached (λ node e. cc);
+  }
+
+  pub carries_out : (now : ℕ) (marks : List Mark) (tale : Tale) (conn : ℕ) (counts : Counts) (request : Request) (serial : ℕ)
+      → CanAct setting tale conn request serial → (counts ≡ IfAnswered → (done setting tale conn request serial).store ≡ tale.course.store)
+      → AreMarkedSo setting now marks tale
+      → AreMarkedSo setting now (marks ++ mark_now now tale conn (Home counts) ∷ []) (acting setting tale conn request serial)
+  carries_out now marks tale conn counts request serial can stays so = record {
+    marked = made.carries_out now marks tale conn counts request serial can stays so.marked;
+    reached = one_more marks (mark_now now tale conn (Home counts)) so.reached (λ node e. cc);
+  }
+
+  pub tells : (now : ℕ) (marks : List Mark) (tale : Tale) (conn : ℕ) (answer : Answer) → IsUntold tale conn answer
+      → AreMarkedSo setting now marks tale
+      → AreMarkedSo setting now (marks ++ mark_now now tale conn (Told Behind) ∷ []) (telling tale conn answer)
+  tells now marks tale conn answer untold so = record {
+    marked = made.tells now marks tale conn answer untold so.marked;
+    reached = one_more marks (mark_now now tale conn (Told Behind)) so.reached (λ node e. cc);
+  }
+
+  pub tells_at_once : (now : ℕ) (marks : List Mark) (tale : Tale) (conn : ℕ) (request : Request) (serial : ℕ) → CanAct setting tale conn request serial
+      → NeedsNoStore setting (tale.course.sessions conn) request → AreMarkedSo setting now marks tale
+      → AreMarkedSo setting now (marks ++ mark_now now tale conn (Told Here) ∷ [])
+      (telling (acting setting tale conn request serial) conn (done setting tale conn request serial).answer)
+  tells_at_once now marks tale conn request serial can alone so = record {
+    marked = made.tells_at_once now marks tale conn request serial can alone so.marked;
+    reached = one_more marks (mark_now now tale conn (Told Here)) so.reached (λ node e. cc);
+  }
+
+  pub refuses : (now : ℕ) (marks : List Mark) (tale : Tale) (conn : ℕ) (tag : Tag) (it : Command) (serial : ℕ) → CanRefuse setting marks tale conn tag it
+      → AreMarkedSo setting now marks tale
+      → AreMarkedSo setting now (marks ++ mark_now now tale conn (Told Reserved) ∷ [])
+      (telling (refusing tale conn tag it BeingMoved serial) conn (refusal tale conn tag it BeingMoved).answer)
+  refuses now marks tale conn tag it serial can so = record {
+    marked = made.refuses now marks tale conn tag it serial can so.marked;
+    reached = one_more marks (mark_now now tale conn (Told Reserved)) so.reached (λ node e. cc);
+  }
