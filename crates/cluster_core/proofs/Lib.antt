@@ -2,6 +2,7 @@ pub mod Commands
 pub mod Connections
 pub mod Places
 pub mod Nodes
+pub mod Links
 pub mod Feeds
 pub mod Starts
 pub mod Steps

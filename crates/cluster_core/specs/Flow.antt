@@ -1,15 +1,16 @@
 -- What events do one after another. A flow is at most so many deliveries, in rounds over the directed pairs of linked nodes; a round
--- takes one message of each queue that isn't empty when its turn comes. Every other event is one step.
+-- takes one message of each queue that isn't empty when its turn comes. A `heal` joins each pair that may come up when its turn comes. Every other event is
+-- one step.
 use Rattle.std.specs.Prelude.{ℕ, zero, suc, ◌==◌, Bool, true, false, List, [], ◌∷◌, ◌++◌}
 use Rattle.link_msg.specs.declared.message.LinkMsg.{LinkMsg}
 use Rattle.mur_config.specs.declared.node.Link.{Link}
 use Rattle.schedule_text.specs.declared.event.Event.{Event}
-use Rattle.schedule_text.specs.declared.event.Event.TheVariants.{Deliver, Flow}
+use Rattle.schedule_text.specs.declared.event.Event.TheVariants.{Deliver, Join, Flow, Heal}
 use Rattle.cluster_core.specs.declared.layout.Layout.{Layout}
 use Rattle.cluster_core.specs.declared.world.World.{World}
 use Rattle.link_queue.specs.Links.{on_link}
 use Rattle.mur_config.specs.declared.config.Config.{Config}
-use Rattle.cluster_core.specs.World.{layout_of, ClusterState, start, steps_by}
+use Rattle.cluster_core.specs.World.{layout_of, may_join, ClusterState, start, steps_by}
 
 -- a world in the middle of a flow, the deliveries that it made, and how many may follow
 pub record Flowing : Type 0 where
@@ -49,13 +50,40 @@ rounds (suc count) links flowing =
 unfoldable pub flow : Layout → World → ℕ → Flowing
 flow layout world count = rounds count layout.pairs (record { world = world; made = []; left = count })
 
+-- ---- every link that may comes up
+
+-- a world in the middle of that, and the joins that were made
+pub record Healing : Type 0 where
+  pub world : World
+  pub made : List Event
+
+abbrev pub joined : Healing → Event → Healing
+joined healing event = record { world = steps_by healing.world event; made = healing.made ++ event ∷ [] }
+
+-- the turn of one pair: the first time that it comes the link is joined, and from then on it isn't broken
+unfoldable pub heal_by : Bool → Healing → Link → Healing
+heal_by true healing link = joined healing (Join link.from link.to)
+heal_by false healing link = healing
+
+unfoldable pub heal_link : Healing → Link → Healing
+heal_link healing link = heal_by (may_join healing.world link.from link.to) healing link
+
+unfoldable pub heal_links : Healing → List Link → Healing
+heal_links healing [] = healing
+heal_links healing (link ∷ links) = heal_links (heal_link healing link) links
+
+unfoldable pub heal : Layout → World → Healing
+heal layout world = heal_links (record { world = world; made = [] }) layout.pairs
+
 -- the single steps of an event
 unfoldable pub steps_of_event : Layout → World → Event → List Event
 steps_of_event layout world (Flow count) = (flow layout world count).made
+steps_of_event layout world Heal = (heal layout world).made
 steps_of_event layout world event = event ∷ []
 
 unfoldable pub happens : Layout → World → Event → World
 happens layout world (Flow count) = (flow layout world count).world
+happens layout world Heal = (heal layout world).world
 happens layout world event = steps_by world event
 
 -- the events one after another

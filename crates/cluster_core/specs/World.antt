@@ -1,7 +1,7 @@
 -- The cluster before its first step, and what an event that is one step does: something comes to one node, which changes its state, writes an
--- entry to its disk, if it has one to write, and then lets outputs out.
-use Rattle.std.specs.Prelude.{ℕ, ◌+◌, Bool, false, if◌then◌else◌, List, [], ◌∷◌, ◌++◌, map, Option, None, Some}
-use Rattle.std.specs.Ordering.{nat_cmp}
+-- entry to its disk, if it has one to write, and then lets outputs out; or a link breaks or comes up.
+use Rattle.std.specs.Prelude.{ℕ, ◌+◌, Bool, true, false, not, ◌&&◌, if◌then◌else◌, List, [], ◌∷◌, ◌++◌, map, Option, None, Some}
+use Rattle.std.specs.Ordering.{nat_cmp, is_eq}
 use Rattle.std.specs.Cmp.Lexicographic.{slice_cmp}
 use Rattle.back_node.specs.declared.node.BackNode.{BackNode}
 use Rattle.back_node.specs.Node.{new_node}
@@ -10,7 +10,7 @@ use Rattle.front_core.specs.Front.{new_front}
 use Rattle.node_step.specs.declared.input.NodeInput.{NodeInput}
 use Rattle.node_step.specs.declared.input.NodeInput.TheVariants.{Opened, Piece, Hung, From}
 use Rattle.link_msg.specs.declared.message.LinkMsg.{LinkMsg}
-use Rattle.link_msg.specs.declared.message.LinkMsg.TheVariants.{Up}
+use Rattle.link_msg.specs.declared.message.LinkMsg.TheVariants.{Up, End}
 use Rattle.link_msg.specs.declared.out.Out.{Out}
 use Rattle.link_msg.specs.declared.out.Out.TheVariants.{Client as to_client, Close, Link as to_node, Mark as mark, Told as tell}
 use Rattle.master_core.specs.Boot.{booted as master_booted}
@@ -30,14 +30,14 @@ use Rattle.node_step.specs.declared.node.NodeState.{NodeState}
 use Rattle.node_step.specs.declared.node.NodeState.TheVariants as state
 use Rattle.node_step.specs.NodeStep.{Acted, as_front, as_back, as_master, takes as node_takes}
 use Rattle.schedule_text.specs.declared.event.Event.{Event}
-use Rattle.schedule_text.specs.declared.event.Event.TheVariants.{Open, Data, Hang, Deliver}
+use Rattle.schedule_text.specs.declared.event.Event.TheVariants.{Open, Data, Hang, Deliver, Cut, Join}
 use Rattle.cluster_core.specs.declared.world.Client.{Client}
 use Rattle.mark_history.specs.declared.mark.MarkKind.{MarkKind}
 use Rattle.mark_history.specs.declared.mark.MarkKind.TheVariants.{Home, Told}
 use Rattle.cluster_core.specs.declared.layout.Layout.{Layout}
 use Rattle.cluster_core.specs.declared.world.World.{World}
-use Rattle.link_queue.specs.Broken.{Broken, is_broken}
-use Rattle.link_queue.specs.Links.{on_link, sent, without_first}
+use Rattle.link_queue.specs.Broken.{Broken, breaking, is_broken, mending}
+use Rattle.link_queue.specs.Links.{Links, cut_short, on_link, sent, without_first}
 
 -- the cluster at one moment: how its nodes are linked, and what its steps change
 pub record ClusterState : Type 0 where
@@ -247,12 +247,64 @@ unfoldable pub deliver_first : World → List ℕ → List ℕ → List LinkMsg 
 deliver_first world from to [] = world
 deliver_first world from to (message ∷ rest) = comes (taken_from_link world from to) to (From from message)
 
--- an event whose step has begun; those of links that break and of disks change nothing
+-- ---- a link breaks, and comes up
+
+-- a link joins a frontend and a backend, or two backends; those of the master don't break
+unfoldable pub are_parted : NodeState → NodeState → Bool
+are_parted (state.Front front) (state.Back home) = true
+are_parted (state.Back home) (state.Front front) = true
+are_parted (state.Back home) (state.Back other) = true
+are_parted one other = false
+
+unfoldable pub may_part : Option NodeState → Option NodeState → Bool
+may_part (Some one) (Some other) = are_parted one other
+may_part one other = false
+
+-- a link may break that isn't broken and doesn't lead to the master
+unfoldable pub may_cut : World → List ℕ → List ℕ → Bool
+may_cut world one other = may_part (node_at world one) (node_at world other) && not (is_eq (slice_cmp nat_cmp one other)) && not (is_broken world.broken one other)
+
+-- of each direction so many messages stay, and End comes behind them
+abbrev pub cut_links : Links LinkMsg → List ℕ → List ℕ → ℕ → ℕ → Links LinkMsg
+cut_links links one other kept kept_back = cut_short (cut_short links one other kept End) other one kept_back End
+
+abbrev pub with_cut : World → List ℕ → List ℕ → ℕ → ℕ → World
+with_cut world one other kept kept_back = record world {
+  links = cut_links world.links one other kept kept_back;
+  broken = breaking (breaking world.broken one other) other one;
+}
+
+unfoldable pub cuts_if : Bool → World → List ℕ → List ℕ → ℕ → ℕ → World
+cuts_if true world one other kept kept_back = with_cut world one other kept kept_back
+cuts_if false world one other kept kept_back = world
+
+unfoldable pub is_nothing : List LinkMsg → Bool
+is_nothing [] = true
+is_nothing (message ∷ rest) = false
+
+-- a broken link may come up once both nodes took their End
+unfoldable pub may_join : World → List ℕ → List ℕ → Bool
+may_join world one other = is_broken world.broken one other && is_nothing (on_link world.links one other) && is_nothing (on_link world.links other one)
+
+-- both nodes are sent Up
+abbrev pub with_join : World → List ℕ → List ℕ → World
+with_join world one other = record world {
+  links = sent (sent world.links one other Up) other one Up;
+  broken = mending (mending world.broken one other) other one;
+}
+
+unfoldable pub joins_if : Bool → World → List ℕ → List ℕ → World
+joins_if true world one other = with_join world one other
+joins_if false world one other = world
+
+-- an event whose step has begun; those of disks and crashes change nothing
 unfoldable pub takes : World → Event → World
 takes world (Open node conn) = opens world node conn (client_at world conn)
 takes world (Data conn bytes) = client_does world (Piece conn bytes) (client_at world conn)
 takes world (Hang conn) = client_does world (Hung conn) (client_at world conn)
 takes world (Deliver from to) = deliver_first world from to (on_link world.links from to)
+takes world (Cut one other kept kept_back) = cuts_if (may_cut world one other) world one other kept kept_back
+takes world (Join one other) = joins_if (may_join world one other) world one other
 takes world event = world
 
 abbrev pub stepped : World → World

@@ -33,7 +33,7 @@ abbrev pub FrontTakesKeep : Type 0
 FrontTakesKeep = (config : Config) (heard : ℕ → Heard) (world : World) (law : KeepsLaw config heard world) (from to : List ℕ) (front : Front)
     (message : LinkMsg) → front_at world to ≡ Some front → IsTakenBy config heard world law from message to
     → MessageNamesBackend (home_at world) message → NumbersFit heard
-    → KeepsOn config law.story heard (taken_by config heard world law from message to)
+    → KeepsOn config law.story law.stops heard (taken_by config heard world law from message to)
 
 -- ---- by its kind
 
@@ -42,7 +42,7 @@ ask_is_none ask is = (let no : Ask ask ≡ Line is.0 = is.1 in cc)
 
 module _ (config : Config) (heard : ℕ → Heard) (world : World) (law : KeepsLaw config heard world) where
   abbrev Keeps : List ℕ → List ℕ → LinkMsg → Type 0
-  Keeps from to message = KeepsOn config law.story heard (taken_by config heard world law from message to)
+  Keeps from to message = KeepsOn config law.story law.stops heard (taken_by config heard world law from message to)
 
   -- the master sends a frontend lines alone
   a_line : (from to : List ℕ) (front : Front) (message : LinkMsg) → front_at world to ≡ Some front → IsTakenBy config heard world law from message to

@@ -90,10 +90,10 @@ module _ (config : Config) (heard : ℕ → Heard) (world : World) (law : KeepsL
     -- the step of an open connection keeps the law
     open_keeps : heard conn ≡ client bytes false → HasBegunSo connection (reading_of (setting_of config) bytes)
         → OpenStep fixed world law.story from node front conn (inputs_in (setting_of config) bytes) (begun bytes) connection next
-        → KeepsOn config law.story heard next
+        → KeepsOn config law.story law.stops heard next
     open_keeps e reader step =
         let it = step.step in
-        subst (λ w. KeepsOn config law.story heard w) (sym it.is)
+        subst (λ w. KeepsOn config law.story law.stops heard w) (sym it.is)
         (front_keeps config heard heard world law (without_first world.links from node) conn node front connection step.connection step.outs law.story
         step.later it.others at.at at.has (same_talk (talk_told law.story)) refl refl refl law.requests (λ other ne. refl)
         (λ shut. absurd (is_not_closed (heard conn) bytes e shut)) it.made
@@ -106,10 +106,10 @@ module _ (config : Config) (heard : ℕ → Heard) (world : World) (law : KeepsL
 
     -- and so does that of a closed one
     closed_keeps : heard conn ≡ client bytes true → ClosedStep fixed world law.story from node front conn (inputs_in (setting_of config) bytes) next
-        → KeepsOn config law.story heard next
+        → KeepsOn config law.story law.stops heard next
     closed_keeps e step =
         let it = step.step in
-        subst (λ w. KeepsOn config law.story heard w) (sym it.is)
+        subst (λ w. KeepsOn config law.story law.stops heard w) (sym it.is)
         (front_keeps config heard heard world law (without_first world.links from node) conn node front connection step.connection [] law.story law.story
         it.others at.at at.has (same_talk (talk_told law.story)) refl refl refl law.requests (λ other ne. refl) (λ shut. refl) it.made
         (subst (λ w. ManyHold (murder_of w law.master) law.given law.story.course.store) it.is many)
@@ -123,7 +123,7 @@ module _ (config : Config) (heard : ℕ → Heard) (world : World) (law : KeepsL
   answer_by : (from to : List ℕ) (front : Front) (answer : BackAnswer) (was : Heard) → front_at world to ≡ Some front
       → IsTakenBy from (Answer answer) to → NamesBackend (home_at world) answer.body → NumbersFit heard
       → heard (answer.id).conn ≡ was → ConnectionIs fixed (answer.id).conn world law.story was
-      → KeepsOn config law.story heard (taken_by from (Answer answer) to)
+      → KeepsOn config law.story law.stops heard (taken_by from (Answer answer) to)
   answer_by from to front answer was there taken names numbers e (is_nobody none fronts untold) =
       absurd (none_comes fixed.master (home_at world) world.links from to (Answer answer) taken.rest (answer.id).conn taken.first untold.nothing refl)
   answer_by from to front answer was there taken names numbers e (is_elsewhere node given at none untold) =
@@ -133,7 +133,7 @@ module _ (config : Config) (heard : ℕ → Heard) (world : World) (law : KeepsL
       let tells = answer_tells fixed.master (home_at world) world.links from to answer taken.rest node its.replica (next_id conn (law.story.told conn))
       standing.here (frontend_of to front there) taken.first refl standing.placed in
       let here = subst (IsTakenBy from (Answer answer)) (sym tells.0) taken in
-      subst (λ n. KeepsOn config law.story heard (taken_by from (Answer answer) n)) tells.0
+      subst (λ n. KeepsOn config law.story law.stops heard (taken_by from (Answer answer) n)) tells.0
       (open_keeps from conn bytes node its connection at (taken_by from (Answer answer) node) here.many here.feeds e reader
       (answer_step fixed world law.story from node its conn (inputs_in (setting_of config) bytes) (begun bytes) connection
       (before_so conn bytes node false its connection e at (numbers_of conn bytes false e numbers)) standing answer here.rest here.first refl names))
@@ -142,7 +142,7 @@ module _ (config : Config) (heard : ℕ → Heard) (world : World) (law : KeepsL
       let tells = answer_tells fixed.master (home_at world) world.links from to answer taken.rest node its.replica (next_id conn (law.story.told conn))
       gone.here (frontend_of to front there) taken.first refl gone.placed in
       let here = subst (IsTakenBy from (Answer answer)) (sym tells.0) taken in
-      subst (λ n. KeepsOn config law.story heard (taken_by from (Answer answer) n)) tells.0
+      subst (λ n. KeepsOn config law.story law.stops heard (taken_by from (Answer answer) n)) tells.0
       (closed_keeps from conn bytes node its connection at (taken_by from (Answer answer) node) here.many here.feeds e
       (closed_answer fixed world law.story from node its conn (inputs_in (setting_of config) bytes) connection
       (before_so conn bytes node true its connection e at (numbers_of conn bytes true e numbers)) gone answer here.rest here.first refl))
@@ -150,7 +150,7 @@ module _ (config : Config) (heard : ℕ → Heard) (world : World) (law : KeepsL
   -- THE ANSWER OF A BACKEND KEEPS THE LAW
   pub answer_stands : (from to : List ℕ) (front : Front) (answer : BackAnswer) → front_at world to ≡ Some front → IsTakenBy from (Answer answer) to
       → NamesBackend (home_at world) answer.body → NumbersFit heard
-      → KeepsOn config law.story heard (taken_by from (Answer answer) to)
+      → KeepsOn config law.story law.stops heard (taken_by from (Answer answer) to)
   answer_stands from to front answer there taken names numbers =
       answer_by from to front answer (heard (answer.id).conn) there taken names numbers refl (law.connections (answer.id).conn)
 
@@ -159,7 +159,7 @@ module _ (config : Config) (heard : ℕ → Heard) (world : World) (law : KeepsL
   ok_by : (to : List ℕ) (front : Front) (bytes : List ℕ) (id : AskId) (was : Heard) → front_at world to ≡ Some front
       → IsTakenBy (master_of config) (Line bytes) to → barrier_answered bytes ≡ Some id → NumbersFit heard
       → heard id.conn ≡ was → ConnectionIs fixed id.conn world law.story was
-      → KeepsOn config law.story heard (taken_by (master_of config) (Line bytes) to)
+      → KeepsOn config law.story law.stops heard (taken_by (master_of config) (Line bytes) to)
   ok_by to front bytes id was there taken reads_so numbers e (is_nobody none fronts untold) =
       absurd (none_comes fixed.master (home_at world) world.links fixed.master to (Line bytes) taken.rest id.conn taken.first untold.nothing
       (about_ok bytes id reads_so))
@@ -170,7 +170,7 @@ module _ (config : Config) (heard : ℕ → Heard) (world : World) (law : KeepsL
       let tells = ok_tells fixed.master (home_at world) world.links to bytes id taken.rest node its.replica (next_id id.conn (law.story.told id.conn))
       standing.here (frontend_of to front there) taken.first reads_so refl standing.placed in
       let here = subst (IsTakenBy fixed.master (Line bytes)) (sym tells.at) taken in
-      subst (λ n. KeepsOn config law.story heard (taken_by fixed.master (Line bytes) n)) tells.at
+      subst (λ n. KeepsOn config law.story law.stops heard (taken_by fixed.master (Line bytes) n)) tells.at
       (open_keeps fixed.master id.conn text node its connection at (taken_by fixed.master (Line bytes) node) here.many here.feeds e reader
       (ok_step fixed world law.story node its id.conn (inputs_in (setting_of config) text) (begun text) connection
       (before_so id.conn text node false its connection e at (numbers_of id.conn text false e numbers)) standing bytes id here.rest here.first reads_so refl))
@@ -178,7 +178,7 @@ module _ (config : Config) (heard : ℕ → Heard) (world : World) (law : KeepsL
       let tells = ok_tells fixed.master (home_at world) world.links to bytes id taken.rest node its.replica (next_id id.conn (law.story.told id.conn))
       gone.here (frontend_of to front there) taken.first reads_so refl gone.placed in
       let here = subst (IsTakenBy fixed.master (Line bytes)) (sym tells.at) taken in
-      subst (λ n. KeepsOn config law.story heard (taken_by fixed.master (Line bytes) n)) tells.at
+      subst (λ n. KeepsOn config law.story law.stops heard (taken_by fixed.master (Line bytes) n)) tells.at
       (closed_keeps fixed.master id.conn text node its connection at (taken_by fixed.master (Line bytes) node) here.many here.feeds e
       (closed_ok fixed world law.story node its id.conn (inputs_in (setting_of config) text) connection
       (before_so id.conn text node true its connection e at (numbers_of id.conn text true e numbers)) gone bytes id here.rest here.first reads_so refl))
@@ -186,6 +186,6 @@ module _ (config : Config) (heard : ℕ → Heard) (world : World) (law : KeepsL
   -- THE MASTER'S OK KEEPS THE LAW
   pub ok_stands : (to : List ℕ) (front : Front) (bytes : List ℕ) (id : AskId) → front_at world to ≡ Some front
       → IsTakenBy (master_of config) (Line bytes) to → barrier_answered bytes ≡ Some id → NumbersFit heard
-      → KeepsOn config law.story heard (taken_by (master_of config) (Line bytes) to)
+      → KeepsOn config law.story law.stops heard (taken_by (master_of config) (Line bytes) to)
   ok_stands to front bytes id there taken reads_so numbers =
       ok_by to front bytes id (heard id.conn) there taken reads_so numbers refl (law.connections id.conn)

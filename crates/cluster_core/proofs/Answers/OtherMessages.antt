@@ -54,7 +54,7 @@ module _ (config : Config) (heard : ℕ → Heard) (world : World) (law : KeepsL
   -- each connection is as it was, if its command is where it was
   replica_keeps : (replica : Replica) → ((conn : ℕ) → StaysInPlace fixed conn world (with_replica replica))
       → ManyHold (murder_of (with_replica replica) law.master) law.given law.story.course.store → FeedsHold config (with_replica replica) law.master
-      → KeepsOn config law.story heard (with_replica replica)
+      → KeepsOn config law.story law.stops heard (with_replica replica)
   unfolding carry_all
   replica_keeps replica stays many feeds =
       let later : Front = record front { replica = replica } in
@@ -123,11 +123,11 @@ module _ (config : Config) (heard : ℕ → Heard) (world : World) (law : KeepsL
   -- what the frontend does is that alone
   keeps_by : (replica : Replica) → deliver front from message ≡ still (record front { replica = replica })
       → ((conn : ℕ) → StaysInPlace fixed conn world (with_replica replica))
-      → KeepsOn config law.story heard (taken_by config heard world law from message to)
+      → KeepsOn config law.story law.stops heard (taken_by config heard world law from message to)
   keeps_by replica does stays =
       let is : taken_by config heard world law from message to ≡ with_replica replica =
       front_comes (taken_from_link world from to) to (From from message) front law.whole there ∙ ap (with_front (taken_from_link world from to) to) does in
-      subst (λ w. KeepsOn config law.story heard w) (sym is)
+      subst (λ w. KeepsOn config law.story law.stops heard w) (sym is)
       (replica_keeps replica stays (subst (λ w. ManyHold (murder_of w law.master) law.given law.story.course.store) is taken.many)
       (subst (λ w. FeedsHold config w law.master) is taken.feeds))
 
@@ -143,7 +143,7 @@ hears_news front from bytes e none =
 -- THE MASTER'S NEWS KEEP THE LAW
 pub news_stand : (config : Config) (heard : ℕ → Heard) (world : World) (law : KeepsLaw config heard world) (to : List ℕ) (front : Front) (bytes : List ℕ)
     → front_at world to ≡ Some front → IsTakenBy config heard world law (master_of config) (Line bytes) to → barrier_answered bytes ≡ None
-    → KeepsOn config law.story heard (taken_by config heard world law (master_of config) (Line bytes) to)
+    → KeepsOn config law.story law.stops heard (taken_by config heard world law (master_of config) (Line bytes) to)
 news_stand config heard world law to front bytes there taken none =
     let me : List ℕ = master_of config in
     let frontend = frontend_of config heard world law to front there in
@@ -174,7 +174,7 @@ idles front from (Answer answer) ne idle = absurd idle
 -- ANY OTHER MESSAGE OF ANOTHER NODE KEEPS THE LAW
 pub idle_stands : (config : Config) (heard : ℕ → Heard) (world : World) (law : KeepsLaw config heard world) (from to : List ℕ) (front : Front)
     (message : LinkMsg) → front_at world to ≡ Some front → IsTakenBy config heard world law from message to → from ≢ master_of config
-    → IsIdle (master_of config) from message → KeepsOn config law.story heard (taken_by config heard world law from message to)
+    → IsIdle (master_of config) from message → KeepsOn config law.story law.stops heard (taken_by config heard world law from message to)
 idle_stands config heard world law from to front message there taken ne idle =
     let me : List ℕ = master_of config in
     let frontend = frontend_of config heard world law to front there in

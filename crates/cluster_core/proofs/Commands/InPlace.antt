@@ -18,6 +18,7 @@ abbrev pub IsThere : Nodes → Place → Type 0
 IsThere nodes place.nowhere = Unit {0}
 IsThere nodes (place.is_asked server ask) = (node : BackNode) × (nodes server ≡ Some node)
 IsThere nodes (place.is_answered server answer) = (node : BackNode) × (nodes server ≡ Some node)
+IsThere nodes (place.is_dropped server) = (node : BackNode) × (nodes server ≡ Some node)
 IsThere nodes (place.is_at me at) = (node : BackNode) × (nodes me.server ≡ Some node) × (node.flows.me ≡ me)
 IsThere nodes (place.is_barred at) = Unit {0}
 

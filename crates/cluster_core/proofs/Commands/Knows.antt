@@ -67,6 +67,7 @@ tells_of_barrier master first c other turn = ⊥
 
 abbrev pub Brings : List ℕ → List ℕ → List ℕ → ClientCommand → Place → Turn → Type 0
 Brings master first front c (place.is_answered server answer) turn = (answer.id ≡ c.id) × TellsAtAnswer master c answer.body turn
+Brings master first front c (place.is_dropped server) turn = Unit {0}
 Brings master first front c (place.is_at me at) turn = tells_of_name master front c at turn
 Brings master first front c (place.is_barred at) turn = tells_of_barrier master first c at turn
 Brings master first front c other turn = ⊥
@@ -125,6 +126,7 @@ abbrev pub Undecided : List ℕ → List ℕ → List ℕ → ClientCommand → 
 Undecided master first front c place.nowhere = ⊥
 Undecided master first front c (place.is_asked server ask) = ask ≡ its_ask c
 Undecided master first front c (place.is_answered server answer) = (answer.id ≡ c.id) × IsElsewhere answer.body
+Undecided master first front c (place.is_dropped server) = Unit {0}
 Undecided master first front c (place.is_at me at) = undecided_at front c at
 Undecided master first front c (place.is_barred at) = undecided_barrier master first c at
 

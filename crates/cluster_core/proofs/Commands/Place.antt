@@ -1,5 +1,5 @@
--- Where a command of a connection is: nowhere on its way; in its frontend's ask to a backend, or in the answer; a CREATE at its backend, or between that and
--- the master; or at the barrier of its frontend with the master.
+-- Where a command of a connection is: nowhere on its way; in its frontend's ask to a backend, or in the answer, or dropped with one of these, as their link
+-- broke; a CREATE at its backend, or between that and the master; or at the barrier of its frontend with the master.
 use Rattle.std.specs.Prelude.{ℕ, nat_eq, List, Option, None, Some, if◌then◌else◌}
 use Rattle.std.specs.Cmp.Lexicographic.{pointwise}
 use Rattle.link_msg.specs.declared.answer.BackAnswer.{BackAnswer}
@@ -17,6 +17,7 @@ pub data Place : Type 0 where
   nowhere : Place
   is_asked : List ℕ → FrontAsk → Place
   is_answered : List ℕ → BackAnswer → Place
+  is_dropped : List ℕ → Place
   is_at : Location → NamePlace → Place
   is_barred : Barrier → Place
 
@@ -41,6 +42,7 @@ abbrev pub its_message : List ℕ → List ℕ → AskId → Place → Option (C
 its_message master front id nowhere = None
 its_message master front id (is_asked server ask) = carried front server (Ask ask)
 its_message master front id (is_answered server answer) = carried server front (Answer answer)
+its_message master front id (is_dropped server) = None
 its_message master front id (is_at me place) = flow_carried master me place
 its_message master front id (is_barred at) = barrier_carried master front id at
 
@@ -49,6 +51,7 @@ abbrev pub at_backend : List ℕ → Place → NamePlace
 at_backend name nowhere = name_at.nowhere
 at_backend name (is_asked server ask) = name_at.nowhere
 at_backend name (is_answered server answer) = name_at.nowhere
+at_backend name (is_dropped server) = name_at.nowhere
 at_backend name (is_at me place) = if pointwise nat_eq me.server name then place else name_at.nowhere
 at_backend name (is_barred at) = name_at.nowhere
 
@@ -57,5 +60,6 @@ abbrev pub at_barrier : Place → Barrier
 at_barrier nowhere = barrier.nowhere
 at_barrier (is_asked server ask) = barrier.nowhere
 at_barrier (is_answered server answer) = barrier.nowhere
+at_barrier (is_dropped server) = barrier.nowhere
 at_barrier (is_at me place) = barrier.nowhere
 at_barrier (is_barred at) = at

@@ -4,7 +4,6 @@ use Rattle.asking_core.specs.declared.waiting.At.{At}
 use Rattle.asking_core.specs.declared.waiting.At.TheVariants.{Home, Barrier as at_master}
 use Rattle.front_core.specs.Ending.{EndsOnlyLast}
 use Rattle.front_core.specs.Reading.{Reading as Read}
-use Rattle.front_core.specs.Ups.{Ups}
 use Rattle.front_core.specs.declared.connection.Connection.{Connection}
 use Rattle.front_core.specs.declared.connection.Stage.TheVariants.{Reading, Waits, Lists as lists_names, Ended}
 use Rattle.front_core.proofs.OneConnection.Readings.{FaultsLast}
@@ -38,12 +37,11 @@ HasBegunSo connection reading = (connection.stage ≡ Ended) ⊎ (connection.rea
 abbrev pub next_id : ℕ → List Answer → AskId
 next_id conn told = record { conn = conn; command = length told + 1 }
 
--- what is fixed of the nodes: the master, the server of a new mailbox without a name above it, and to which nodes the links of each frontend are up
+-- what is fixed of the nodes: the master, and the server of a new mailbox without a name above it
 pub record Fixed : Type 0 where
   pub setting : Setting
   pub master : List ℕ
   pub first : List ℕ
-  pub ups : List ℕ → Ups
 
 -- the command of this number, of a session that was so
 pub record IsCommandOf (fixed : Fixed) (conn : ℕ) (told : List Answer) (was : Sess) (c : ClientCommand) : Type 0 where
@@ -56,6 +54,7 @@ abbrev pub WaitsAt : At → Place → Type 0
 WaitsAt at place.nowhere = ⊥
 WaitsAt at (place.is_asked server ask) = at ≡ Home server
 WaitsAt at (place.is_answered server answer) = at ≡ Home server
+WaitsAt at (place.is_dropped server) = at ≡ Home server
 WaitsAt at (place.is_at me name) = at ≡ Home me.server
 WaitsAt (Home server) (place.is_barred barrier) = ⊥
 WaitsAt (at_master cause) (place.is_barred barrier) = Unit {0}
@@ -131,7 +130,7 @@ pub record LeftListing (fixed : Fixed) (requests : List Request) (told said : Li
   pub next : numbered requests (length told + 1) ≡ Some (a_command tag it)
   pub knows : KnowsNames tag listing was told said session here
 
--- what a connection leaves whose client closed it: nothing but an answer that comes no more, or a command that waits
+-- what a connection leaves whose client closed it, or that ended as its command was lost: nothing but an answer that comes no more, or a command that waits
 pub data IsLeft (fixed : Fixed) (front : List ℕ) (conn : ℕ) (requests : List Request) (told said : List Answer) (session : Sess) (here : Place)
     : Type 0 where
   nothing : (rest : List Answer) → said ≡ told ++ rest → length rest ≤ 1 → here ≡ place.nowhere → IsLeft fixed front conn requests told said session here

@@ -86,9 +86,9 @@ module _ (config : Config) (heard : ℕ → Heard) (world : World) (conn : ℕ) 
       master_comes world me input law.master law.whole (law.nodes).is_there
       ∙ ap (λ w. with_master w me served) (client_writes world me (state.Master law.master) input (of_client conn input is))
 
-  serves : (after : ℕ → Heard) → ((other : ℕ) → after other ≡ heard other) → KeepsOn config law.story after (comes world me input)
+  serves : (after : ℕ → Heard) → ((other : ℕ) → after other ≡ heard other) → KeepsOn config law.story law.stops after (comes world me input)
   serves after same =
-      subst (λ w. KeepsOn config law.story after w) (sym next_is)
+      subst (λ w. KeepsOn config law.story law.stops after w) (sym next_is)
       (still_kept config heard after world next served.master alike same law
       (master_keeps_nodes config world law.master input law.nodes)
       (master_serves_many config world law.master law.given law.story.course.store law.nodes law.many input (of_client conn input is))

@@ -22,7 +22,7 @@ heard_then config heard event conn = hears config conn (heard conn) event
 
 -- a step of this event keeps the law
 abbrev pub Keeps : (config : Config) (heard : ℕ → Heard) (world : World) → KeepsLaw config heard world → Event → Type 0
-Keeps config heard world law event = KeepsOn config law.story (heard_then config heard event) (steps_by world event)
+Keeps config heard world law event = KeepsOn config law.story law.stops (heard_then config heard event) (steps_by world event)
 
 -- told of the world in which the step has begun
 pub begins : (config : Config) (heard : ℕ → Heard) (world : World) (law : KeepsLaw config heard world) (event : Event)

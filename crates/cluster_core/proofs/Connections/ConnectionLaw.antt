@@ -9,10 +9,12 @@ use Rattle.front_core.specs.declared.connection.Connection.{Connection}
 use Rattle.front_core.specs.declared.connection.Stage.TheVariants.{Reading}
 use Rattle.imap_reply.specs.Greeting.{greeting}
 use Rattle.imap_talk.specs.SessionEnds.{has_ended}
-use Rattle.imap_talk.specs.Transcript.{replies_to}
+use Rattle.imap_talk.specs.Transcript.{Stop, replies_till}
+use Rattle.imap_talk.specs.Transcript.Stop.{silent}
 use Rattle.imap_talk.proofs.TranscriptGrows.{AreAnswered}
 use Rattle.imap_talk.specs.declared.inputs.Input.{Input}
 use Rattle.imap_types.specs.declared.request.Answer.{Answer}
+use Rattle.link_queue.specs.Broken.{is_broken}
 use Rattle.mark_history.specs.Marked.{Tale, last_mark, talk_told}
 use Rattle.mark_history.specs.declared.mark.Mark.{Mark}
 use Rattle.mur_base.specs.declared.point.AskId.{AskId}
@@ -137,8 +139,17 @@ says_on conn story next on other = ⊎_elim
     (λ (ne : other ≢ conn). omega (arith, ap length (on.said other ne)))
     (cases_eq other conn)
 
+-- up to where it stops
+abbrev pub client_till : Stop → List ℕ → List Input → List Answer → Client
+client_till stop front inputs told = record { at = front; given = greeting ++ replies_till stop inputs told }
+
 abbrev pub client_with : List ℕ → List Input → List Answer → Client
-client_with front inputs told = record { at = front; given = greeting ++ replies_to inputs told }
+client_with front inputs told = client_till silent front inputs told
+
+-- a command is dropped only with a link that is broken
+abbrev pub IsDroppedAt : World → List ℕ → Place → Type 0
+IsDroppedAt world front (place.is_dropped server) = is_broken world.broken server front ≡ true
+IsDroppedAt world front other = Unit {0}
 
 -- a connection of a frontend with this replica, in the middle of a step, in which it reads
 pub record IsReading (fixed : Fixed) (front : List ℕ) (replica : Replica) (conn : ℕ) (inputs : List Input) (connection : Connection) (world : World)
@@ -161,6 +172,7 @@ pub record IsStanding (fixed : Fixed) (front : List ℕ) (replica : Replica) (co
   pub here : Place
   pub placed : IsInPlaceOf fixed world front replica (next_id conn (story.told conn)) here
   pub marked : IsMarkedAt story.talk.moving world.marks (next_id conn (story.told conn)) here
+  pub dropped : IsDroppedAt world front here
   pub stands : Stands fixed front conn inputs held connection (story.told conn) (story.talk.answers conn) (story.course.sessions conn) here
 
 -- a world and a tale that a step of one connection made of another
@@ -168,7 +180,7 @@ pub record IsMade (fixed : Fixed) (conn : ℕ) (before : World) (told : Tale) (w
   pub others : KeepsOthers fixed conn before world
   pub goes_on : GoesOnAt conn told story
   pub store : story.course.store ≡ told.course.store
-  pub is_told : AreMarkedSo fixed.setting world.steps world.marks story
+  pub is_told : AreMarkedSo fixed.setting world.broken world.steps world.marks story
 
 pub record ReadsOn (fixed : Fixed) (front : List ℕ) (replica : Replica) (conn : ℕ) (inputs : List Input) (connection : Connection) (before : World)
     (told : Tale) (world : World) : Type 0 where

@@ -148,7 +148,7 @@ module _ (config : Config) (heard : ℕ → Heard) (world : World) (law : KeepsL
   taken_more : bytes_in front conn more ≡ with_turned front conn (read_turned front conn connection more)
       → connection.reader ≡ reading_of (setting_of config) bytes → AreNoops (messages_to (master_of config) its_turn.outs)
       → Behind config heard world law conn bytes more node front connection e at fits
-      → KeepsOn config law.story after (with_front world node (bytes_in front conn more))
+      → KeepsOn config law.story law.stops after (with_front world node (bytes_in front conn more))
   taken_more does reader noops behind =
       let step : bytes_in front conn more ≡ turned_so front conn kept its_turn.outs = does ∙ ap (with_turned front conn) turned_same in
       let read : having_read (setting_of config) connection more ≡ having_read (setting_of config) connection more = refl in
@@ -156,7 +156,7 @@ module _ (config : Config) (heard : ℕ → Heard) (world : World) (law : KeepsL
       inr (inputs_keep_reader (setting_of config) (ways_same config node front) conn (having_read (setting_of config) connection more)
       (inputs_of_more (setting_of config) connection.reader more)
       ∙ sym (reading_with_more (setting_of config) bytes more connection.reader (sym reader))) in
-      subst (λ s. KeepsOn config law.story after (with_front world node s)) (sym step)
+      subst (λ s. KeepsOn config law.story law.stops after (with_front world node s)) (sym step)
       (front_keeps config heard after world law world.links conn node front connection kept its_turn.outs told behind.story
       (λ other ne. record { in_place = λ f r c here is. is; in_none = λ is. is })
       at.at at.has
@@ -187,7 +187,7 @@ module _ (config : Config) (heard : ℕ → Heard) (world : World) (law : KeepsL
   -- its law, once they are heard
   heard_on : connection.stage ≡ Ended
       → IsStanding fixed node front.replica conn (inputs_in (setting_of config) (bytes ++ more)) (begun (bytes ++ more)) connection world told
-      → KeepsOn config law.story after world
+      → KeepsOn config law.story law.stops after world
   heard_on stage standing = record {
     law = record {
       master = law.master;
@@ -234,12 +234,12 @@ module _ (config : Config) (heard : ℕ → Heard) (world : World) (law : KeepsL
 
   ended_more : connection.stage ≡ Ended
       → IsStanding fixed node front.replica conn (inputs_in (setting_of config) (bytes ++ more)) (begun (bytes ++ more)) connection world told
-      → KeepsOn config law.story after (with_front world node (bytes_in front conn more))
+      → KeepsOn config law.story law.stops after (with_front world node (bytes_in front conn more))
   unfolding carry_all
   ended_more stage standing =
       let on = heard_on stage standing in
       let put = put_kept config after after world node (state.Front front) (front_is (node_at world node) front at.at) (λ other. refl) on.law in
-      subst (λ s. KeepsOn config law.story after (with_front world node s))
+      subst (λ s. KeepsOn config law.story law.stops after (with_front world node s))
       (sym (at_ended front conn more connection at.has stage))
       (record {
         law = put.law;
@@ -292,7 +292,7 @@ module _ (config : Config) (heard : ℕ → Heard) (world : World) (law : KeepsL
   -- behind a command that waits they wait
   held_more : HasBegunSo connection (reading_of (setting_of config) bytes) → HoldsBack connection.stage
       → (connection.reader ≡ reading_of (setting_of config) bytes → Behind config heard world law conn bytes more node front connection e at fits)
-      → KeepsOn config law.story after (with_front world node (bytes_in front conn more))
+      → KeepsOn config law.story law.stops after (with_front world node (bytes_in front conn more))
   held_more reader holds behind =
       let has_reader = waiting_reader connection (reading_of (setting_of config) bytes) holds reader in
       taken_more (at_waiting front conn more connection at.has holds) has_reader
@@ -304,7 +304,7 @@ module _ (config : Config) (heard : ℕ → Heard) (world : World) (law : KeepsL
       → (standing : IsStanding fixed node front.replica conn (inputs_in (setting_of config) bytes) (begun bytes) connection world law.story)
       → Stands fixed node conn (inputs_in (setting_of config) bytes) (begun bytes) connection (law.story.told conn)
       (law.story.talk.answers conn) (law.story.course.sessions conn) standing.here
-      → KeepsOn config law.story after (with_front world node (bytes_in front conn more))
+      → KeepsOn config law.story law.stops after (with_front world node (bytes_in front conn more))
   stands_more reader standing (reads stage waiting session lasts all said none) =
       let has_reader = reading_reader connection (reading_of (setting_of config) bytes) stage reader in
       let reading : IsReading fixed node front.replica conn (inputs_in (setting_of config) bytes) connection world law.story = record {
@@ -342,22 +342,22 @@ at_front world conn bytes node front given whole at is =
 
 data_by : (config : Config) (heard : ℕ → Heard) (world : World) (conn : ℕ) (bytes : List ℕ) (law : KeepsLaw config heard world) (was : Heard) → heard conn ≡ was
     → NumbersFit (after_data config heard conn bytes) → MasterServes config → ConnectionIs (fixed_of config) conn world law.story was
-    → KeepsOn config law.story (after_data config heard conn bytes) (client_does world (Piece conn bytes) (client_at world conn))
+    → KeepsOn config law.story law.stops (after_data config heard conn bytes) (client_does world (Piece conn bytes) (client_at world conn))
 unfolding client_does carry_all
 data_by config heard world conn bytes law was e fits serves (is_nobody none fronts untold) =
-    subst (λ c. KeepsOn config law.story (after_data config heard conn bytes) (client_does world (Piece conn bytes) c)) (sym none)
+    subst (λ c. KeepsOn config law.story law.stops (after_data config heard conn bytes) (client_does world (Piece conn bytes) c)) (sym none)
     (same_kept config heard (after_data config heard conn bytes) world
     (still_heard config heard conn bytes (ap (λ h. hears config conn h (Data conn bytes)) e ∙ nothing_heard config conn bytes ∙ sym e)) law)
 data_by config heard world conn bytes law was e fits serves (is_elsewhere node given at none untold) =
-    subst (λ c. KeepsOn config law.story (after_data config heard conn bytes) (client_does world (Piece conn bytes) c)) (sym at)
+    subst (λ c. KeepsOn config law.story law.stops (after_data config heard conn bytes) (client_does world (Piece conn bytes) c)) (sym at)
     (elsewhere_kept config heard (after_data config heard conn bytes) world node conn (Piece conn bytes) given refl serves at none law
     (still_heard config heard conn bytes (ap (λ h. hears config conn h (Data conn bytes)) e ∙ elsewhere_heard config conn bytes ∙ sym e)))
 data_by config heard world conn bytes law was e fits serves (is_open b node front connection at reader standing) =
-    subst (λ w. KeepsOn config law.story (after_data config heard conn bytes) w)
+    subst (λ w. KeepsOn config law.story law.stops (after_data config heard conn bytes) w)
     (sym (at_front world conn bytes node front _ law.whole standing.client at.at))
     (stands_more config heard world law conn b bytes node front connection e at fits reader standing standing.stands)
 data_by config heard world conn bytes law was e fits serves (is_closed b node front connection at gone) =
-    subst (λ w. KeepsOn config law.story (after_data config heard conn bytes) w)
+    subst (λ w. KeepsOn config law.story law.stops (after_data config heard conn bytes) w)
     (sym (at_front world conn bytes node front _ law.whole gone.client at.at
     ∙ ap (with_front world node) (at_ended front conn bytes connection at.has gone.stage_is)))
     (put_kept config heard (after_data config heard conn bytes) world node (state.Front front) (front_is (node_at world node) front at.at)
@@ -365,5 +365,5 @@ data_by config heard world conn bytes law was e fits serves (is_closed b node fr
 
 pub data_keeps : (config : Config) (heard : ℕ → Heard) (world : World) (conn : ℕ) (bytes : List ℕ) (law : KeepsLaw config heard world)
     → NumbersFit (after_data config heard conn bytes) → MasterServes config
-    → KeepsOn config law.story (after_data config heard conn bytes) (client_does world (Piece conn bytes) (client_at world conn))
+    → KeepsOn config law.story law.stops (after_data config heard conn bytes) (client_does world (Piece conn bytes) (client_at world conn))
 data_keeps config heard world conn bytes law fits serves = data_by config heard world conn bytes law (heard conn) refl fits serves (law.connections conn)

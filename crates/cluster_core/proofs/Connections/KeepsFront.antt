@@ -150,7 +150,7 @@ pub front_keeps : (config : Config) (heard after : ℕ → Heard) (origin : Worl
     → ManyHold (murder_of (world_after (record origin { links = links }) node front conn connection outs) law.master) law.given law.story.course.store
     → FeedsHold config (world_after (record origin { links = links }) node front conn connection outs) law.master
     → ConnectionIs (fixed_of config) conn (world_after (record origin { links = links }) node front conn connection outs) story (after conn)
-    → KeepsOn config law.story after (world_after (record origin { links = links }) node front conn connection outs)
+    → KeepsOn config law.story law.stops after (world_after (record origin { links = links }) node front conn connection outs)
 front_keeps config heard after origin law links conn node front was connection outs told story places at has more same_told same_said same_course
     requests others no_more made many feeds mine =
     let world : World = record origin { links = links } in

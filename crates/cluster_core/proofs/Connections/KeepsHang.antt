@@ -121,7 +121,7 @@ closes : (config : Config) (heard : ℕ → Heard) (world : World) (conn : ℕ) 
     (connection : Connection) → IsAt world conn node front connection
     → law.story.talk.requests conn ≡ requests_in (inputs_in (setting_of config) bytes) → after_hang config heard conn conn ≡ client bytes true
     → IsGone (fixed_of config) node front.replica conn (inputs_in (setting_of config) bytes) (hung_up connection) world law.story
-    → KeepsOn config law.story (after_hang config heard conn) (world_after world node front conn (hung_up connection) [])
+    → KeepsOn config law.story law.stops (after_hang config heard conn) (world_after world node front conn (hung_up connection) [])
 unfolding carry_all frames_heard
 closes config heard world conn law bytes node front connection at asked now gone =
     let later : Front = with_connection front conn (hung_up connection) in
@@ -168,18 +168,18 @@ closed_heard config conn bytes = refl
 
 hang_by : (config : Config) (heard : ℕ → Heard) (world : World) (conn : ℕ) (law : KeepsLaw config heard world) (was : Heard) → heard conn ≡ was
     → MasterServes config → ConnectionIs (fixed_of config) conn world law.story was
-    → KeepsOn config law.story (after_hang config heard conn) (client_does world (Hung conn) (client_at world conn))
+    → KeepsOn config law.story law.stops (after_hang config heard conn) (client_does world (Hung conn) (client_at world conn))
 unfolding client_does frames_heard
 hang_by config heard world conn law was e serves (is_nobody none fronts untold) =
-    subst (λ c. KeepsOn config law.story (after_hang config heard conn) (client_does world (Hung conn) c)) (sym none)
+    subst (λ c. KeepsOn config law.story law.stops (after_hang config heard conn) (client_does world (Hung conn) c)) (sym none)
     (same_kept config heard (after_hang config heard conn) world
     (still_heard config heard conn (ap (λ h. hears config conn h (Hang conn)) e ∙ nothing_heard config conn ∙ sym e)) law)
 hang_by config heard world conn law was e serves (is_elsewhere node given at none untold) =
-    subst (λ c. KeepsOn config law.story (after_hang config heard conn) (client_does world (Hung conn) c)) (sym at)
+    subst (λ c. KeepsOn config law.story law.stops (after_hang config heard conn) (client_does world (Hung conn) c)) (sym at)
     (elsewhere_kept config heard (after_hang config heard conn) world node conn (Hung conn) given refl serves at none law
     (still_heard config heard conn (ap (λ h. hears config conn h (Hang conn)) e ∙ elsewhere_heard config conn ∙ sym e)))
 hang_by config heard world conn law was e serves (is_open bytes node front connection at reader standing) =
-    subst (λ w. KeepsOn config law.story (after_hang config heard conn) w)
+    subst (λ w. KeepsOn config law.story law.stops (after_hang config heard conn) w)
     (sym (hangs_at world conn node front connection _ law.whole standing.client at))
     (closes config heard world conn law bytes node front connection at (law.requests conn ∙ ap (λ h. requests_of (setting_of config) (frames_heard h)) e)
     (heard_closed config conn bytes (heard conn) e)
@@ -196,7 +196,7 @@ hang_by config heard world conn law was e serves (is_open bytes node front conne
           (law.story.told conn) (law.story.talk.answers conn) (law.story.course.sessions conn) standing.here standing.stands;
     }))
 hang_by config heard world conn law was e serves (is_closed bytes node front connection at gone) =
-    subst (λ w. KeepsOn config law.story (after_hang config heard conn) w)
+    subst (λ w. KeepsOn config law.story law.stops (after_hang config heard conn) w)
     (sym (hangs_at world conn node front connection _ law.whole gone.client at))
     (closes config heard world conn law bytes node front connection at (law.requests conn ∙ ap (λ h. requests_of (setting_of config) (frames_heard h)) e)
     (ap (λ h. hears config conn h (Hang conn)) e ∙ closed_heard config conn bytes)
@@ -212,5 +212,5 @@ hang_by config heard world conn law was e serves (is_closed bytes node front con
     }))
 
 pub hang_keeps : (config : Config) (heard : ℕ → Heard) (world : World) (conn : ℕ) (law : KeepsLaw config heard world) → MasterServes config
-    → KeepsOn config law.story (after_hang config heard conn) (client_does world (Hung conn) (client_at world conn))
+    → KeepsOn config law.story law.stops (after_hang config heard conn) (client_does world (Hung conn) (client_at world conn))
 hang_keeps config heard world conn law serves = hang_by config heard world conn law (heard conn) refl serves (law.connections conn)

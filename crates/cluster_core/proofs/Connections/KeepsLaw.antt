@@ -1,5 +1,5 @@
 -- THE LAW THAT EVERY STEP KEEPS: of the nodes, the names, the feeds, and of each connection by what was heard of its client.
-use Rattle.std.specs.Prelude.{◌≡◌, ◌≢◌, ℕ, nat_eq, Bool, true, false, List, [], length, None, Some, is_some}
+use Rattle.std.specs.Prelude.{◌≡◌, ◌≢◌, ℕ, nat_eq, true, false, List, [], ◌∷◌, ◌++◌, length, None, Some, is_some}
 use Rattle.std.specs.List.{list_any, AllByRecursion}
 use Rattle.std.specs.Option.{IsSome}
 use Rattle.std.specs.Cmp.Lexicographic.{pointwise}
@@ -17,11 +17,16 @@ use Rattle.front_core.specs.declared.connection.Connection.{Connection}
 use Rattle.front_core.specs.declared.connection.Stage.TheVariants.{Ended}
 use Rattle.front_core.specs.declared.front.Front.{Front}
 use Rattle.front_core.specs.Front.{connection_at}
-use Rattle.front_core.specs.Ups.{Ups, is_up}
 use Rattle.imap_talk.specs.Heard.{Heard, nobody, elsewhere, client, frames_heard, has_closed}
 use Rattle.imap_talk.specs.Inputs.{requests_in}
 use Rattle.imap_talk.specs.declared.inputs.Input.{Input}
 use Rattle.imap_talk.proofs.RequestsOf.{requests_of}
+use Rattle.imap_talk.proofs.TranscriptGrows.{AreAnswered}
+use Rattle.imap_talk.specs.Transcript.{Stop}
+use Rattle.imap_talk.specs.Transcript.Stop.{is_lost, silent}
+use Rattle.imap_talk.specs.declared.inputs.Input.TheVariants.{Asks}
+use Rattle.imap_types.specs.declared.request.Answer.{Answer}
+use Rattle.imap_types.specs.declared.request.Request.{Request}
 use Rattle.imap_wire.specs.Frames.{begun}
 use Rattle.link_msg.specs.declared.message.LinkMsg.{LinkMsg}
 use Rattle.link_queue.specs.Links.{on_link}
@@ -31,7 +36,6 @@ use Rattle.mark_history.specs.Marked.{Tale, talk_told}
 use Rattle.master_core.specs.declared.master.Master.{Master}
 use Rattle.master_core.specs.Whose.{TellNobody}
 use Rattle.mur_config.specs.declared.config.Config.{Config}
-use Rattle.mur_config.specs.Nodes.{links_of}
 use Rattle.mur_model.specs.declared.session.Sess.TheVariants.{Off}
 use Rattle.mur_model.specs.History.{TalkGoesOn}
 use Rattle.name_links.specs.Serials.{Given}
@@ -43,8 +47,7 @@ use Rattle.cluster_core.specs.World.{backends_of, home_of, master_of, setting_of
 use Rattle.cluster_core.proofs.Commands.AllReached.{AreMarkedSo}
 use Rattle.cluster_core.proofs.Commands.Place.{Place}
 use Rattle.cluster_core.proofs.Commands.Standing.{Fixed, HasBegunSo, IsLeft, next_id}
-use Rattle.cluster_core.proofs.Connections.ConnectionLaw.{IsInNoneOf, IsInPlaceOf, IsMarkedAt, IsStanding, SaysOn, client_with}
-use Rattle.cluster_core.proofs.Nodes.LinksUp.{ups_on}
+use Rattle.cluster_core.proofs.Connections.ConnectionLaw.{IsInNoneOf, IsInPlaceOf, IsMarkedAt, IsStanding, SaysOn, client_till}
 
 -- ---- connections
 
@@ -60,28 +63,45 @@ pub record IsAt (world : World) (conn : ℕ) (node : List ℕ) (front : Front) (
   pub at : front_at world node ≡ Some front
   pub has : connection_at front conn ≡ Some connection
 
-pub record IsGone (fixed : Fixed) (node : List ℕ) (replica : Replica) (conn : ℕ) (inputs : List Input) (connection : Connection) (world : World)
+-- a connection that has ended, and whose client was told so much up to where it stopped
+pub record IsGone (fixed : Fixed) (node : List ℕ) (replica : Replica) (conn : ℕ) (inputs : List Input) (stop : Stop) (connection : Connection) (world : World)
     (story : Tale) : Type 0 where
   pub stage_is : connection.stage ≡ Ended
   pub count : connection.answered ≡ length (story.told conn)
   pub lasts : EndsOnlyLast (story.told conn)
-  pub client : client_at world conn ≡ Some (client_with node inputs (story.told conn))
+  pub client : client_at world conn ≡ Some (client_till stop node inputs (story.told conn))
   pub here : Place
   pub placed : IsInPlaceOf fixed world node replica (next_id conn (story.told conn)) here
   pub marked : IsMarkedAt story.talk.moving world.marks (next_id conn (story.told conn)) here
   pub left : IsLeft fixed node conn (requests_in inputs) (story.told conn) (story.talk.answers conn) (story.course.sessions conn) here
+  -- a command is lost only once a link has broken
+  pub cut : stop ≡ is_lost → world.broken ≢ []
 
-pub data ConnectionIs (fixed : Fixed) (conn : ℕ) (world : World) (story : Tale) : Heard → Type 0 where
+-- a request has no answer, and all before it have theirs
+pub record IsUnanswered (inputs : List Input) (told : List Answer) : Type 0 where
+  pub passed : List Input
+  pub request : Request
+  pub more : List Input
+  pub parts : inputs ≡ passed ++ Asks request ∷ more
+  pub answered : AreAnswered passed told
+
+-- by where what its client is given stops, and by what was heard of it
+pub data ConnectionIs (fixed : Fixed) (conn : ℕ) (world : World) (story : Tale) : Stop → Heard → Type 0 where
   is_nobody : client_at world conn ≡ None → ((node : List ℕ) (front : Front) → front_at world node ≡ Some front → connection_at front conn ≡ None)
-      → IsUntold fixed conn world story → ConnectionIs fixed conn world story nobody
+      → IsUntold fixed conn world story → ConnectionIs fixed conn world story silent nobody
   is_elsewhere : (node given : List ℕ) → client_at world conn ≡ Some (record { at = node; given = given }) → front_at world node ≡ None
-      → IsUntold fixed conn world story → ConnectionIs fixed conn world story elsewhere
+      → IsUntold fixed conn world story → ConnectionIs fixed conn world story silent elsewhere
   is_open : (bytes node : List ℕ) (front : Front) (connection : Connection) → IsAt world conn node front connection
       → HasBegunSo connection (reading_of fixed.setting bytes)
       → IsStanding fixed node front.replica conn (inputs_in fixed.setting bytes) (begun bytes) connection world story
-      → ConnectionIs fixed conn world story (client bytes false)
-  is_closed : (bytes node : List ℕ) (front : Front) (connection : Connection) → IsAt world conn node front connection
-      → IsGone fixed node front.replica conn (inputs_in fixed.setting bytes) connection world story → ConnectionIs fixed conn world story (client bytes true)
+      → ConnectionIs fixed conn world story silent (client bytes false)
+  -- its command was lost, as the link to the server that it had asked ended
+  is_cut_off : (bytes node : List ℕ) (front : Front) (connection : Connection) → IsAt world conn node front connection
+      → IsGone fixed node front.replica conn (inputs_in fixed.setting bytes) is_lost connection world story
+      → IsUnanswered (inputs_in fixed.setting bytes) (story.told conn) → ConnectionIs fixed conn world story is_lost (client bytes false)
+  is_closed : (stop : Stop) (bytes node : List ℕ) (front : Front) (connection : Connection) → IsAt world conn node front connection
+      → IsGone fixed node front.replica conn (inputs_in fixed.setting bytes) stop connection world story
+      → ConnectionIs fixed conn world story stop (client bytes true)
 
 -- ---- nodes
 
@@ -90,26 +110,17 @@ fixed_of config = record {
   setting = setting_of config;
   master = master_of config;
   first = home_of config;
-  ups = λ node. ups_on node [] (links_of config.nodes);
 }
 
 -- the master, the backends and the links of a world
 abbrev pub murder_of : World → Master → Murder
 murder_of world master = record { master = master; nodes = home_at world; links = world.links }
 
--- the links to the master and to the backends are up
-pub record IsLinked (ups : Ups) (master : List ℕ) (is_backend : List ℕ → Bool) : Type 0 where
-  pub to_master : is_up ups master ≡ true
-  pub to_backend : (server : List ℕ) → is_backend server ≡ true → is_up ups server ≡ true
-
--- a frontend knows the master, asks the first backend for a new mailbox without a name above it, and has all its links up; it is neither the master nor a
--- backend
+-- a frontend knows the master, and asks the first backend for a new mailbox without a name above it; it is neither the master nor a backend
 pub record IsFrontOf (config : Config) (world : World) (master : Master) (node : List ℕ) (front : Front) : Type 0 where
   pub master_is : front.master ≡ master_of config
   pub first_is : front.first ≡ home_of config
   pub setting_is : front.setting ≡ setting_of config
-  pub ups_are : front.ups ≡ (fixed_of config).ups node
-  pub linked : IsLinked ((fixed_of config).ups node) (master_of config) (λ server. list_any (pointwise nat_eq server) (backends_of config.nodes))
   pub no_master : node ≢ master_of config
   pub no_home : home_at world node ≡ None
   pub no_backend : list_any (pointwise nat_eq node) master.backends ≡ false
@@ -171,19 +182,19 @@ pub record FeedsHold (config : Config) (world : World) (master : Master) : Type 
 pub record KeepsLaw (config : Config) (heard : ℕ → Heard) (world : World) : Type 0 where
   pub master : Master
   pub nodes : AreNodesOf config world master
-  -- no link is broken
-  pub whole : world.broken ≡ []
   pub story : Tale
+  -- where what each client is given stops
+  pub stops : ℕ → Stop
   pub given : Given
   pub many : ManyHold (murder_of world master) given story.course.store
   pub feeds : FeedsHold config world master
-  pub is_told : AreMarkedSo (setting_of config) world.steps world.marks story
+  pub is_told : AreMarkedSo (setting_of config) world.broken world.steps world.marks story
   pub requests : (conn : ℕ) → story.talk.requests conn ≡ requests_of (setting_of config) (frames_heard (heard conn))
-  pub connections : (conn : ℕ) → ConnectionIs (fixed_of config) conn world story (heard conn)
+  pub connections : (conn : ℕ) → ConnectionIs (fixed_of config) conn world story (stops conn) (heard conn)
 
 -- so it does behind a world with this tale; the one store took no reply back, and a client that has closed its connection was told no more
-pub record KeepsOn (config : Config) (before : Tale) (heard : ℕ → Heard) (world : World) : Type 0 where
+pub record KeepsOn (config : Config) (before : Tale) (stopped : ℕ → Stop) (heard : ℕ → Heard) (world : World) : Type 0 where
   pub law : KeepsLaw config heard world
   pub more : TalkGoesOn (talk_told before) (talk_told law.story)
   pub grows : SaysOn before law.story
-  pub closed : (conn : ℕ) → has_closed (heard conn) ≡ true → law.story.told conn ≡ before.told conn
+  pub closed : (conn : ℕ) → has_closed (heard conn) ≡ true → (law.story.told conn ≡ before.told conn) × (law.stops conn ≡ stopped conn)

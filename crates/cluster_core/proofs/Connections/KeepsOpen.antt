@@ -126,7 +126,7 @@ requests_first config story heard conn node e all other = ⊎_elim
 
 joined_keeps : (config : Config) (heard : ℕ → Heard) (world : World) (node : List ℕ) (conn : ℕ) (law : KeepsLaw config heard world)
     → front_at world node ≡ None → IsNew (fixed_of config) conn world law.story (heard conn)
-    → KeepsOn config law.story (after_open config heard node conn) (with_client world node conn)
+    → KeepsOn config law.story law.stops (after_open config heard node conn) (with_client world node conn)
 joined_keeps config heard world node conn law none first =
     let fixed : Fixed = fixed_of config in
     let next : World = with_client world node conn in
@@ -173,7 +173,7 @@ joined_keeps config heard world node conn law none first =
 
 elsewhere_keeps : (config : Config) (heard : ℕ → Heard) (world : World) (node : List ℕ) (conn : ℕ) (law : KeepsLaw config heard world) → MasterServes config
     → front_at world node ≡ None → IsNew (fixed_of config) conn world law.story (heard conn)
-    → KeepsOn config law.story (after_open config heard node conn) (comes (with_client world node conn) node (Opened conn))
+    → KeepsOn config law.story law.stops (after_open config heard node conn) (comes (with_client world node conn) node (Opened conn))
 elsewhere_keeps config heard world node conn law serves none first =
     let joined = joined_keeps config heard world node conn law none first in
     let after = after_open config heard node conn in
@@ -225,7 +225,7 @@ first_reader setting = ap (λ f. record { held = begun []; before = before_next 
 
 front_keeps_open : (config : Config) (heard : ℕ → Heard) (world : World) (node : List ℕ) (conn : ℕ) (front : Front) (law : KeepsLaw config heard world)
     → front_at world node ≡ Some front → IsNew (fixed_of config) conn world law.story (heard conn)
-    → KeepsOn config law.story (after_open config heard node conn) (greeted world node conn front)
+    → KeepsOn config law.story law.stops (after_open config heard node conn) (greeted world node conn front)
 unfolding new_connection
 front_keeps_open config heard world node conn front law at first =
     let fixed : Fixed = fixed_of config in
@@ -298,10 +298,10 @@ front_keeps_open config heard world node conn front law at first =
 
 open_by : (config : Config) (heard : ℕ → Heard) (world : World) (node : List ℕ) (conn : ℕ) (found : Option Front) → front_at world node ≡ found
     → (law : KeepsLaw config heard world) → MasterServes config → IsNew (fixed_of config) conn world law.story (heard conn)
-    → KeepsOn config law.story (after_open config heard node conn) (comes (with_client world node conn) node (Opened conn))
+    → KeepsOn config law.story law.stops (after_open config heard node conn) (comes (with_client world node conn) node (Opened conn))
 open_by config heard world node conn None at law serves first = elsewhere_keeps config heard world node conn law serves at first
 open_by config heard world node conn (Some front) at law serves first =
-    subst (λ w. KeepsOn config law.story (after_open config heard node conn) w)
+    subst (λ w. KeepsOn config law.story law.stops (after_open config heard node conn) w)
     (sym (front_comes (with_client world node conn) node (Opened conn) front law.whole at
     ∙ ap (with_front (with_client world node conn) node) (connects front conn (first.fronts node front at))
     ∙ greets world node conn front))
@@ -309,7 +309,7 @@ open_by config heard world node conn (Some front) at law serves first =
 
 pub open_keeps : (config : Config) (heard : ℕ → Heard) (world : World) (node : List ℕ) (conn : ℕ) (there : Option Client) → client_at world conn ≡ there
     → (law : KeepsLaw config heard world) → MasterServes config
-    → KeepsOn config law.story (after_open config heard node conn) (opens world node conn there)
+    → KeepsOn config law.story law.stops (after_open config heard node conn) (opens world node conn there)
 unfolding opens
 open_keeps config heard world node conn None at law serves =
     open_by config heard world node conn (front_at world node) refl law serves

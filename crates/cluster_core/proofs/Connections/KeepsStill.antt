@@ -91,7 +91,7 @@ alike_stays fixed conn world next story heard alike (given_elsewhere node was no
 unfoldable pub still_kept : (config : Config) (heard after : ℕ → Heard) (world next : World) (master : Master) → SeesAlike (fixed_of config) world next
     → ((conn : ℕ) → after conn ≡ heard conn) → (law : KeepsLaw config heard world) → AreNodesOf config next master
     → ManyHold (murder_of next master) law.given law.story.course.store → FeedsHold config next master
-    → KeepsOn config law.story after next
+    → KeepsOn config law.story law.stops after next
 still_kept config heard after world next master alike same law nodes many feeds = record {
   law = record {
     master = master;
@@ -138,7 +138,7 @@ alike_but_steps fixed world next nodes clients broken links marks steps =
 -- the law of such a world
 pub quiet_kept : (config : Config) (heard after : ℕ → Heard) (world next : World) → next.nodes ≡ world.nodes → next.clients ≡ world.clients
     → next.broken ≡ world.broken → next.links ≡ world.links → next.marks ≡ world.marks → world.steps ≤ next.steps
-    → ((conn : ℕ) → after conn ≡ heard conn) → (law : KeepsLaw config heard world) → KeepsOn config law.story after next
+    → ((conn : ℕ) → after conn ≡ heard conn) → (law : KeepsLaw config heard world) → KeepsOn config law.story law.stops after next
 quiet_kept config heard after world next nodes clients broken links marks steps same law =
     let homes : SameHomes world next = λ node. ap (λ n. as_back (value_at (slice_cmp nat_cmp) n node)) nodes in
     still_kept config heard after world next law.master (alike_but_steps (fixed_of config) world next nodes clients broken links marks steps) same law
@@ -149,7 +149,7 @@ quiet_kept config heard after world next nodes clients broken links marks steps 
 
 -- the number of the last step is one more
 pub stepped_kept : (config : Config) (heard : ℕ → Heard) (world : World) (law : KeepsLaw config heard world)
-    → KeepsOn config law.story heard (stepped world)
+    → KeepsOn config law.story law.stops heard (stepped world)
 stepped_kept config heard world law =
     quiet_kept config heard heard world (stepped world) refl refl refl refl refl (omega arith) (λ conn. refl) law
 
@@ -191,7 +191,7 @@ module _ (config : Config) (heard : ℕ → Heard) (world : World) (disks : Disk
 
 -- nothing at all changes
 pub same_kept : (config : Config) (heard after : ℕ → Heard) (world : World) → ((conn : ℕ) → after conn ≡ heard conn) → (law : KeepsLaw config heard world)
-    → KeepsOn config law.story after world
+    → KeepsOn config law.story law.stops after world
 same_kept config heard after world same law = quiet_kept config heard after world world refl refl refl refl refl (omega arith) same law
 
 -- ---- what a client does where no frontend is
@@ -207,7 +207,7 @@ IsOfConnection conn (From name message) = ⊥
 abbrev pub MasterServes : Config → Type 0
 MasterServes config = (heard after : ℕ → Heard) (world : World) (conn : ℕ) (input : NodeInput) (given : List ℕ) → IsOfConnection conn input
     → client_at world conn ≡ Some (record { at = master_of config; given = given }) → (law : KeepsLaw config heard world)
-    → ((other : ℕ) → after other ≡ heard other) → KeepsOn config law.story after (comes world (master_of config) input)
+    → ((other : ℕ) → after other ≡ heard other) → KeepsOn config law.story law.stops after (comes world (master_of config) input)
 
 pub of_client : (conn : ℕ) (input : NodeInput) → IsOfConnection conn input → IsOfClient input
 of_client conn (Opened other) is = tt
@@ -224,7 +224,7 @@ home_idle home conn (From name message) is = absurd is
 
 -- a node put in its own place
 pub put_kept : (config : Config) (heard after : ℕ → Heard) (world : World) (node : List ℕ) (it : NodeState) → node_at world node ≡ Some it
-    → ((conn : ℕ) → after conn ≡ heard conn) → (law : KeepsLaw config heard world) → KeepsOn config law.story after (with_state world node it)
+    → ((conn : ℕ) → after conn ≡ heard conn) → (law : KeepsLaw config heard world) → KeepsOn config law.story law.stops after (with_state world node it)
 put_kept config heard after world node it there same law =
     quiet_kept config heard after world (with_state world node it) (set_value_same (is_at (slice_cmp nat_cmp node)) world.nodes it there)
     refl refl refl refl (omega arith) same law
@@ -241,23 +241,23 @@ home_put world node home input conn whole at is =
 elsewhere_by : (config : Config) (heard after : ℕ → Heard) (world : World) (node : List ℕ) (conn : ℕ) (input : NodeInput) (given : List ℕ)
     (found : Option NodeState) → node_at world node ≡ found → IsOfConnection conn input → MasterServes config
     → client_at world conn ≡ Some (record { at = node; given = given }) → front_at world node ≡ None → (law : KeepsLaw config heard world)
-    → ((other : ℕ) → after other ≡ heard other) → KeepsOn config law.story after (comes world node input)
+    → ((other : ℕ) → after other ≡ heard other) → KeepsOn config law.story law.stops after (comes world node input)
 unfolding as_front as_back as_master
 elsewhere_by config heard after world node conn input given None e is serves at none law same =
-    subst (λ w. KeepsOn config law.story after w) (sym (none_comes world node input e)) (same_kept config heard after world same law)
+    subst (λ w. KeepsOn config law.story law.stops after w) (sym (none_comes world node input e)) (same_kept config heard after world same law)
 elsewhere_by config heard after world node conn input given (Some (state.Front front)) e is serves at none law same =
     absurd (let no : Some front ≡ None = sym (ap as_front e) ∙ none in cc)
 elsewhere_by config heard after world node conn input given (Some (state.Back home)) e is serves at none law same =
-    subst (λ w. KeepsOn config law.story after w) (sym (home_put world node home input conn law.whole (ap as_back e) is))
+    subst (λ w. KeepsOn config law.story law.stops after w) (sym (home_put world node home input conn law.whole (ap as_back e) is))
     (put_kept config heard after world node (state.Back home) e same law)
 elsewhere_by config heard after world node conn input given (Some (state.Master master)) e is serves at none law same =
     let its : node ≡ master_of config = law.nodes.only node master (ap as_master e) in
-    subst (λ n. KeepsOn config law.story after (comes world n input)) (sym its)
+    subst (λ n. KeepsOn config law.story law.stops after (comes world n input)) (sym its)
     (serves heard after world conn input given is (at ∙ ap (λ n. Some (record { at = n; given = given })) its) law same)
 
 pub elsewhere_kept : (config : Config) (heard after : ℕ → Heard) (world : World) (node : List ℕ) (conn : ℕ) (input : NodeInput) (given : List ℕ)
     → IsOfConnection conn input → MasterServes config
     → client_at world conn ≡ Some (record { at = node; given = given }) → front_at world node ≡ None → (law : KeepsLaw config heard world)
-    → ((other : ℕ) → after other ≡ heard other) → KeepsOn config law.story after (comes world node input)
+    → ((other : ℕ) → after other ≡ heard other) → KeepsOn config law.story law.stops after (comes world node input)
 elsewhere_kept config heard after world node conn input given is serves at none law same =
     elsewhere_by config heard after world node conn input given (node_at world node) refl is serves at none law same

@@ -39,7 +39,7 @@ module _ (config : Config) (heard : ℕ → Heard) (world : World) (law : KeepsL
     (fits : NumbersFit heard) (from to : List ℕ) (message : LinkMsg) (rest : List LinkMsg) (first : on_link world.links from to ≡ message ∷ rest)
     (moves : MovesBy law.story.talk.moving world.steps (table_at (comes (taken_from_link world from to) to (From from message)) (master_of config))) where
   abbrev Keeps : List ℕ → Type 0
-  Keeps node = KeepsOn config law.story heard (comes (taken_from_link world from node) node (From from message))
+  Keeps node = KeepsOn config law.story law.stops heard (comes (taken_from_link world from node) node (From from message))
 
   -- the master's table behind the step
   master_table : master_at world to ≡ Some law.master
@@ -67,6 +67,6 @@ module _ (config : Config) (heard : ℕ → Heard) (world : World) (law : KeepsL
 pub delivered_keeps : (config : Config) (heard : ℕ → Heard) (world : World) (law : KeepsLaw config heard world) → StandsBeside config world
     → NumbersFit heard → (from to : List ℕ) (message : LinkMsg) (rest : List LinkMsg) → on_link world.links from to ≡ message ∷ rest
     → MovesBy law.story.talk.moving world.steps (table_at (comes (taken_from_link world from to) to (From from message)) (master_of config))
-    → KeepsOn config law.story heard (comes (taken_from_link world from to) to (From from message))
+    → KeepsOn config law.story law.stops heard (comes (taken_from_link world from to) to (From from message))
 delivered_keeps config heard world law beside fits from to message rest first moves =
     keeps_by config heard world law beside fits from to message rest first moves (node_at world to) refl

@@ -79,7 +79,7 @@ stepped_beside config world beside = record { watchers = beside.watchers; names 
 first_keeps : (config : Config) (heard : ℕ → Heard) (world : World) (law : KeepsLaw config heard world) → StandsBeside config world → NumbersFit heard
     → (from to : List ℕ) (found : List LinkMsg) → on_link world.links from to ≡ found
     → MovesBy law.story.talk.moving world.steps (table_at (deliver_first world from to found) (master_of config))
-    → KeepsOn config law.story heard (deliver_first world from to found)
+    → KeepsOn config law.story law.stops heard (deliver_first world from to found)
 unfolding deliver_first
 first_keeps config heard world law beside fits from to [] first moves = same_kept config heard heard world (λ conn. refl) law
 first_keeps config heard world law beside fits from to (message ∷ rest) first moves =

@@ -187,7 +187,7 @@ module _ (config : Config) (heard : ℕ → Heard) (world : World) (law : KeepsL
       (same_name_or from me)
 
   keeps_by : (message : LinkMsg) → on_link world.links from to ≡ message ∷ rest → MessageNamesBackend (home_at world) message
-      → KeepsOn config law.story heard (comes (taken_from_link world from to) to (From from message))
+      → KeepsOn config law.story law.stops heard (comes (taken_from_link world from to) to (From from message))
   keeps_by message first names =
       let kept = kept_by message first names in
       front_takes_keep config heard world law from to front message there (record { rest = rest; first = first; many = kept.many; feeds = kept.feeds })
@@ -198,7 +198,7 @@ abbrev pub ToFrontKeeps : Type 0
 ToFrontKeeps = (config : Config) (heard : ℕ → Heard) (world : World) (law : KeepsLaw config heard world) (from to : List ℕ) (front : Front)
     (message : LinkMsg) (rest : List LinkMsg) → front_at world to ≡ Some front → on_link world.links from to ≡ message ∷ rest
     → MessageNamesBackend (home_at world) message → NumbersFit heard
-    → KeepsOn config law.story heard (comes (taken_from_link world from to) to (From from message))
+    → KeepsOn config law.story law.stops heard (comes (taken_from_link world from to) to (From from message))
 
 pub to_front_keeps : ToFrontKeeps
 to_front_keeps config heard world law from to front message rest there first names fits =

@@ -39,7 +39,7 @@ module _ (config : Config) (heard : ℕ → Heard) (world : World) (law : KeepsL
   step : StepKeeps config heard world law next
   step = home_step_keeps config heard world law from to node message rest (asked_fit config heard world law fits) there first
 
-  keeps : KeepsOn config law.story heard next
+  keeps : KeepsOn config law.story law.stops heard next
   keeps = record {
     law = record {
       master = law.master;
@@ -62,10 +62,10 @@ module _ (config : Config) (heard : ℕ → Heard) (world : World) (law : KeepsL
 abbrev pub ToHomeKeeps : Type 0
 ToHomeKeeps = (config : Config) (heard : ℕ → Heard) (world : World) (law : KeepsLaw config heard world) (from to : List ℕ) (node : BackNode)
     (message : LinkMsg) (rest : List LinkMsg) → home_at world to ≡ Some node → on_link world.links from to ≡ message ∷ rest → NumbersFit heard
-    → KeepsOn config law.story heard (comes (taken_from_link world from to) to (From from message))
+    → KeepsOn config law.story law.stops heard (comes (taken_from_link world from to) to (From from message))
 
 pub to_home_keeps : ToHomeKeeps
 to_home_keeps config heard world law from to node message rest there first fits =
     let put : World = wrote world to (state.Back node) (From from message) in
-    subst (λ w. KeepsOn config law.story heard w) (sym (home_comes (taken_from_link world from to) to (From from message) node law.whole there))
+    subst (λ w. KeepsOn config law.story law.stops heard w) (sym (home_comes (taken_from_link world from to) to (From from message) node law.whole there))
     (keeps config heard put (disks_law config heard world put.disks law) from to node message rest there first fits)

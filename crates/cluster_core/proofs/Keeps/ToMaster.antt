@@ -57,7 +57,7 @@ module _ (config : Config) (heard : ℕ → Heard) (world : World) (law : KeepsL
   feeds_by (inr home) =
       master_takes_feeds config world law.master law.nodes law.feeds law.given law.story.course.store law.many from home.0 home.1 message rest first
 
-  keeps : IsOne world from → KeepsOn config law.story heard next
+  keeps : IsOne world from → KeepsOn config law.story law.stops heard next
   keeps is = record {
     law = record {
       master = says.master;
@@ -81,12 +81,12 @@ abbrev pub ToMasterKeeps : Type 0
 ToMasterKeeps = (config : Config) (heard : ℕ → Heard) (world : World) (law : KeepsLaw config heard world) (from : List ℕ) (message : LinkMsg)
     (rest : List LinkMsg) → on_link world.links from (master_of config) ≡ message ∷ rest → NumbersFit heard → WatchersAreIts config world law.master
     → MovesBy law.story.talk.moving world.steps (node_says law.master from message).master.table → IsOne world from
-    → KeepsOn config law.story heard (comes (taken_from_link world from (master_of config)) (master_of config) (From from message))
+    → KeepsOn config law.story law.stops heard (comes (taken_from_link world from (master_of config)) (master_of config) (From from message))
 
 pub to_master_keeps : ToMasterKeeps
 to_master_keeps config heard world law from message rest first fits watchers moves is =
     let name : List ℕ = master_of config in
     let put : World = wrote world name (state.Master law.master) (From from message) in
-    subst (λ w. KeepsOn config law.story heard w)
+    subst (λ w. KeepsOn config law.story law.stops heard w)
     (sym (master_comes (taken_from_link world from name) name (From from message) law.master law.whole law.nodes.is_there))
     (keeps config heard put (disks_law config heard world put.disks law) from message rest first fits watchers moves is)

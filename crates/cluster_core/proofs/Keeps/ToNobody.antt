@@ -77,21 +77,21 @@ module _ (config : Config) (heard : ℕ → Heard) (world : World) (law : KeepsL
     steps = omega arith;
   }
 
-  keeps : KeepsOn config law.story heard next
+  keeps : KeepsOn config law.story law.stops heard next
   keeps =
       still_kept config heard heard world next law.master alike (λ conn. refl) law
       (lost_nodes config world law.master law.nodes from to front_none home_none apart)
       (lost_many config world law.master law.nodes from to front_none home_none apart law.given law.story.course.store law.many)
       (lost_feeds config world law.master law.nodes from to front_none home_none apart law.feeds)
 
-  comes_so : KeepsOn config law.story heard (comes next to (From from message))
-  comes_so = subst (λ w. KeepsOn config law.story heard w) (sym (none_comes next to (From from message) none)) keeps
+  comes_so : KeepsOn config law.story law.stops heard (comes next to (From from message))
+  comes_so = subst (λ w. KeepsOn config law.story law.stops heard w) (sym (none_comes next to (From from message) none)) keeps
 
 -- A MESSAGE IS DELIVERED WHERE NO NODE IS
 abbrev pub ToNobodyKeeps : Type 0
 ToNobodyKeeps = (config : Config) (heard : ℕ → Heard) (world : World) (law : KeepsLaw config heard world) (from to : List ℕ) (message : LinkMsg)
     (rest : List LinkMsg) → node_at world to ≡ None → on_link world.links from to ≡ message ∷ rest
-    → KeepsOn config law.story heard (comes (taken_from_link world from to) to (From from message))
+    → KeepsOn config law.story law.stops heard (comes (taken_from_link world from to) to (From from message))
 
 pub to_nobody_keeps : ToNobodyKeeps
 to_nobody_keeps config heard world law from to message rest none first = comes_so config heard world law from to message rest none first

@@ -29,7 +29,7 @@ not_elsewhere came shut e = (let no : false ≡ true = sym (ap has_closed e) ∙
 
 -- what a client was given is the transcript of what was heard of it and of what it was told
 step_gives : (config : Config) (now then : ℕ → Heard) (world next : World) (conn : ℕ) (law : KeepsLaw config now world)
-    → KeepsOn config law.story then next → then conn ≡ now conn → has_closed (now conn) ≡ true → given_to next conn ≡ given_to world conn
+    → KeepsOn config law.story law.stops then next → then conn ≡ now conn → has_closed (now conn) ≡ true → given_to next conn ≡ given_to world conn
 step_gives config now then world next conn law on same shut =
     let was = says_of config now world law conn in
     let is = says_of config then next on.law conn in

@@ -27,7 +27,7 @@ pub record EachKeeps (config : Config) (steps : List Event) : Type 0 where
   pub moves : TellsMoves config steps [] first
   pub next : (before : List Event) (event : Event) (later : List Event) → steps ≡ before ++ event ∷ later → (law : LawBehind config before)
       → TellsMoves config steps before law
-      → KeepsOn config law.story (λ conn. heard config conn (before ++ event ∷ [])) (run_steps (start config) (before ++ event ∷ []))
+      → KeepsOn config law.story law.stops (λ conn. heard config conn (before ++ event ∷ [])) (run_steps (start config) (before ++ event ∷ []))
 
 -- the law behind some of the steps of a run in which this will have been said
 pub record IsKeptAt (config : Config) (all : List Event) (talk : Talk) (steps : List Event) : Type 0 where

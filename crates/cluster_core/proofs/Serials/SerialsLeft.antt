@@ -65,7 +65,7 @@ record HasCounted (config : Config) (world : World) (story : Tale) : Type 0 wher
   each : (conn : ℕ) → CountedIn config world story conn (times conn reserved)
 
 module _ (config : Config) (came : ℕ → Heard) (world : World) (law : KeepsLaw config came world) (fits : NumbersFit came) where
-  step_on : (event : Event) (then : ℕ → Heard) (next : World) → next ≡ steps_by world event → (on : KeepsOn config law.story then next)
+  step_on : (event : Event) (then : ℕ → Heard) (next : World) → next ≡ steps_by world event → (on : KeepsOn config law.story law.stops then next)
       → HasCounted config world law.story → HasCounted config next on.law.story
   step_on event then next same on counted =
       let step = stepped_law config came world law in

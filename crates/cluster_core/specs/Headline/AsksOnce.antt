@@ -1,4 +1,4 @@
--- When a frontend asks a server: in the very step in which a command comes to wait for that server's answer, and once.
+-- When a frontend asks a server: in the very step in which a command comes to wait for that server's answer, and once. On a broken link the ask is lost.
 use Rattle.std.specs.Prelude.{◌≡◌, ℕ, ◌+◌, ◌==◌, ◌&&◌, Bool, false, List, [], ◌∷◌, ◌++◌, count_by, Option, Some}
 use Rattle.asking_core.specs.declared.waiting.At.TheVariants.{Home}
 use Rattle.asking_core.specs.declared.waiting.Waiting.{Waiting}
@@ -10,6 +10,7 @@ use Rattle.imap_types.specs.declared.command.Tag.{Tag}
 use Rattle.link_msg.specs.declared.answer.AnswerBody.TheVariants.{Moved}
 use Rattle.link_msg.specs.declared.message.LinkMsg.{LinkMsg}
 use Rattle.link_msg.specs.declared.message.LinkMsg.TheVariants.{Ask, Answer}
+use Rattle.link_queue.specs.Broken.{is_broken}
 use Rattle.link_queue.specs.Links.{on_link}
 use Rattle.mur_base.specs.declared.point.AskId.{AskId}
 use Rattle.mur_config.specs.declared.config.Config.{Config}
@@ -54,9 +55,10 @@ pub record AsksAsItWaits (event : Event) (before after : World) (node server : L
   pub once : ComesToWait event before after node server id → count ≡ 1
   pub never : (ComesToWait event before after node server id → ⊥) → count ≡ 0
 
--- so it is with each command, in what the node that works in a step sends to a server
+-- so it is with each command, in what the node that works in a step sends to a server over a link that isn't broken
 abbrev pub AsksInTheStep : Event → World → World → Type 0
 AsksInTheStep event before after = (node server : List ℕ) (sent : List LinkMsg) (id : AskId) → worker before event ≡ Some node
+    → is_broken before.broken node server ≡ false
     → on_link after.links node server ≡ leaves_on event node server (on_link before.links node server) ++ sent
     → AsksAsItWaits event before after node server id (count_by (is_ask_of id) sent)
 

@@ -1,7 +1,8 @@
 -- Nothing waits on empty links: where no message is on its way, each whole command was answered, up to an answer that ended
--- its connection.
-use Rattle.std.specs.Prelude.{◌≡◌, ℕ, false, List, ◌++◌}
-use Rattle.imap_talk.specs.Transcript.{transcript_of}
+-- its connection, or to one that was lost with a link.
+use Rattle.std.specs.Prelude.{◌≡◌, ◌⊎◌, ℕ, false, List, ◌++◌}
+use Rattle.imap_talk.specs.Transcript.{Stop, transcript_till}
+use Rattle.imap_talk.specs.Transcript.Stop.{is_lost}
 use Rattle.mur_config.specs.declared.config.Config.{Config}
 use Rattle.mur_config.specs.Nodes.{AreNodes}
 use Rattle.imap_types.specs.declared.request.Request.{Request}
@@ -20,13 +21,15 @@ use Rattle.imap_talk.specs.Requests.{AreRequests}
 use Rattle.cluster_core.specs.Shown.{given_to}
 use Rattle.cluster_core.specs.World.{start}
 
--- behind these steps the client was given an answer to each whole command that it sent, or one that ended its connection
+-- behind these steps the client was given an answer to each whole command that it sent, or one that ended its connection, or the line that its command is
+-- lost
 pub record IsAnswered (config : Config) (conn : ℕ) (steps : List Event) (world : World) : Type 0 where
   pub requests : List Request
   pub answers : List Answer
+  pub stop : Stop
   pub asked : AreRequests (law_setting config) (frames_heard (heard config conn steps)) requests
-  pub given : given_to world conn ≡ transcript_of (law_setting config) (bytes_heard (heard config conn steps)) answers
-  pub each : IsAnsweredThrough requests answers
+  pub given : given_to world conn ≡ transcript_till stop (law_setting config) (bytes_heard (heard config conn steps)) answers
+  pub each : IsAnsweredThrough requests answers ⊎ (stop ≡ is_lost)
 
 -- of each client that doesn't talk with the master and hasn't closed its connection
 abbrev pub NothingWaits : Config → List Event → World → Type 0

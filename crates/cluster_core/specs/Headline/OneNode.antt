@@ -1,16 +1,19 @@
--- One node works in a step, as one machine does in a network: it takes what came to it, writes to its disk, sends, and gives bytes to its own clients.
-use Rattle.std.specs.Prelude.{◌≡◌, ◌≢◌, ℕ, ◌+◌, ◌==◌, if◌then◌else◌, List, [], ◌∷◌, ◌++◌, drop, Contains, Option, None, Some}
+-- One node works in a step, as one machine does in a network: it takes what came to it, writes to its disk, sends, and gives bytes to its own clients. Where
+-- a link breaks or comes up no node works.
+use Rattle.std.specs.Prelude.{◌≡◌, ◌≢◌, ℕ, ◌+◌, ◌==◌, Bool, true, false, ◌||◌, if◌then◌else◌, List, [], ◌∷◌, ◌++◌, drop, take, Contains, Option, None, Some}
 use Rattle.link_msg.specs.declared.message.LinkMsg.{LinkMsg}
+use Rattle.link_msg.specs.declared.message.LinkMsg.TheVariants.{Up, End}
+use Rattle.link_queue.specs.Broken.{is_broken}
 use Rattle.mur_config.specs.declared.config.Config.{Config}
 use Rattle.mur_config.specs.Nodes.{AreNodes, links_of}
 use Rattle.schedule_text.specs.declared.event.Event.{Event}
-use Rattle.schedule_text.specs.declared.event.Event.TheVariants.{Open, Data, Hang, Deliver}
+use Rattle.schedule_text.specs.declared.event.Event.TheVariants.{Open, Data, Hang, Deliver, Cut, Join}
 use Rattle.cluster_core.specs.declared.world.Client.{Client}
 use Rattle.cluster_core.specs.declared.layout.Layout.{Layout}
 use Rattle.cluster_core.specs.declared.world.World.{World}
 use Rattle.cluster_core.specs.Flow.{run_steps, steps_of_event, steps_of_run}
 use Rattle.link_queue.specs.Links.{same_link, on_link}
-use Rattle.cluster_core.specs.World.{start, client_at, disk_at, node_at}
+use Rattle.cluster_core.specs.World.{start, client_at, disk_at, may_cut, may_join, node_at}
 
 -- the node at which a client is connected
 abbrev pub node_of : Option Client → Option (List ℕ)
@@ -48,10 +51,49 @@ pub record OnlyWorks (event : Event) (node : List ℕ) (before after : World) : 
   pub clients : (conn : ℕ) → node_of (client_at after conn) ≡ connected event conn (node_of (client_at before conn))
   pub stays : (from to : List ℕ) → from ≢ node → on_link after.links from to ≡ leaves_on event from to (on_link before.links from to)
   pub sends : (to : List ℕ) → WasSent (leaves_on event node to (on_link before.links node to)) (on_link after.links node to)
+  -- what it sends on a broken link is lost
+  pub lost : (to : List ℕ) → is_broken before.broken node to ≡ true → on_link after.links node to ≡ leaves_on event node to (on_link before.links node to)
+  pub broken : after.broken ≡ before.broken
 
--- where no node works, nothing changes but the count of steps
+-- ---- a link breaks, or comes up
+
+abbrev pub are_both : List ℕ → List ℕ → List ℕ → List ℕ → Bool
+are_both one other from to = same_link from to one other || same_link from to other one
+
+-- whether it does in this event
+abbrev pub relinks : World → Event → Bool
+relinks world (Cut one other kept kept_back) = may_cut world one other
+relinks world (Join one other) = may_join world one other
+relinks world event = false
+
+-- what stands on a link then: of one that breaks so many messages, and End behind them; on one that comes up Up
+abbrev pub relinked : Event → List ℕ → List ℕ → List LinkMsg → List LinkMsg
+relinked (Cut one other kept kept_back) from to queue =
+    if same_link from to one other then take kept queue ++ End ∷ []
+    else if same_link from to other one then take kept_back queue ++ End ∷ []
+    else queue
+relinked (Join one other) from to queue = if are_both one other from to then queue ++ Up ∷ [] else queue
+relinked event from to queue = queue
+
+-- and whether it is broken
+abbrev pub is_broken_then : Event → List ℕ → List ℕ → Bool → Bool
+is_broken_then (Cut one other kept kept_back) from to was = are_both one other from to || was
+is_broken_then (Join one other) from to was = if are_both one other from to then false else was
+is_broken_then event from to was = was
+
+-- the links alone are other ones
+pub record OnlyLinksChange (event : Event) (before after : World) : Type 0 where
+  pub rest : after ≡ record before { steps = after.steps; links = after.links; broken = after.broken }
+  pub queues : (from to : List ℕ) → on_link after.links from to ≡ relinked event from to (on_link before.links from to)
+  pub broken : (from to : List ℕ) → is_broken after.broken from to ≡ is_broken_then event from to (is_broken before.broken from to)
+
+-- where no link changes either, nothing does but the count of steps
+abbrev pub ChangesLinks : Bool → Event → World → World → Type 0
+ChangesLinks true event before after = OnlyLinksChange event before after
+ChangesLinks false event before after = after ≡ record before { steps = after.steps }
+
 abbrev pub WorksBy : Event → Option (List ℕ) → World → World → Type 0
-WorksBy event None before after = after ≡ record before { steps = after.steps }
+WorksBy event None before after = ChangesLinks (relinks before event) event before after
 WorksBy event (Some node) before after = OnlyWorks event node before after
 
 pub record OneNodeWorks (event : Event) (before after : World) : Type 0 where

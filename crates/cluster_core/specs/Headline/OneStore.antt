@@ -1,9 +1,9 @@
 -- The one-store law: what each client was given is what one mailbox store replies to the printed history, at every step.
-use Rattle.std.specs.Prelude.{◌≡◌, ◌⊎◌, ℕ, ◌+◌, ◌≤◌, true, false, List, [], ◌++◌, length, Option, None, Some, IfSome, All, AllPairs}
+use Rattle.std.specs.Prelude.{◌≡◌, ◌⊎◌, ℕ, ◌+◌, ◌≤◌, true, false, List, [], ◌∷◌, ◌++◌, length, Option, None, Some, IfSome, All, AllPairs}
 use Rattle.std.specs.List.{list_any}
 use Rattle.mail_store.specs.Kept.{AreUidsBelowNext}
-use Rattle.imap_talk.specs.Transcript.{transcript_of, ends}
-use Rattle.imap_talk.specs.Transcript.Stop.{silent}
+use Rattle.imap_talk.specs.Transcript.{Stop, transcript_till, ends}
+use Rattle.imap_talk.specs.Transcript.Stop.{is_lost, silent}
 use Rattle.imap_talk.specs.TranscriptRead.{IsAllReadTill}
 use Rattle.mail_message.specs.Boxes.{Content, IsRising}
 use Rattle.mark_history.specs.FirstCourse.{first_course}
@@ -24,6 +24,7 @@ use Rattle.mur_model.specs.declared.store.Store.{Store}
 use Rattle.mur_model.specs.History.{Course, Talk, TalkGoesOn, IsLegal}
 use Rattle.mur_model.specs.Store.{box_at}
 use Rattle.schedule_text.specs.declared.event.Event.{Event}
+use Rattle.schedule_text.specs.declared.event.Event.TheVariants.{Cut}
 use Rattle.cluster_core.specs.declared.world.World.{World}
 use Rattle.store_law.specs.Begun.{BeginsAsRead}
 use Rattle.store_law.specs.Logins.{BeginsByLogin}
@@ -96,6 +97,16 @@ pub record StandsInTime (talk : Talk) (now : ℕ) (points : List Point) : Type 0
   pub behind_command : All (λ (point : Point). point.step ≤ now → point.ask.command ≤ length (talk.requests point.ask.conn)) points
   pub before_reply : All (λ (point : Point). point.ask.command ≤ length (talk.answers point.ask.conn) → point.step ≤ now) points
 
+-- a link has broken in these steps
+pub record HasCut (steps : List Event) : Type 0 where
+  pub before : List Event
+  pub one : List ℕ
+  pub other : List ℕ
+  pub kept : ℕ
+  pub kept_back : ℕ
+  pub later : List Event
+  pub parts : steps ≡ before ++ Cut one other kept kept_back ∷ later
+
 -- after these steps of a run whose whole history is this: so far the clients asked and were answered a front of what they are
 -- in the whole run; each client was given its transcript; and one store that takes the requests of the points one at a time, in
 -- each session's order, gave these answers and has the mailboxes that the homes have
@@ -103,17 +114,20 @@ pub record IsToldSoFar (config : Config) (talk : Talk) (points : List Point) (st
   pub so_far : Talk
   pub goes_on : TalkGoesOn so_far talk
   pub asked : (conn : ℕ) → AreRequests (law_setting config) (frames_heard (heard config conn steps)) (so_far.requests conn)
+  -- where what a client is given stops: silently, or with the line that its command is lost
+  pub stops : ℕ → Stop
   -- of each client that doesn't talk with the master
   pub given : (conn : ℕ) → is_guest (guest_of config conn steps) ≡ false
-      → given_to world conn ≡ transcript_of (law_setting config) (bytes_heard (heard config conn steps)) (so_far.answers conn)
+      → given_to world conn ≡ transcript_till (stops conn) (law_setting config) (bytes_heard (heard config conn steps)) (so_far.answers conn)
   -- no text of a user forges a reply: each client reads just the greeting, the continuations and the lines of these answers
   pub read : (conn : ℕ) → is_guest (guest_of config conn steps) ≡ false
-      → IsAllReadTill silent (law_setting config) (given_to world conn) (bytes_heard (heard config conn steps)) (so_far.answers conn)
+      → IsAllReadTill (stops conn) (law_setting config) (given_to world conn) (bytes_heard (heard config conn steps)) (so_far.answers conn)
   pub ends_only_last : (conn : ℕ) → EndsOnlyLast (so_far.answers conn)
   pub last : Course
   pub legal : IsLegal (law_setting config) first_course so_far (history_of world) last
-  -- no link breaks, so no server isn't reached
-  pub reached : All IsReached (history_of world)
+  -- before any link has broken no command is lost to its client, and each server is reached
+  pub stops_late : HasCut steps ⊎ ((conn : ℕ) → stops conn ≡ silent)
+  pub reached : HasCut steps ⊎ All IsReached (history_of world)
   pub refusals : HaveCauses so_far (history_of world)
   pub one_content : HasBoxesOf config last.store world
   pub rights : HasItsRights config last.store world
@@ -146,11 +160,11 @@ pub record IsToldSoFar (config : Config) (talk : Talk) (points : List Point) (st
   -- steps count from 1: the last one has the number of the steps made
   pub counted : world.steps ≡ length steps
   -- nothing waits on empty links: then each whole command of a client that hasn't closed its connection was answered, up to an
-  -- answer that ended the connection
+  -- answer that ended the connection, or to a command that was lost
   pub nothing_waits : AreEmpty world → (conn : ℕ) → has_closed (heard config conn steps) ≡ false
-      → IsAnsweredThrough (so_far.requests conn) (so_far.answers conn)
+      → IsAnsweredThrough (so_far.requests conn) (so_far.answers conn) ⊎ (stops conn ≡ is_lost)
   -- and whatever is on its way: of a client that hasn't closed its connection the first whole command that wasn't answered waits
-  pub next_waits : (conn : ℕ) → has_closed (heard config conn steps) ≡ false → (IsAnsweredThrough (so_far.requests conn) (so_far.answers conn) → ⊥)
+  pub next_waits : (conn : ℕ) → has_closed (heard config conn steps) ≡ false → stops conn ≡ silent → (IsAnsweredThrough (so_far.requests conn) (so_far.answers conn) → ⊥)
       → IsWaitedFor world (record { conn = conn; command = length (so_far.answers conn) + 1 })
 
 -- at every step, each delivery of a flow being one; so a point stands at a step that is not before the one whose bytes
