@@ -1,5 +1,5 @@
 -- Which step is the point of a command: one in which a backend takes its ask for a mailbox's messages or the master takes a line under its tag, or one in
--- which its frontend answers it alone. A LIST asks no backend: the point of one that tells names is the step in which the master takes its NOOP; of one that
+-- which its frontend answers it alone, or refuses it as a node isn't reached. A LIST asks no backend: the point of one that tells names is the step in which the master takes its NOOP; of one that
 -- asks for the separator alone, or whose session may not list, its frontend's own. A step that carries it out counts though its client is never told: a
 -- backend says so in its answer, and the master makes a mailbox or takes one away.
 use Rattle.std.specs.Prelude.{◌≡◌, ◌≢◌, ℕ, ◌+◌, ◌≤◌, ◌<◌, Bool, true, false, List, [], ◌∷◌, ◌++◌, length, All, Contains, Some}
@@ -17,12 +17,13 @@ use Rattle.link_msg.specs.declared.answer.AnswerBody.TheVariants.{Done}
 use Rattle.link_msg.specs.declared.ask.FrontAsk.{FrontAsk}
 use Rattle.link_msg.specs.declared.message.LinkMsg.{LinkMsg}
 use Rattle.link_msg.specs.declared.message.LinkMsg.TheVariants.{Line, Ask, Answer}
+use Rattle.link_queue.specs.Broken.{is_broken}
 use Rattle.link_queue.specs.Links.{on_link}
 use Rattle.mupdate_codec.specs.Asks.{line_ask}
 use Rattle.mur_base.specs.declared.point.AskId.{AskId}
 use Rattle.mur_base.specs.declared.point.Point.{Point}
 use Rattle.mur_base.specs.declared.point.What.{What}
-use Rattle.mur_base.specs.declared.point.What.TheVariants.{Reply as replied, Lost as lost}
+use Rattle.mur_base.specs.declared.point.What.TheVariants.{Reply as replied, Lost as lost, Unreached as unreached}
 use Rattle.mur_config.specs.declared.config.Config.{Config}
 use Rattle.mur_model.specs.History.{Talk, numbered}
 use Rattle.node_record.specs.Table.{is_mailbox_if, record_at}
@@ -118,12 +119,14 @@ pub data Does (config : Config) (steps : List Event) (taken : Taken config steps
   only_answers : what ≢ lost → table_at (run_steps (start config) (taken.before ++ Deliver taken.from taken.to ∷ [])) (master_of config)
       ≡ table_at (run_steps (start config) taken.before) (master_of config) → Does config steps taken what
 
--- a point stands where a step works on its command; or the frontend of its client answered it there alone, and no step works on it
+-- a point stands where a step works on its command; or the frontend of its client answered it there alone, and no step works on it; or refused it there, since
+-- a node isn't reached
 pub data StandsAt (config : Config) (steps : List Event) (point : Point) : Type 0 where
   where_taken : (taken : Taken config steps) → IsStepOf config steps point.ask taken → point.step ≡ length taken.before + 1
       → Does config steps taken point.what → StandsAt config steps point
   at_frontend : point.what ≡ replied → IsAtItsNode config steps (point.ask).conn point.step
       → ((taken : Taken config steps) → IsStepOf config steps point.ask taken → ⊥) → StandsAt config steps point
+  not_reached : (node : List ℕ) → point.what ≡ unreached node → IsAtItsNode config steps (point.ask).conn point.step → StandsAt config steps point
 
 abbrev pub point_at : ℕ → AskId → What → Point
 point_at step ask what = record { step = step; ask = ask; what = what }
@@ -141,9 +144,9 @@ pub record IsOnlySeen (talk : Talk) (points : List Point) (step : ℕ) (id : Ask
 -- what becomes of an ask for messages that is taken, in the history of these steps, where so much was told
 pub record AnswersAsk (config : Config) (talk : Talk) (steps : List Event) (points : List Point) (taken : Taken config steps) (ask : FrontAsk) : Type 0 where
   pub is_home : IsBackend config taken.to
-  -- the backend answers in that step
+  -- the backend answers in that step; on a broken link its answer is lost
   pub body : AnswerBody
-  pub answers : on_link (run_steps (start config) (taken.before ++ Deliver taken.from taken.to ∷ [])).links taken.to taken.from
+  pub answers : is_broken (run_steps (start config) taken.before).broken taken.to taken.from ≡ false → on_link (run_steps (start config) (taken.before ++ Deliver taken.from taken.to ∷ [])).links taken.to taken.from
       ≡ on_link (run_steps (start config) taken.before).links taken.to taken.from ++ Answer (record { id = ask.id; body = body }) ∷ []
   -- it carries out the command exactly where it has the name open before the step, and that step is the command's point
   pub where_open : says_done body ≡ true → IsOpenAt (run_steps (start config) taken.before) ask.name taken.to
