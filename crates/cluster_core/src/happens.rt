@@ -1,5 +1,6 @@
 // What each event does.
-ghost use Rattle.std.specs.Prelude.{◌≡◌, ◌+◌, ◌<◌, ◌^◌, OnOk, IfSome};
+ghost use Rattle.std.specs.Prelude.{◌≡◌, ◌+◌, ◌<◌, ◌≤◌, ◌^◌, length, OnOk, IfSome};
+ghost use Rattle.schedule_text.specs.Brings.{most_links};
 ghost use Rattle.schedule_text.specs.declared.event.Event.TheVariants.{Open, Data, Hang};
 ghost use Rattle.node_step.specs.Room.{HasRoomToTake};
 ghost use Rattle.cluster_core.specs.Room.{HasRoom};
@@ -8,7 +9,9 @@ ghost use Rattle.cluster_core.specs.Flow.{happens};
 
 use crate::coming::comes;
 use crate::delivery::deliver;
+use crate::breaks::{cut, join};
 use crate::flow::flow;
+use crate::heal::heal;
 use crate::layout::Layout;
 use crate::world::{Client, World};
 use mur_base::{Bytes, Memory, NodeName};
@@ -16,7 +19,7 @@ use node_step::NodeInput;
 use schedule_text::Event;
 use std::alloc::Global;
 
-/// Carries an event out; one of links that break or of disks is a step that changes nothing else. For want of memory the world is spent.
+/// Carries an event out; one of disks or of a crash is a step that changes nothing else. For want of memory the world is spent.
 #[tactic(auto, unfolding(crate::specs::Flow::happens, crate::specs::World::takes))]
 pub fn happens(
     alloc: Global,
@@ -24,7 +27,8 @@ pub fn happens(
     world: &mut World,
     event: Event,
 ) -> Result<(), Memory>
-    requires { HasRoom world.old event }
+    requires room { HasRoom world.old event }
+    requires links { length layout.now.pairs ≤ most_links }
     ensures { OnOk result (world.new ≡ happens layout.now world.old event) }
 {
     match event {
@@ -33,7 +37,10 @@ pub fn happens(
         Event::Data(conn, bytes) => data(alloc, world, conn, bytes),
         Event::Hang(conn) => hang(alloc, world, conn),
         Event::Deliver(from, to) => deliver(alloc, world, &from, &to),
-        _ => {
+        Event::Cut(one, other, kept, kept_back) => cut(alloc, world, &one, &other, kept, kept_back),
+        Event::Join(one, other) => join(alloc, world, &one, &other),
+        Event::Heal => heal(alloc, layout, world),
+        Event::Crash(..) | Event::Arm(..) | Event::Start(_) => {
             world.steps += 1;
             Ok(())
         }

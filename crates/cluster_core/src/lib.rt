@@ -2,12 +2,14 @@
 //! given to each client and its homes can be read at every moment.
 #![tactic(auto)]
 
+mod breaks;
 mod carry;
 mod cluster;
 mod coming;
 mod delivery;
 mod flow;
 mod happens;
+mod heal;
 mod history;
 mod homes;
 mod layout;

@@ -33,7 +33,7 @@ pub struct World {
     pub disks: Disks,
     /// The clients, by the numbers of their connections.
     pub clients: Map<u64, Client>,
-    /// The links that are broken; none is.
+    /// The links that are broken.
     pub broken: Broken,
     /// The messages on their way.
     pub links: Links<LinkMsg>,

@@ -3,9 +3,9 @@ use Rattle.std.specs.Prelude.{ℕ, ◌+◌, List, [], ◌∷◌, length}
 use Rattle.schedule_text.specs.declared.event.Event.{Event}
 use Rattle.schedule_text.specs.declared.event.Event.TheVariants.{Data, Flow, Heal}
 
--- the pairs of 17 nodes that a link may join: the master with 16, 8 frontends with 8 backends, and 8 backends with one another
+-- the directed pairs of 17 nodes: no configuration links more
 abbrev pub most_links : ℕ
-most_links = 108
+most_links = 289
 
 -- each delivery of a flow is a step, and each join of a heal; every event is one at most besides
 unfoldable pub steps_of : Event → ℕ
