@@ -1,4 +1,5 @@
 -- What comes to a node is one step of it, and the nodes stay what they are.
+pub mod AllCome
 pub mod Carried
 pub mod Comes
 pub mod Known

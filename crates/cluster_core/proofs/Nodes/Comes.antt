@@ -65,7 +65,7 @@ front_does front (Piece conn bytes) = bytes_in front conn bytes
 front_does front (Hung conn) = front_still (hang front conn)
 front_does front (From name message) = deliver front name message
 
-front_step : (world : World) (node : List ℕ) (front : Front) (input : NodeInput)
+pub front_step : (world : World) (node : List ℕ) (front : Front) (input : NodeInput)
     → made (wrote world node (state.Front front) input) node (node_takes (state.Front front) input).state (node_takes (state.Front front) input).outs
     ≡ with_front world node (front_does front input)
 unfolding node_takes front_takes written
@@ -85,7 +85,7 @@ abbrev pub home_does : BackNode → NodeInput → BackActed
 home_does home (From name message) = home_step home name message
 home_does home input = record { state = home; entry = None; outs = [] }
 
-back_step : (world : World) (node : List ℕ) (home : BackNode) (input : NodeInput)
+pub back_step : (world : World) (node : List ℕ) (home : BackNode) (input : NodeInput)
     → made (wrote world node (state.Back home) input) node (node_takes (state.Back home) input).state (node_takes (state.Back home) input).outs
     ≡ with_home (wrote world node (state.Back home) input) node (home_does home input)
 unfolding node_takes back_takes
@@ -107,7 +107,7 @@ master_does master (Piece conn bytes) = outside_says master conn bytes
 master_does master (Hung conn) = still (without master (Outside conn))
 master_does master (From name message) = node_says master name message
 
-master_step : (world : World) (node : List ℕ) (master : Master) (input : NodeInput)
+pub master_step : (world : World) (node : List ℕ) (master : Master) (input : NodeInput)
     → made (wrote world node (state.Master master) input) node (node_takes (state.Master master) input).state (node_takes (state.Master master) input).outs
     ≡ with_master (wrote world node (state.Master master) input) node (master_does master input)
 unfolding node_takes master_takes
