@@ -4,4 +4,5 @@ pub mod Carried
 pub mod Comes
 pub mod Known
 pub mod LinksUp
+pub mod Lossy
 pub mod Stay
