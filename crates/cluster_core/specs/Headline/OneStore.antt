@@ -54,7 +54,7 @@ use Rattle.store_law.specs.NewsTold.{NewsAreTold}
 use Rattle.cluster_core.specs.Headline.Points.{AreMadeBy, LosesTheNext}
 use Rattle.imap_talk.specs.Requests.{AreRequests}
 use Rattle.cluster_core.specs.Shown.{given_to, held_at_node}
-use Rattle.cluster_core.specs.World.{master_of, start}
+use Rattle.cluster_core.specs.World.{master_of, may_cut, start}
 
 -- what the server of a record has of the name, if the record has an access list: a name that was never active is no mailbox
 abbrev pub box_in : World → List ℕ → Location → State → Option Content
@@ -98,7 +98,7 @@ pub record StandsInTime (talk : Talk) (now : ℕ) (points : List Point) : Type 0
   pub before_reply : All (λ (point : Point). point.ask.command ≤ length (talk.answers point.ask.conn) → point.step ≤ now) points
 
 -- a link has broken in these steps
-pub record HasCut (steps : List Event) : Type 0 where
+pub record HasCut (config : Config) (steps : List Event) : Type 0 where
   pub before : List Event
   pub one : List ℕ
   pub other : List ℕ
@@ -106,6 +106,7 @@ pub record HasCut (steps : List Event) : Type 0 where
   pub kept_back : ℕ
   pub later : List Event
   pub parts : steps ≡ before ++ Cut one other kept kept_back ∷ later
+  pub may : may_cut (run_steps (start config) before) one other ≡ true
 
 -- after these steps of a run whose whole history is this: so far the clients asked and were answered a front of what they are
 -- in the whole run; each client was given its transcript; and one store that takes the requests of the points one at a time, in
@@ -126,8 +127,8 @@ pub record IsToldSoFar (config : Config) (talk : Talk) (points : List Point) (st
   pub last : Course
   pub legal : IsLegal (law_setting config) first_course so_far (history_of world) last
   -- before any link has broken no command is lost to its client, and each server is reached
-  pub stops_late : HasCut steps ⊎ ((conn : ℕ) → stops conn ≡ silent)
-  pub reached : HasCut steps ⊎ All IsReached (history_of world)
+  pub stops_late : HasCut config steps ⊎ ((conn : ℕ) → stops conn ≡ silent)
+  pub reached : HasCut config steps ⊎ All IsReached (history_of world)
   pub refusals : HaveCauses so_far (history_of world)
   pub one_content : HasBoxesOf config last.store world
   pub rights : HasItsRights config last.store world
