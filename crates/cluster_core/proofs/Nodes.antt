@@ -6,3 +6,4 @@ pub mod Known
 pub mod LinksUp
 pub mod Lossy
 pub mod Stay
+pub mod Thins
