@@ -1,2 +1,3 @@
 pub mod Stand
 pub mod Thinned
+pub mod ThinnedLaw

@@ -33,7 +33,7 @@ use Rattle.node_step.specs.NodeStep.{as_back, as_front, as_master}
 use Rattle.cluster_core.specs.declared.world.World.{World}
 use Rattle.cluster_core.proofs.Connections.KeepsLaw.{AreNodesOf, IsFrontOf}
 use Rattle.cluster_core.proofs.Nodes.Comes.{FrontMoved, HomeMoved, MasterMoved, front_does, front_moved, home_moved, master_does, master_moved, with_front, with_home, with_master}
-use Rattle.cluster_core.proofs.Nodes.Known.{KeepsSelf, TellsNoLink, front_self, ups_stay}
+use Rattle.cluster_core.proofs.Nodes.Known.{KeepsSelf, front_self}
 
 -- a frontend of the next world that was one before
 front_still : (config : Config) (world next : World) (master later : Master) (any : List ℕ) (front : Front) → IsFrontOf config world master any front
@@ -42,8 +42,6 @@ front_still config world next master later any front had none same = record {
   master_is = had.master_is;
   first_is = had.first_is;
   setting_is = had.setting_is;
-  ups_are = had.ups_are;
-  linked = had.linked;
   no_master = had.no_master;
   no_home = none;
   no_backend = ap (λ b. list_any (pointwise nat_eq any) b) same ∙ had.no_backend;
@@ -52,7 +50,7 @@ front_still config world next master later any front had none same = record {
 -- ---- a frontend in another state
 
 module _ (config : Config) (world next : World) (master : Master) (nodes : AreNodesOf config world master) (node : List ℕ) (was later : Front)
-    (at : front_at world node ≡ Some was) (self : KeepsSelf was later) (ups : later.ups ≡ was.ups) (moved : FrontMoved world node later next) where
+    (at : front_at world node ≡ Some was) (self : KeepsSelf was later) (moved : FrontMoved world node later next) where
   front_was : IsFrontOf config world master node was
   front_was = nodes.fronts node was at
 
@@ -61,8 +59,6 @@ module _ (config : Config) (world next : World) (master : Master) (nodes : AreNo
     master_is = self.master ∙ front_was.master_is;
     first_is = self.first ∙ front_was.first_is;
     setting_is = self.setting ∙ front_was.setting_is;
-    ups_are = ups ∙ front_was.ups_are;
-    linked = front_was.linked;
     no_master = front_was.no_master;
     no_home = moved.homes node ∙ front_was.no_home;
     no_backend = front_was.no_backend;
@@ -190,12 +186,12 @@ master_self master (From name message) = record { me = says_me master name messa
 
 -- ---- in the world
 
--- AreNodesOf in the next world, whatever comes to a frontend but that a link comes up or ends, to a backend or to the master
-pub front_keeps_nodes : (config : Config) (world : World) (master : Master) (node : List ℕ) (front : Front) (input : NodeInput) → TellsNoLink input
+-- AreNodesOf in the next world, whatever comes to a frontend, to a backend or to the master
+pub front_keeps_nodes : (config : Config) (world : World) (master : Master) (node : List ℕ) (front : Front) (input : NodeInput)
     → AreNodesOf config world master → front_at world node ≡ Some front → AreNodesOf config (with_front world node (front_does front input)) master
-front_keeps_nodes config world master node front input none nodes at =
+front_keeps_nodes config world master node front input nodes at =
     front_cores config world (with_front world node (front_does front input)) master nodes node front (front_does front input).front at (front_self front input)
-    (ups_stay front input none) (front_moved world node front (front_does front input) at)
+    (front_moved world node front (front_does front input) at)
 
 pub home_keeps_nodes : (config : Config) (world : World) (master : Master) (node : List ℕ) (home : BackNode) (next : BackActed) → AreNodesOf config world master
     → home_at world node ≡ Some home → AreNodesOf config (with_home world node next) master

@@ -15,7 +15,7 @@ use Rattle.feed_links.proofs.Names.{other_name, same_name}
 use Rattle.front_core.proofs.OneConnection.Places.{IsPlaced, of_connection}
 use Rattle.front_core.specs.declared.front.Front.{Front}
 use Rattle.front_core.specs.Front.{new_front}
-use Rattle.front_core.specs.Ups.{is_up}
+use Rattle.front_core.specs.Ups.{Ups, is_up}
 use Rattle.link_msg.specs.declared.out.Out.{Out}
 use Rattle.link_queue.specs.Links.{on_link}
 use Rattle.many_links.specs.Start.{told_up}
@@ -36,7 +36,6 @@ use Rattle.node_step.specs.NodeStep.{Acted, as_back, as_front, as_master, back_a
 use Rattle.name_flows.specs.Listing.{up_step}
 use Rattle.node_record.specs.Table.{empty_table}
 use Rattle.cluster_core.specs.declared.world.World.{World}
-use Rattle.cluster_core.proofs.Connections.KeepsLaw.{IsLinked}
 use Rattle.cluster_core.proofs.Nodes.LinksUp.{linked_up, ups_on}
 use Rattle.cluster_core.proofs.Starts.Fresh.{first_by, fresh_at, fresh_empty, fresh_nodes}
 use Rattle.cluster_core.proofs.Starts.Kinds.{HasNode, backend_is, backend_named, is_backend_node, master_named, master_node, named_among, named_so, pair_of}
@@ -47,6 +46,11 @@ use Rattle.cluster_core.proofs.Starts.Ups.{Heeds, Ignores, takes_up, up_acted, u
 -- a frontend that has done nothing but note its links
 abbrev pub first_front : Config → List ℕ → Front
 first_front config name = noting_front config name (ups_on name [] (links_of config.nodes))
+
+-- the links to the master and to the backends are up
+pub record IsLinked (ups : Ups) (master : List ℕ) (is_backend : List ℕ → Bool) : Type 0 where
+  pub to_master : is_up ups master ≡ true
+  pub to_backend : (server : List ℕ) → is_backend server ≡ true → is_up ups server ≡ true
 
 abbrev pub first_home : Config → Node → BackNode
 first_home config node = new_node (place_of node) (master_of config)

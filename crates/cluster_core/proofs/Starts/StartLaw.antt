@@ -27,6 +27,7 @@ use Rattle.link_queue.specs.Links.{on_link}
 use Rattle.many_links.specs.ManyHold.{ManyHold}
 use Rattle.many_links.specs.Start.{HasBegun, told_up}
 use Rattle.many_links.proofs.BegunLaw.{many_begin}
+use Rattle.imap_talk.specs.Transcript.Stop.{silent}
 use Rattle.mark_history.specs.Marked.{first_tale}
 use Rattle.master_core.specs.declared.master.Master.{Master}
 use Rattle.master_core.specs.Boot.{booted}
@@ -54,10 +55,10 @@ use Rattle.cluster_core.proofs.Nodes.Comes.{a_master}
 use Rattle.cluster_core.proofs.Commands.InPlace.{ShowEach}
 use Rattle.cluster_core.proofs.Commands.Place.{Place as place}
 use Rattle.cluster_core.proofs.Connections.ConnectionLaw.{IsInNoneOf}
-use Rattle.cluster_core.proofs.Connections.KeepsLaw.{AreAtBackends, AreKeptAtBackends, AreNodesOf, ConnectionIs, FeedsHold, IsFedAt, IsFrontOf, IsLinked, NamesBackends, TableNamesBackends, TellsBackends, fixed_of, murder_of}
+use Rattle.cluster_core.proofs.Connections.KeepsLaw.{AreAtBackends, AreKeptAtBackends, AreNodesOf, ConnectionIs, FeedsHold, IsFedAt, IsFrontOf, NamesBackends, TableNamesBackends, TellsBackends, fixed_of, murder_of}
 use Rattle.cluster_core.proofs.Connections.KeepsLaw.ConnectionIs.{is_nobody}
 use Rattle.cluster_core.proofs.Nodes.LinksUp.{ups_on}
-use Rattle.cluster_core.proofs.Starts.Begins.{HomeStarts, Starts, asks_once, first_front, first_master, master_starts, start_quiet, starts, told_keeps}
+use Rattle.cluster_core.proofs.Starts.Begins.{HomeStarts, IsLinked, Starts, asks_once, first_front, first_master, master_starts, start_quiet, starts, told_keeps}
 use Rattle.cluster_core.proofs.Starts.Begins.Starts.{is_front, is_home, is_silent}
 use Rattle.cluster_core.proofs.OneServer.MovingLaw.{StartsWith}
 use Rattle.cluster_core.proofs.Starts.Places.{named_place}
@@ -155,8 +156,6 @@ module _ (config : Config) (are : AreNodes config.nodes) where
         master_is = ap (λ (f : Front). f.master) first.is;
         first_is = ap (λ (f : Front). f.first) first.is;
         setting_is = ap (λ (f : Front). f.setting) first.is;
-        ups_are = ap (λ (f : Front). f.ups) first.is;
-        linked = first.linked;
         no_master = λ e. no_one (master_at world name) master
             (ap (master_at world) e ∙ ap as_master (master_starts config are).at ∙ a_master master)
             (front_no_master (node_at world name) front at);
@@ -298,16 +297,16 @@ module _ (config : Config) (are : AreNodes config.nodes) where
   unfolding new_front
   no_connection front name conn is = ap (λ (f : Front). connection_at f conn) is
 
-  pub start_connections : (moving : ℕ → List ℕ → Bool) (conn : ℕ) → ConnectionIs (fixed_of config) conn (start config) (first_tale moving) nobody
+  pub start_connections : (moving : ℕ → List ℕ → Bool) (conn : ℕ) → ConnectionIs (fixed_of config) conn (start config) (first_tale moving) silent nobody
   start_connections moving conn =
       is_nobody (ap (λ c. value_at nat_cmp c conn) (start_quiet config are).clients)
       (λ name front at. no_connection front name conn (front_first name front at).is)
       (record { told = refl; said = refl; session = refl; nothing = start_in_none conn })
 
-  pub start_marked : (moving : ℕ → List ℕ → Bool) → AreMarkedSo (setting_of config) (start config).steps (start config).marks (first_tale moving)
+  pub start_marked : (moving : ℕ → List ℕ → Bool) → AreMarkedSo (setting_of config) (start config).broken (start config).steps (start config).marks (first_tale moving)
   start_marked moving =
-      subst (λ n. AreMarkedSo (setting_of config) n (start config).marks (first_tale moving)) (sym (start_quiet config are).steps)
-      (subst (λ m. AreMarkedSo (setting_of config) 0 m (first_tale moving)) (sym (start_quiet config are).marks) (nothing (setting_of config) moving))
+      subst (λ n. AreMarkedSo (setting_of config) (start config).broken n (start config).marks (first_tale moving)) (sym (start_quiet config are).steps)
+      (subst (λ m. AreMarkedSo (setting_of config) (start config).broken 0 m (first_tale moving)) (sym (start_quiet config are).marks) (nothing (setting_of config) (start config).broken moving))
 
 no_requests : (setting : Setting) → [] ≡ requests_of setting (frames_heard nobody)
 unfolding requests_in inputs_of frames_heard
@@ -319,8 +318,8 @@ start_keeps config moving are = record {
   law = record {
     master = first_master config;
     nodes = start_nodes config are;
-    whole = (start_quiet config are).broken;
     story = first_tale moving;
+    stops = λ conn. silent;
     given = [];
     many = start_many config are;
     feeds = start_feeds config are;
