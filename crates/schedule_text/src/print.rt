@@ -78,7 +78,8 @@ fn put_event(event: &Event, out: &mut Bytes) -> Result<(), Memory>
 /// Prints a line of a word and two nodes.
 #[tactic(auto)]
 fn put_pair(word: Word, one: &NodeName, other: &NodeName, out: &mut Bytes) -> Result<(), Memory>
-    ensures { OnOk result (out.new ≡ out.old ++ saying_line (record { word = word; values = a_node one.now ∷ a_node other.now ∷ [] }) ++ lf ∷ []) }
+    ensures written { OnOk result (out.new ≡ out.old ++ saying_line (record { word = word; values = a_node one.now ∷ a_node other.now ∷ [] }) ++ lf ∷ []) }
+    ensures read_back { OnOk result (AreReadBack (a_node one.now ∷ a_node other.now ∷ [])) }
 {
     put_line(
         word,
