@@ -1,8 +1,8 @@
 """The rules of a schedule (docs/formats.md): which one a line breaks. Nothing here knows what an event does."""
 import re
 
-# What follows each word: a number, a node, the two nodes of a link, a text. FAULTS are the words of nodes that crash and start, which the program has no
-# words for yet.
+# What follows each word: a number, a node, the two nodes of a link, a text. FAULTS are the words of nodes that crash and start, which the
+# program doesn't know yet.
 WORDS = {b'open': 'node conn', b'data': 'conn text', b'hang': 'conn', b'deliver': 'node node', b'cut': 'node node number number', b'join': 'node node',
          b'flow': 'count', b'heal': ''}
 FAULTS = {b'crash': 'node number number', b'arm': 'node number number number', b'start': 'node'}

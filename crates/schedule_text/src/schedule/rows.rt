@@ -115,7 +115,7 @@ fn deliver_in(alloc: Global, config: &Config, arguments: &[&[u8]]) -> Result<Eve
     }
 }
 
-/// `cut A B K L`: the link of nodes A and B, which a link joins, breaks, and keeps at most K messages from A to B and L back.
+/// `cut A B K L`: the link that joins nodes A and B breaks, and keeps at most K messages from A to B and L back.
 #[tactic(auto, unfolding(crate::specs::Rows::event_in))]
 fn cut_in(alloc: Global, config: &Config, arguments: &[&[u8]]) -> Result<Event, LineError>
     ensures { (before : List Event) → IsReadByRule (event_in config.now before cut_word (map (λ argument. argument.now) arguments.now)) result }
@@ -131,7 +131,7 @@ fn cut_in(alloc: Global, config: &Config, arguments: &[&[u8]]) -> Result<Event, 
     }
 }
 
-/// `join A B`: the link of nodes A and B, which a link joins, comes up.
+/// `join A B`: the link that joins nodes A and B comes up, if it may.
 #[tactic(auto, unfolding(crate::specs::Rows::event_in))]
 fn join_in(alloc: Global, config: &Config, arguments: &[&[u8]]) -> Result<Event, LineError>
     ensures { (before : List Event) → IsReadByRule (event_in config.now before join_word (map (λ argument. argument.now) arguments.now)) result }
