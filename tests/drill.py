@@ -5,7 +5,7 @@
     tests/drill.py [--faults] NUMBER SIZE                  prints the line of a drill
     tests/drill.py [--faults] NUMBER SIZE CONFIG SCHEDULE  and writes its cluster, and those of its events that have a word, to these files
 
-Without `--faults` a crash, a start and a heal have no word and change nothing, so each of them is a step and no line of the schedule.
+Without `--faults` a crash, a start and a heal are steps that change nothing, and a crash and a start have no word, so they are no lines of the schedule.
 """
 import json, os, re, sys
 
@@ -109,7 +109,7 @@ def schedule_of(number, size, has_faults):
     for word, *rest in events(number, size):
         if word == 'data':
             yield 'data %d %s\n' % (rest[0], spelled(rest[1].encode()))
-        elif has_faults or word in ('open', 'flow'):
+        elif has_faults or word in ('open', 'flow', 'heal'):
             yield ' '.join(map(str, [word, *rest])) + '\n'
 
 

@@ -1,10 +1,11 @@
 """The rules of a schedule (docs/formats.md): which one a line breaks. Nothing here knows what an event does."""
 import re
 
-# What follows each word: a number, a node, the two nodes of a link, a text. FAULTS are the words of what breaks.
-WORDS = {b'open': 'node conn', b'data': 'conn text', b'hang': 'conn', b'deliver': 'node node', b'flow': 'count'}
-FAULTS = {b'cut': 'node node number number', b'join': 'node node', b'crash': 'node number number', b'arm': 'node number number number',
-          b'start': 'node', b'heal': ''}
+# What follows each word: a number, a node, the two nodes of a link, a text. FAULTS are the words of nodes that crash and start, which the
+# program doesn't know yet.
+WORDS = {b'open': 'node conn', b'data': 'conn text', b'hang': 'conn', b'deliver': 'node node', b'cut': 'node node number number', b'join': 'node node',
+         b'flow': 'count', b'heal': ''}
+FAULTS = {b'crash': 'node number number', b'arm': 'node number number number', b'start': 'node'}
 KINDS = {word: kinds.split() for word, kinds in (WORDS | FAULTS).items()}
 NUMBER_ENDS = {'conn': 2**64, 'number': 2**64, 'count': 2**32}
 TEXT = re.compile(rb'(?:[ -\[\]-~]|\\(?:[rn\\]|x[0-9a-f]{2}))*')
@@ -29,7 +30,7 @@ def arguments_of(line):
 
 class Rules:
     """The rules of a schedule over nodes of these kinds and pairs of them that are linked, the connections that its lines opened, and whether it may have
-    the words of faults."""
+    the words of nodes that crash and start."""
 
     def __init__(self, kinds, pairs, has_faults):
         self.kinds, self.pairs, self.words, self.opened = kinds, pairs, WORDS | FAULTS if has_faults else WORDS, set()

@@ -41,7 +41,7 @@ fn ten_transfers_and_four_crashes(rt: HostRuntime) -> Result<(), Fail> {
     let alloc = rt.alloc();
     let (config, events) = drill(alloc, 7, 400)?;
     let text = print_schedule(alloc, &events, &config)?;
-    assert_eq!(rt; text.len(), 37_446);
+    assert_eq!(rt; text.len(), 37_466);
     let crashes = events
         .as_slice()
         .iter()

@@ -99,6 +99,12 @@ AreOfKinds [] (argument ∷ arguments) = ⊥
 AreOfKinds (kind ∷ kinds) [] = ⊥
 AreOfKinds (kind ∷ kinds) (argument ∷ arguments) = IsOfKind kind argument × AreOfKinds kinds arguments
 
+-- no argument
+pub none_of_kind : (P : List (List ℕ) → Type 0) → P [] → (arguments : List (List ℕ)) → AreOfKinds [] arguments → P arguments
+unfolding AreOfKinds
+none_of_kind P is [] fit = is
+none_of_kind P is (one ∷ others) fit = absurd fit
+
 -- one argument
 pub one_of_kind : (kind : Kind) (P : List (List ℕ) → Type 0) → ((one : List ℕ) → IsOfKind kind one → P (one ∷ [])) → (arguments : List (List ℕ))
     → AreOfKinds (kind ∷ []) arguments → P arguments
@@ -116,6 +122,19 @@ two_of_kinds first second P are [] fit = absurd fit
 two_of_kinds first second P are (one ∷ []) fit = absurd fit.1
 two_of_kinds first second P are (one ∷ other ∷ []) fit = are one other fit.0 fit.1.0
 two_of_kinds first second P are (one ∷ other ∷ more ∷ others) fit = absurd fit.1.1
+
+-- four arguments
+pub four_of_kinds : (first second third fourth : Kind) (P : List (List ℕ) → Type 0)
+    → ((one other more last : List ℕ) → IsOfKind first one → IsOfKind second other → IsOfKind third more → IsOfKind fourth last
+    → P (one ∷ other ∷ more ∷ last ∷ []))
+    → (arguments : List (List ℕ)) → AreOfKinds (first ∷ second ∷ third ∷ fourth ∷ []) arguments → P arguments
+unfolding AreOfKinds
+four_of_kinds first second third fourth P are [] fit = absurd fit
+four_of_kinds first second third fourth P are (one ∷ []) fit = absurd fit.1
+four_of_kinds first second third fourth P are (one ∷ other ∷ []) fit = absurd fit.1.1
+four_of_kinds first second third fourth P are (one ∷ other ∷ more ∷ []) fit = absurd fit.1.1.1
+four_of_kinds first second third fourth P are (one ∷ other ∷ more ∷ last ∷ []) fit = are one other more last fit.0 fit.1.0 fit.1.1.0 fit.1.1.1.0
+four_of_kinds first second third fourth P are (one ∷ other ∷ more ∷ last ∷ next ∷ others) fit = absurd fit.1.1.1.1
 
 -- arguments, a space before each
 unfoldable pub spaced : List (List ℕ) → List ℕ
@@ -150,6 +169,12 @@ AllSpell [] (value ∷ values) = ⊥
 AllSpell (argument ∷ arguments) [] = ⊥
 AllSpell (argument ∷ arguments) (value ∷ values) = SpellsValue argument value × AllSpell arguments values
 
+-- no value
+pub none_spells : (P : List (List ℕ) → Type 0) → P [] → (arguments : List (List ℕ)) → AllSpell arguments [] → P arguments
+unfolding AllSpell
+none_spells P is [] spell = is
+none_spells P is (one ∷ others) spell = absurd spell
+
 -- one value
 pub one_spells : (value : Value) (P : List (List ℕ) → Type 0) → ((one : List ℕ) → SpellsValue one value → P (one ∷ [])) → (arguments : List (List ℕ))
     → AllSpell arguments (value ∷ []) → P arguments
@@ -167,6 +192,20 @@ two_spell first second P are [] spell = absurd spell
 two_spell first second P are (one ∷ []) spell = absurd spell.1
 two_spell first second P are (one ∷ other ∷ []) spell = are one other spell.0 spell.1.0
 two_spell first second P are (one ∷ other ∷ more ∷ others) spell = absurd spell.1.1
+
+-- four values
+pub four_spell : (first second third fourth : Value) (P : List (List ℕ) → Type 0)
+    → ((one other more last : List ℕ) → SpellsValue one first → SpellsValue other second → SpellsValue more third → SpellsValue last fourth
+    → P (one ∷ other ∷ more ∷ last ∷ []))
+    → (arguments : List (List ℕ)) → AllSpell arguments (first ∷ second ∷ third ∷ fourth ∷ []) → P arguments
+unfolding AllSpell
+four_spell first second third fourth P are [] spell = absurd spell
+four_spell first second third fourth P are (one ∷ []) spell = absurd spell.1
+four_spell first second third fourth P are (one ∷ other ∷ []) spell = absurd spell.1.1
+four_spell first second third fourth P are (one ∷ other ∷ more ∷ []) spell = absurd spell.1.1.1
+four_spell first second third fourth P are (one ∷ other ∷ more ∷ last ∷ []) spell =
+    are one other more last spell.0 spell.1.0 spell.1.1.0 spell.1.1.1.0
+four_spell first second third fourth P are (one ∷ other ∷ more ∷ last ∷ next ∷ others) spell = absurd spell.1.1.1.1
 
 pub are_arguments : (arguments : List (List ℕ)) (values : List Value) → AllSpell arguments values → AreArguments (spaced arguments) values
 unfolding AllSpell spaced

@@ -12,7 +12,7 @@ use Rattle.schedule_text.specs.declared.event.Event.TheVariants.{Open, Data, Han
 use Rattle.schedule_text.specs.declared.schedule.fault.Rule.TheVariants.{BadNumber, UnknownNode, Connection}
 use Rattle.schedule_text.specs.declared.schedule.rows.TheConstants.{FLOW_LIMIT}
 use Rattle.schedule_text.specs.declared.words.Word.{Word}
-use Rattle.schedule_text.specs.declared.words.Word.TheVariants.{Open as open_word, Data as data_word, Hang as hang_word, Deliver as deliver_word, Flow as flow_word}
+use Rattle.schedule_text.specs.declared.words.Word.TheVariants.{Open as open_word, Data as data_word, Hang as hang_word, Deliver as deliver_word, Cut as cut_word, Join as join_word, Flow as flow_word, Heal as heal_word}
 use Rattle.schedule_text.specs.MayFollow.{Opens, MayFollow}
 use Rattle.schedule_text.specs.Rows.{event_in, flow_count, text_in}
 use Rattle.schedule_text.specs.Schedule.{event_of}
@@ -24,8 +24,8 @@ use Rattle.schedule_text.specs.Spelled.{IsWord, AreArguments, IsLineOf, IsSpelle
 use Rattle.schedule_text.specs.Text.{bytes_of}
 use Rattle.schedule_text.specs.Words.{Value, Saying, row, said_by, word_text, kinds_of, word_named}
 use Rattle.schedule_text.specs.Words.Value.{a_node, a_number, a_text}
-use Rattle.schedule_text.proofs.ArgumentsLaws.{is_split, split_read, behind_word, AreOfKinds, one_of_kind, two_of_kinds, are_cut, spaced, AllSpell}
-use Rattle.schedule_text.proofs.ArgumentsLaws.{one_spells, two_spell, are_arguments, kind_of, EndsWithText, are_read}
+use Rattle.schedule_text.proofs.ArgumentsLaws.{is_split, split_read, behind_word, AreOfKinds, none_of_kind, one_of_kind, two_of_kinds, four_of_kinds, are_cut}
+use Rattle.schedule_text.proofs.ArgumentsLaws.{spaced, AllSpell, none_spells, one_spells, two_spell, four_spell, are_arguments, kind_of, EndsWithText, are_read}
 use Rattle.schedule_text.proofs.ArgumentsLaws.{number_spelled, number_low, number_read}
 use Rattle.schedule_text.proofs.HighBytes.{lacks_below}
 use Rattle.schedule_text.proofs.WordLaws.{is_row, named_is}
@@ -161,6 +161,44 @@ deliver_made config before from to event sender taker h =
       conn = tt;
     })
 
+cut_made : (config : Config) (before : List Event) (one other to from : List ℕ) (event : Event) → IsWord one → IsWord other
+    → event_in config before cut_word (one ∷ other ∷ to ∷ from ∷ []) ≡ Ok event → IsMade config before cut_word (one ∷ other ∷ to ∷ from ∷ []) event
+unfolding event_in said_by AllSpell MayFollow steps_of bytes_brought
+cut_made config before one other to from event is also h =
+    let kept = both (number_of_word to) _ event h in
+    let back = both (number_of_word from) _ event kept.2 in
+    let link = both (link_in config one other) _ event back.2 in
+    let same = link_is config one other link.0 link.1 in
+    let made : Cut link.0.from link.0.to kept.0 back.0 ≡ event = cc in
+    let named : Cut one other kept.0 back.0 ≡ event = ap (λ (l : Link). Cut l.from l.to kept.0 back.0) same ∙ made in
+    subst (λ (e : Event). IsMade config before cut_word (one ∷ other ∷ to ∷ from ∷ []) e) named (record {
+      values = a_node one ∷ a_node other ∷ a_number kept.0 ∷ a_number back.0 ∷ [];
+      said = refl;
+      spell = ((refl, is), ((refl, also), (number_spelled to kept.0 kept.1, (number_spelled from back.0 back.1, tt))));
+      follows = are_linked_nodes config one other link.0 link.1;
+      steps = omega arith;
+      bytes = omega arith;
+      conn = tt;
+    })
+
+join_made : (config : Config) (before : List Event) (one other : List ℕ) (event : Event) → IsWord one → IsWord other
+    → event_in config before join_word (one ∷ other ∷ []) ≡ Ok event → IsMade config before join_word (one ∷ other ∷ []) event
+unfolding event_in said_by AllSpell MayFollow steps_of bytes_brought
+join_made config before one other event is also h =
+    let link = both (link_in config one other) _ event h in
+    let same = link_is config one other link.0 link.1 in
+    let made : Join link.0.from link.0.to ≡ event = cc in
+    let named : Join one other ≡ event = ap (λ (l : Link). Join l.from l.to) same ∙ made in
+    subst (λ (e : Event). IsMade config before join_word (one ∷ other ∷ []) e) named (record {
+      values = a_node one ∷ a_node other ∷ [];
+      said = refl;
+      spell = ((refl, is), ((refl, also), tt));
+      follows = are_linked_nodes config one other link.0 link.1;
+      steps = omega arith;
+      bytes = omega arith;
+      conn = tt;
+    })
+
 flow_made : (config : Config) (before : List Event) (number : List ℕ) (event : Event)
     → event_in config before flow_word (number ∷ []) ≡ Ok event → IsMade config before flow_word (number ∷ []) event
 unfolding event_in said_by AllSpell MayFollow steps_of bytes_brought
@@ -178,6 +216,13 @@ flow_made config before number event h =
       conn = tt;
     })
 
+heal_made : (config : Config) (before : List Event) (event : Event) → event_in config before heal_word [] ≡ Ok event → IsMade config before heal_word [] event
+unfolding event_in said_by AllSpell MayFollow steps_of bytes_brought
+heal_made config before event h =
+    let made : Heal ≡ event = cc in
+    subst (λ (e : Event). IsMade config before heal_word [] e) made
+    (record { values = []; said = refl; spell = tt; follows = tt; steps = omega arith; bytes = omega arith; conn = tt })
+
 event_made : (config : Config) (before : List Event) (word : Word) (arguments : List (List ℕ)) (event : Event) → AreOfKinds (kinds_of word) arguments
     → event_in config before word arguments ≡ Ok event → IsMade config before word arguments event
 unfolding kinds_of
@@ -193,6 +238,14 @@ event_made config before hang_word arguments event fit =
 event_made config before deliver_word arguments event fit =
     two_of_kinds Node Node (λ a. event_in config before deliver_word a ≡ Ok event → IsMade config before deliver_word a event)
     (λ from to is also. deliver_made config before from to event is also) arguments fit
+event_made config before cut_word arguments event fit =
+    four_of_kinds Node Node Number Number (λ a. event_in config before cut_word a ≡ Ok event → IsMade config before cut_word a event)
+    (λ one other to from is also kept kept_back. cut_made config before one other to from event is also) arguments fit
+event_made config before join_word arguments event fit =
+    two_of_kinds Node Node (λ a. event_in config before join_word a ≡ Ok event → IsMade config before join_word a event)
+    (λ one other is also. join_made config before one other event is also) arguments fit
+event_made config before heal_word arguments event fit =
+    none_of_kind (λ a. event_in config before heal_word a ≡ Ok event → IsMade config before heal_word a event) (heal_made config before event) arguments fit
 event_made config before flow_word arguments event fit =
     one_of_kind Number (λ a. event_in config before flow_word a ≡ Ok event → IsMade config before flow_word a event)
     (λ number is. flow_made config before number event) arguments fit
@@ -298,12 +351,36 @@ deliver_read config before arguments from to spell may =
     rw link refl))
     arguments spell
 
+cut_read : (config : Config) (before : List Event) (arguments : List (List ℕ)) (one other : List ℕ) (kept kept_back : ℕ)
+    → AllSpell arguments (a_node one ∷ a_node other ∷ a_number kept ∷ a_number kept_back ∷ []) → MayFollow config before (Cut one other kept kept_back)
+    → event_in config before cut_word arguments ≡ Ok (Cut one other kept kept_back)
+unfolding MayFollow event_in
+cut_read config before arguments one other kept kept_back spell may =
+    four_spell (a_node one) (a_node other) (a_number kept) (a_number kept_back)
+    (λ a. event_in config before cut_word a ≡ Ok (Cut one other kept kept_back)) (λ first second to from is also value back.
+    (let link = ap (λ (f : List ℕ). link_in config f second) is.0 ∙ ap (link_in config one) also.0 ∙ link_read config one other may in
+    rw (number_read to kept value, number_read from kept_back back, link) refl))
+    arguments spell
+
+join_read : (config : Config) (before : List Event) (arguments : List (List ℕ)) (one other : List ℕ) → AllSpell arguments (a_node one ∷ a_node other ∷ [])
+    → MayFollow config before (Join one other) → event_in config before join_word arguments ≡ Ok (Join one other)
+unfolding MayFollow event_in
+join_read config before arguments one other spell may =
+    two_spell (a_node one) (a_node other) (λ a. event_in config before join_word a ≡ Ok (Join one other)) (λ first second is also.
+    (let link = ap (λ (f : List ℕ). link_in config f second) is.0 ∙ ap (link_in config one) also.0 ∙ link_read config one other may in
+    rw link refl))
+    arguments spell
+
 flow_read : (config : Config) (before : List Event) (arguments : List (List ℕ)) (count : ℕ) → AllSpell arguments (a_number count ∷ [])
     → MayFollow config before (Flow count) → event_in config before flow_word arguments ≡ Ok (Flow count)
 unfolding MayFollow event_in
 flow_read config before arguments count spell may =
     one_spells (a_number count) (λ a. event_in config before flow_word a ≡ Ok (Flow count))
     (λ number value. rw (count_read number count value may) refl) arguments spell
+
+heal_read : (config : Config) (before : List Event) (arguments : List (List ℕ)) → AllSpell arguments [] → event_in config before heal_word arguments ≡ Ok Heal
+unfolding event_in
+heal_read config before arguments spell = none_spells (λ a. event_in config before heal_word a ≡ Ok Heal) refl arguments spell
 
 -- a line that spells an event which may follow is read as it
 pub event_read : (config : Config) (before : List Event) (line : List ℕ) (event : Event) → IsSpelledBy line event → MayFollow config before event
@@ -319,9 +396,12 @@ event_read config before line (Deliver from to) is may =
     let has = arguments_of line _ is tt refl in has.read config before ∙ deliver_read config before has.arguments from to has.spell may
 event_read config before line (Flow count) is may =
     let has = arguments_of line _ is tt refl in has.read config before ∙ flow_read config before has.arguments count has.spell may
-event_read config before line (Cut one other to from) is may = absurd is
-event_read config before line (Join one other) is may = absurd is
+event_read config before line (Cut one other kept kept_back) is may =
+    let has = arguments_of line _ is tt refl in has.read config before ∙ cut_read config before has.arguments one other kept kept_back has.spell may
+event_read config before line (Join one other) is may =
+    let has = arguments_of line _ is tt refl in has.read config before ∙ join_read config before has.arguments one other has.spell may
 event_read config before line (Crash node image kept) is may = absurd is
 event_read config before line (Arm node call image kept) is may = absurd is
 event_read config before line (Start node) is may = absurd is
-event_read config before line Heal is may = absurd is
+event_read config before line Heal is may =
+    let has = arguments_of line _ is tt refl in has.read config before ∙ heal_read config before has.arguments has.spell

@@ -3,7 +3,7 @@ use Rattle.std.proofs.Common.{◌≡◌, ℕ, Bool, true, false, List, [], ◌�
 use Rattle.std.specs.Str.{bytes_eq}
 use Rattle.std.proofs.lemmas.Slice.Eq.{bytes_eq-Decides}
 use Rattle.schedule_text.specs.declared.words.Word.{Word}
-use Rattle.schedule_text.specs.declared.words.Word.TheVariants.{Open as open_word, Data as data_word, Hang as hang_word, Deliver as deliver_word, Flow as flow_word}
+use Rattle.schedule_text.specs.declared.words.Word.TheVariants.{Open as open_word, Data as data_word, Hang as hang_word, Deliver as deliver_word, Cut as cut_word, Join as join_word, Flow as flow_word, Heal as heal_word}
 use Rattle.schedule_text.specs.Schedule.{is_passed_over}
 use Rattle.schedule_text.specs.Words.{word_text, all_words, word_among, word_named}
 use Rattle.schedule_text.proofs.HighBytes.{AreFrom}
@@ -19,7 +19,10 @@ is_row open_word = record { named = refl; from = refl; counts = λ rest. refl }
 is_row data_word = record { named = refl; from = refl; counts = λ rest. refl }
 is_row hang_word = record { named = refl; from = refl; counts = λ rest. refl }
 is_row deliver_word = record { named = refl; from = refl; counts = λ rest. refl }
+is_row cut_word = record { named = refl; from = refl; counts = λ rest. refl }
+is_row join_word = record { named = refl; from = refl; counts = λ rest. refl }
 is_row flow_word = record { named = refl; from = refl; counts = λ rest. refl }
+is_row heal_word = record { named = refl; from = refl; counts = λ rest. refl }
 
 among_by : (words : List Word) (word : Word) (text : List ℕ) (found : Word) → (word_among words text ≡ Ok found → text ≡ word_text found)
     → (is : Bool) → bytes_eq text (word_text word) ≡ is → word_among (word ∷ words) text ≡ Ok found → text ≡ word_text found

@@ -5,7 +5,7 @@ use Rattle.mur_config.specs.declared.config.Config.{Config}
 use Rattle.mur_config.specs.declared.node.Node.{Node}
 use Rattle.mur_config.specs.declared.node.Kind.TheVariants.{Backend}
 use Rattle.schedule_text.specs.declared.event.Event.{Event}
-use Rattle.schedule_text.specs.declared.event.Event.TheVariants.{Open, Data, Hang, Deliver, Flow}
+use Rattle.schedule_text.specs.declared.event.Event.TheVariants.{Open, Data, Hang, Deliver, Cut, Join, Flow}
 
 -- a node of the configuration at which connections may be opened: a frontend, or the master
 pub record IsClientNode (config : Config) (name : List ℕ) : Type 0 where
@@ -32,6 +32,8 @@ MayFollow config before (Open node conn) = IsClientNode config node × (Opens co
 MayFollow config before (Data conn bytes) = Opens conn before
 MayFollow config before (Hang conn) = Opens conn before
 MayFollow config before (Deliver from to) = AreLinkedNodes config from to
+MayFollow config before (Cut one other kept kept_back) = AreLinkedNodes config one other
+MayFollow config before (Join one other) = AreLinkedNodes config one other
 MayFollow config before (Flow count) = count < 2 ^ 32
 MayFollow config before _ = ⊤
 

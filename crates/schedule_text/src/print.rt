@@ -3,13 +3,14 @@ ghost use Rattle.std.specs.Prelude.{◌≡◌, ◌++◌, ◌∷◌, [], map, IfO
 ghost use Rattle.mur_base.specs.Ascii.{lf};
 ghost use Rattle.schedule_text.specs.Meaning.{IsSchedule};
 ghost use Rattle.schedule_text.specs.Words.{said_by};
+ghost use Rattle.schedule_text.specs.Words.Value.{a_node};
 ghost use Rattle.schedule_text.specs.Printed.{argument_value, value_text, argument_text, values_text, saying_line, saying_text, event_text, schedule_text};
 ghost use Rattle.schedule_text.specs.Printed.{CanBePrinted, IsReadBack, AreReadBack, SaysWhatIsReadBack, AllReadBack};
 
 use crate::event::{Event, Events};
 use crate::text::put_text;
 use crate::words::Word;
-use mur_base::{Bytes, Memory, put_number};
+use mur_base::{Bytes, Memory, NodeName, put_number};
 use mur_config::Config;
 use std::alloc::Global;
 
@@ -56,22 +57,38 @@ fn put_event(event: &Event, out: &mut Bytes) -> Result<(), Memory>
             out,
         ),
         Event::Hang(conn) => put_line(Word::Hang, &[Argument::Number(*conn)], out),
-        Event::Deliver(from, to) => put_line(
-            Word::Deliver,
+        Event::Deliver(from, to) => put_pair(Word::Deliver, from, to, out),
+        Event::Cut(one, other, kept, kept_back) => put_line(
+            Word::Cut,
             &[
-                Argument::Node(from.as_bytes()),
-                Argument::Node(to.as_bytes()),
+                Argument::Node(one.as_bytes()),
+                Argument::Node(other.as_bytes()),
+                Argument::Number(*kept),
+                Argument::Number(*kept_back),
             ],
             out,
         ),
+        Event::Join(one, other) => put_pair(Word::Join, one, other, out),
         Event::Flow(count) => put_line(Word::Flow, &[Argument::Number(*count)], out),
-        Event::Cut(..)
-        | Event::Join(..)
-        | Event::Crash(..)
-        | Event::Arm(..)
-        | Event::Start(_)
-        | Event::Heal => Ok(()),
+        Event::Heal => put_line(Word::Heal, &[], out),
+        Event::Crash(..) | Event::Arm(..) | Event::Start(_) => Ok(()),
     }
+}
+
+/// Prints a line of a word and two nodes.
+#[tactic(auto)]
+fn put_pair(word: Word, one: &NodeName, other: &NodeName, out: &mut Bytes) -> Result<(), Memory>
+    ensures written { OnOk result (out.new ≡ out.old ++ saying_line (record { word = word; values = a_node one.now ∷ a_node other.now ∷ [] }) ++ lf ∷ []) }
+    ensures read_back { OnOk result (AreReadBack (a_node one.now ∷ a_node other.now ∷ [])) }
+{
+    put_line(
+        word,
+        &[
+            Argument::Node(one.as_bytes()),
+            Argument::Node(other.as_bytes()),
+        ],
+        out,
+    )
 }
 
 /// Prints a line of a word and its arguments.

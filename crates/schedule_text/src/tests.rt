@@ -8,9 +8,10 @@ const CONFIG: &[u8] =
     {\"name\":\"b1\",\"kind\":\"backend\",\"partition\":\"p\"}],\"users\":[],\"date\":\"17-Jul-1996 02:44:25 -0700\"}";
 
 const WRITTEN: &[u8] =
-    b"# all words\r\nopen f1 007\r\n\ndata 7 a\\x20b\\x5c\\r\\n\\x00 \ndeliver f1 b1\nflow 010\nhang 07";
+    b"# all words\r\nopen f1 007\r\n\ndata 7 a\\x20b\\x5c\\r\\n\\x00 \ndeliver f1 b1\ncut f1 b1 01 002\njoin b1 f1\nflow 010\nheal\nhang 07";
 
-const PRINTED: &[u8] = b"open f1 7\ndata 7 a b\\\\\\r\\n\\x00 \ndeliver f1 b1\nflow 10\nhang 7\n";
+const PRINTED: &[u8] =
+    b"open f1 7\ndata 7 a b\\\\\\r\\n\\x00 \ndeliver f1 b1\ncut f1 b1 1 2\njoin b1 f1\nflow 10\nheal\nhang 7\n";
 
 #[test]
 fn a_schedule_is_printed_in_its_one_form(rt: HostRuntime) -> Result<(), Fail> {

@@ -15,8 +15,14 @@ pub enum Word {
     Hang,
     /// `deliver A B`
     Deliver,
+    /// `cut A B K L`
+    Cut,
+    /// `join A B`
+    Join,
     /// `flow K`
     Flow,
+    /// `heal`
+    Heal,
 }
 
 /// What an argument of a line is.
@@ -41,7 +47,13 @@ const HANG: &[u8] = b"hang";
 
 const DELIVER: &[u8] = b"deliver";
 
+const CUT: &[u8] = b"cut";
+
+const JOIN: &[u8] = b"join";
+
 const FLOW: &[u8] = b"flow";
+
+const HEAL: &[u8] = b"heal";
 
 impl Word {
     /// The word as a line has it.
@@ -54,7 +66,10 @@ impl Word {
             Word::Data => DATA,
             Word::Hang => HANG,
             Word::Deliver => DELIVER,
+            Word::Cut => CUT,
+            Word::Join => JOIN,
             Word::Flow => FLOW,
+            Word::Heal => HEAL,
         }
     }
 
@@ -68,7 +83,9 @@ impl Word {
             Word::Open => &[Kind::Node, Kind::Number],
             Word::Data => &[Kind::Number, Kind::Text],
             Word::Hang | Word::Flow => &[Kind::Number],
-            Word::Deliver => &[Kind::Node, Kind::Node],
+            Word::Deliver | Word::Join => &[Kind::Node, Kind::Node],
+            Word::Cut => &[Kind::Node, Kind::Node, Kind::Number, Kind::Number],
+            Word::Heal => &[],
         }
     }
 }
@@ -86,8 +103,14 @@ pub fn word_named(text: &[u8]) -> Result<Word, Rule>
         Ok(Word::Hang)
     } else if text == DELIVER {
         Ok(Word::Deliver)
+    } else if text == CUT {
+        Ok(Word::Cut)
+    } else if text == JOIN {
+        Ok(Word::Join)
     } else if text == FLOW {
         Ok(Word::Flow)
+    } else if text == HEAL {
+        Ok(Word::Heal)
     } else {
         Err(Rule::UnknownWord)
     }

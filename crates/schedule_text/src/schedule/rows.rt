@@ -6,7 +6,7 @@ ghost use Rattle.schedule_text.specs.ScheduleRules.{IsReadByRule};
 ghost use Rattle.schedule_text.specs.ScheduleOpened.{KnowsOpened};
 ghost use Rattle.schedule_text.specs.Rows.{event_in, flow_count, text_in};
 ghost use Rattle.schedule_text.specs.Words.{kinds_of};
-ghost use Rattle.schedule_text.specs.declared.words.Word.TheVariants.{Open as open_word, Data as data_word, Hang as hang_word, Deliver as deliver_word, Flow as flow_word};
+ghost use Rattle.schedule_text.specs.declared.words.Word.TheVariants.{Open as open_word, Data as data_word, Hang as hang_word, Deliver as deliver_word, Cut as cut_word, Join as join_word, Flow as flow_word, Heal as heal_word};
 
 use crate::event::Event;
 use crate::schedule::fault::{LineError, Rule};
@@ -40,7 +40,10 @@ pub fn event_in(
         Word::Data => data_in(alloc, so_far, arguments),
         Word::Hang => Ok(hang_in(so_far, arguments)?),
         Word::Deliver => deliver_in(alloc, config, arguments),
+        Word::Cut => cut_in(alloc, config, arguments),
+        Word::Join => join_in(alloc, config, arguments),
         Word::Flow => Ok(flow_in(arguments)?),
+        Word::Heal => Ok(heal_in(arguments)?),
     }
 }
 
@@ -112,6 +115,36 @@ fn deliver_in(alloc: Global, config: &Config, arguments: &[&[u8]]) -> Result<Eve
     }
 }
 
+/// `cut A B K L`: the link that joins nodes A and B breaks, and keeps at most K messages from A to B and L back.
+#[tactic(auto, unfolding(crate::specs::Rows::event_in))]
+fn cut_in(alloc: Global, config: &Config, arguments: &[&[u8]]) -> Result<Event, LineError>
+    ensures { (before : List Event) → IsReadByRule (event_in config.now before cut_word (map (λ argument. argument.now) arguments.now)) result }
+{
+    match arguments {
+        [one, other, to, from] => {
+            let kept = number_in(to)?;
+            let kept_back = number_in(from)?;
+            let Link { from, to } = link_in(alloc, config, one, other)?;
+            Ok(Event::Cut(from, to, kept, kept_back))
+        }
+        _ => Err(LineError::Broken(Rule::WrongCount)),
+    }
+}
+
+/// `join A B`: the link that joins nodes A and B comes up, if it may.
+#[tactic(auto, unfolding(crate::specs::Rows::event_in))]
+fn join_in(alloc: Global, config: &Config, arguments: &[&[u8]]) -> Result<Event, LineError>
+    ensures { (before : List Event) → IsReadByRule (event_in config.now before join_word (map (λ argument. argument.now) arguments.now)) result }
+{
+    match arguments {
+        [one, other] => {
+            let Link { from, to } = link_in(alloc, config, one, other)?;
+            Ok(Event::Join(from, to))
+        }
+        _ => Err(LineError::Broken(Rule::WrongCount)),
+    }
+}
+
 /// `flow K`: at most K deliveries, in rounds over the links.
 #[tactic(auto, unfolding(crate::specs::Rows::event_in))]
 fn flow_in(arguments: &[&[u8]]) -> Result<Event, Rule>
@@ -119,6 +152,17 @@ fn flow_in(arguments: &[&[u8]]) -> Result<Event, Rule>
 {
     match arguments {
         [number] => Ok(Event::Flow(flow_count(number)?)),
+        _ => Err(Rule::WrongCount),
+    }
+}
+
+/// `heal`: every link that may come up does.
+#[tactic(auto, unfolding(crate::specs::Rows::event_in))]
+fn heal_in(arguments: &[&[u8]]) -> Result<Event, Rule>
+    ensures { (config : Config) (before : List Event) → result ≡ event_in config before heal_word (map (λ argument. argument.now) arguments.now) }
+{
+    match arguments {
+        [] => Ok(Event::Heal),
         _ => Err(Rule::WrongCount),
     }
 }
