@@ -1,3 +1,4 @@
 pub mod Stand
 pub mod Thinned
 pub mod ThinnedLaw
+pub mod StandLaw

@@ -8,9 +8,11 @@ pub mod NotLost
 pub mod OwnNodes
 pub mod OwnClientsLaw
 pub mod RoomLaw
+pub mod FewLinks
 pub mod RunRoom
 pub mod LinkedNodes
 pub mod OnPairs
+pub mod HealJoins
 pub mod FlowRests
 pub mod QuietFlows
 pub mod QuietNodes

@@ -1,5 +1,5 @@
 -- What each backend has of mailboxes, and the master's table, is what the entries of its disk make: at the start, and after each step.
-use Rattle.std.proofs.Common.{◌≡◌, ◌≢◌, ℕ, List, [], ◌∷◌, ◌++◌, Option, None, Some, refl, sym, ◌∙◌, ap, subst}
+use Rattle.std.proofs.Common.{◌≡◌, ◌≢◌, ℕ, Bool, true, false, List, [], ◌∷◌, ◌++◌, Option, None, Some, refl, sym, ◌∙◌, ap, subst}
 use Rattle.std.specs.Ordering.{nat_cmp}
 use Rattle.std.specs.Cmp.Lexicographic.{slice_cmp}
 use Rattle.std.proofs.Math.Logic.{⊎_elim}
@@ -24,13 +24,13 @@ use Rattle.node_step.specs.declared.node.NodeState.TheVariants as state
 use Rattle.node_step.specs.NodeStep.{takes as node_takes}
 use Rattle.node_step.proofs.NodeKinds.{back_is, master_is}
 use Rattle.schedule_text.specs.declared.event.Event.{Event}
-use Rattle.schedule_text.specs.declared.event.Event.TheVariants.{Open, Data, Hang, Deliver}
+use Rattle.schedule_text.specs.declared.event.Event.TheVariants.{Open, Data, Hang, Deliver, Cut, Join}
 use Rattle.cluster_core.specs.declared.world.Client.{Client}
 use Rattle.cluster_core.specs.declared.world.World.{World}
 use Rattle.cluster_core.specs.Flow.{run_steps, steps_of_run}
 use Rattle.cluster_core.specs.Headline.Disks.{IsOnDisks, TableStandsOn, StandsOnDisks}
 use Rattle.cluster_core.specs.Headline.Outside.{table_by}
-use Rattle.cluster_core.specs.World.{Disks, acts, client_at, client_does, comes_to, deliver_first, disk_at, first_state, master_at, master_of, no_world, node_at}
+use Rattle.cluster_core.specs.World.{Disks, cuts_if, joins_if, may_cut, may_join, acts, client_at, client_does, comes_to, deliver_first, disk_at, first_state, master_at, master_of, no_world, node_at}
 use Rattle.cluster_core.specs.World.{not_lost, opens, start, stepped, steps_by, taken_from_link, takes, with_acted, with_client, with_disk, with_node, with_nodes}
 use Rattle.cluster_core.specs.World.{told_up, with_ups, written, written_on}
 use Rattle.cluster_core.proofs.Disks.NodeWrites.{Disk, StandsOn, disk_with, takes_stands}
@@ -107,12 +107,24 @@ unfolding deliver_first
 deliver_stands world from to [] stand = stand
 deliver_stands world from to (message ∷ rest) stand = comes_stand (taken_from_link world from to) to (From from message) (node_at world to) refl stand
 
+cut_stands : (world : World) (one other : List ℕ) (k l : ℕ) (may : Bool) → StandOnDisks world → StandOnDisks (cuts_if may world one other k l)
+unfolding cuts_if
+cut_stands world one other k l true stand = stand
+cut_stands world one other k l false stand = stand
+
+join_stands : (world : World) (one other : List ℕ) (may : Bool) → StandOnDisks world → StandOnDisks (joins_if may world one other)
+unfolding joins_if
+join_stands world one other true stand = stand
+join_stands world one other false stand = stand
+
 step_stands : (world : World) (event : Event) → StandOnDisks world → StandOnDisks (steps_by world event)
 unfolding takes
 step_stands world (Open node conn) stand = opens_stand (stepped world) node conn (client_at world conn) stand
 step_stands world (Data conn bytes) stand = client_stands (stepped world) (Piece conn bytes) (client_at world conn) stand
 step_stands world (Hang conn) stand = client_stands (stepped world) (Hung conn) (client_at world conn) stand
 step_stands world (Deliver from to) stand = deliver_stands (stepped world) from to (on_link world.links from to) stand
+step_stands world (Cut one other k l) stand = cut_stands (stepped world) one other k l (may_cut (stepped world) one other) stand
+step_stands world (Join one other) stand = join_stands (stepped world) one other (may_join (stepped world) one other) stand
 step_stands world event stand = stand
 
 -- ---- the start

@@ -11,7 +11,7 @@ use Rattle.mur_config.specs.Nodes.{AreNodes, links_of}
 use Rattle.node_step.specs.declared.node.NodeState.{NodeState}
 use Rattle.node_step.specs.NodeStep.{takes as node_takes}
 use Rattle.schedule_text.specs.declared.event.Event.{Event}
-use Rattle.schedule_text.specs.declared.event.Event.TheVariants.{Deliver, Flow}
+use Rattle.schedule_text.specs.declared.event.Event.TheVariants.{Deliver, Flow, Heal}
 use Rattle.cluster_core.specs.declared.layout.Layout.{Layout}
 use Rattle.cluster_core.specs.declared.world.World.{World}
 use Rattle.cluster_core.specs.Flow.{Flowing, delivered, turn_by, turn_of_link, round, rounds_by, rounds, flow, steps_of_event, happens, unrolled, run_steps, steps_of_run}
@@ -19,6 +19,7 @@ use Rattle.cluster_core.specs.Headline.FlowLaw.{DeliversFirst, IsFlow, AreStepsO
 use Rattle.cluster_core.specs.Headline.FlowLaw.AreStepsOfAll.{no_event, an_event}
 use Rattle.link_queue.specs.Links.{on_link}
 use Rattle.cluster_core.specs.World.{not_lost, node_at, comes_to, taken_from_link, deliver_first, takes, stepped, steps_by, start, layout_of}
+use Rattle.cluster_core.proofs.Runs.HealJoins.{is_heal}
 use Rattle.cluster_core.proofs.Runs.LinkedNodes.{AreApart, pairs_apart}
 use Rattle.cluster_core.proofs.Runs.OneNodeLaw.{carry_all_sends}
 use Rattle.cluster_core.specs.Numbers.{NumbersFitAll}
@@ -241,6 +242,7 @@ are_steps : (config : Config) (steps : List Event) (world : World) (event : Even
     → world ≡ run_steps (start config) steps → AreStepsOf (links_of config.nodes) world event (steps_of_event (layout_of config) world event)
 unfolding steps_of_event
 are_steps config steps world (Flow count) are known there = is_flow config steps count world are known there
+are_steps config steps world Heal are known there = is_heal (layout_of config) world
 are_steps config steps world event are known there = refl
 
 -- behind whatever steps

@@ -1,5 +1,5 @@
 -- The marks that a step puts behind others are of this step.
-use Rattle.std.proofs.Common.{◌≡◌, ℕ, List, [], ◌∷◌, ◌++◌, Option, None, Some, refl, sym, ◌∙◌, ap, append_assoc}
+use Rattle.std.proofs.Common.{◌≡◌, ℕ, Bool, true, false, List, [], ◌∷◌, ◌++◌, Option, None, Some, refl, sym, ◌∙◌, ap, append_assoc}
 use Rattle.std.specs.Prelude.{All}
 use Rattle.std.proofs.lemmas.List.{append-nil}
 use Rattle.std.proofs.lemmas.List.Elements.{All-append, All-nil, All-push, All-weaker}
@@ -11,7 +11,7 @@ use Rattle.link_msg.specs.declared.out.Out.TheVariants.{Client as to_client, Clo
 use Rattle.node_step.specs.declared.node.NodeState.{NodeState}
 use Rattle.node_step.specs.NodeStep.{Acted, takes as node_takes}
 use Rattle.schedule_text.specs.declared.event.Event.{Event}
-use Rattle.schedule_text.specs.declared.event.Event.TheVariants.{Open, Data, Hang, Deliver}
+use Rattle.schedule_text.specs.declared.event.Event.TheVariants.{Open, Data, Hang, Deliver, Cut, Join}
 use Rattle.cluster_core.specs.declared.world.Client.{Client}
 use Rattle.mark_history.specs.declared.mark.Mark.{Mark}
 use Rattle.mur_base.specs.declared.point.AskId.{AskId}
@@ -19,7 +19,7 @@ use Rattle.mark_history.specs.declared.mark.MarkKind.{MarkKind}
 use Rattle.mark_history.specs.declared.mark.MarkKind.TheVariants.{Home, Told}
 use Rattle.cluster_core.specs.declared.world.World.{World}
 use Rattle.link_queue.specs.Links.{on_link}
-use Rattle.cluster_core.specs.World.{not_lost, marked, client_at, node_at, given_more, carry, carry_all, acts, comes_to, with_client, opens, client_does, taken_from_link, deliver_first, takes}
+use Rattle.cluster_core.specs.World.{cuts_if, joins_if, may_cut, may_join, not_lost, marked, client_at, node_at, given_more, carry, carry_all, acts, comes_to, with_client, opens, client_does, taken_from_link, deliver_first, takes}
 
 -- marks of one step, put behind others; the step stays
 pub record Adds (before now : World) : Type 0 where
@@ -102,10 +102,22 @@ deliver_adds world from to (message ∷ rest) =
     adds_more world (taken_from_link world from to) _ (adds_none world _ refl refl)
     (comes_add (taken_from_link world from to) to (From from message) (node_at world to))
 
+cut_adds : (world : World) (one other : List ℕ) (k l : ℕ) (may : Bool) → Adds world (cuts_if may world one other k l)
+unfolding cuts_if
+cut_adds world one other k l true = adds_none world _ refl refl
+cut_adds world one other k l false = adds_none world world refl refl
+
+join_adds : (world : World) (one other : List ℕ) (may : Bool) → Adds world (joins_if may world one other)
+unfolding joins_if
+join_adds world one other true = adds_none world _ refl refl
+join_adds world one other false = adds_none world world refl refl
+
 pub takes_adds : (world : World) (event : Event) → Adds world (takes world event)
 unfolding takes
 takes_adds world (Open node conn) = opens_add world node conn (client_at world conn)
 takes_adds world (Data conn bytes) = client_adds world (Piece conn bytes) (client_at world conn)
 takes_adds world (Hang conn) = client_adds world (Hung conn) (client_at world conn)
 takes_adds world (Deliver from to) = deliver_adds world from to (on_link world.links from to)
+takes_adds world (Cut one other k l) = cut_adds world one other k l (may_cut world one other)
+takes_adds world (Join one other) = join_adds world one other (may_join world one other)
 takes_adds world event = adds_none world world refl refl

@@ -32,7 +32,7 @@ apart_at (node ∷ nodes) one other (suc i) zero pairs h is k also kinds =
 apart_at (node ∷ nodes) one other (suc i) (suc j) pairs h is k also kinds =
     apart_at nodes one other i j (tail_apart node nodes pairs) (omega (arith, h)) is (omega (arith, k)) also kinds
 
-apart_kinds : (nodes : List Node) (kind another : Kind) (one other : List ℕ) → AllPairs (λ (a b : Node). a.name ≢ b.name) nodes → HasNode nodes kind one
+pub apart_kinds : (nodes : List Node) (kind another : Kind) (one other : List ℕ) → AllPairs (λ (a b : Node). a.name ≢ b.name) nodes → HasNode nodes kind one
     → HasNode nodes another other → kind ≢ another → one ≢ other
 apart_kinds nodes kind another one other pairs has also ne same =
     apart_at nodes has.node also.node has.among.0 also.among.0 pairs has.among.1 has.among.2 also.among.1 also.among.2
@@ -85,6 +85,13 @@ pub backend_with_master : (config : Config) (server : List ℕ) → AreNodes con
 unfolding are_kinds_linked
 backend_with_master config server are has =
     joined_kinds config Backend Master server (master_of config) are has (the_master config are) (λ e. cc) refl refl
+
+-- two backends
+pub backends_joined : (config : Config) (one other : List ℕ) → HasNode config.nodes Backend one → HasNode config.nodes Backend other → one ≢ other
+    → Joined (links_of config.nodes) one other
+unfolding are_kinds_linked
+backends_joined config one other has also ne =
+    (pair_of config.nodes Backend Backend one other refl has also ne, pair_of config.nodes Backend Backend other one refl also has (λ e. ne (sym e)))
 
 -- ---- the two ends of a pair are apart
 

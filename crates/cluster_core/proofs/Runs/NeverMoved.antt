@@ -1,10 +1,10 @@
 -- In no run an answer is on its way that tells of a server to which a mailbox has moved: no mailbox moves.
-use Rattle.std.proofs.Common.{◌≡◌, ◌≢◌, ℕ, Bool, true, false, cond, List, [], ◌∷◌, ◌++◌, drop, Option, None, Some, refl, sym, ◌∙◌, subst}
+use Rattle.std.proofs.Common.{◌≡◌, ◌≢◌, ℕ, zero, suc, ◌&&◌, ◌||◌, Bool, true, false, not, cond, List, [], ◌∷◌, ◌++◌, drop, take, Option, None, Some, refl, sym, ◌∙◌, ap, subst, All, Contains}
 use Rattle.std.specs.List.{AllByRecursion}
-use Rattle.std.specs.Ordering.{nat_cmp}
+use Rattle.std.specs.Ordering.{nat_cmp, is_eq}
 use Rattle.std.specs.Cmp.Lexicographic.{slice_cmp}
 use Rattle.std.proofs.Math.Logic.{⊎_elim}
-use Rattle.std.proofs.lemmas.List.Elements.{All-nil}
+use Rattle.std.proofs.lemmas.List.Elements.{All-contains_itself, All-head, All-nil, All-tail}
 use Rattle.std.proofs.lemmas.Option.{same_Some}
 use Rattle.cluster_core.specs.declared.world.Client.{Client}
 use Rattle.feed_links.proofs.FeedLaw.{both}
@@ -12,204 +12,384 @@ use Rattle.front_core.proofs.OwnOuts.{IsLetOut}
 use Rattle.link_msg.specs.declared.answer.AnswerBody.TheVariants.{Moved}
 use Rattle.link_msg.specs.declared.answer.BackAnswer.{BackAnswer}
 use Rattle.link_msg.specs.declared.message.LinkMsg.{LinkMsg}
-use Rattle.link_msg.specs.declared.message.LinkMsg.TheVariants.{Up, Answer}
+use Rattle.link_msg.specs.declared.message.LinkMsg.TheVariants.{Up, End, Answer}
 use Rattle.link_msg.specs.declared.out.Out.{Out}
 use Rattle.link_msg.specs.declared.out.Out.TheVariants.{Client as to_client, Close, Link as to_node, Mark as mark_out, Told as tell}
-use Rattle.link_queue.specs.Links.{Links, on_link, same_link, without_first}
-use Rattle.link_queue.proofs.Wires.{on_link-sent, on_link-taken}
+use Rattle.link_queue.specs.Broken.{Broken, breaking, is_broken, mending}
+use Rattle.link_queue.specs.Links.{Links, cut_short, on_link, same_link, sent, without_first}
+use Rattle.link_queue.proofs.BrokenLaws.{is_broken-breaking, is_broken-mending, none_broken}
+use Rattle.link_queue.proofs.Wires.{on_link-cut, on_link-sent, on_link-taken, same_names}
 use Rattle.mur_base.proofs.MapLaws.{names_apart, same_or_other, value_at-with_entry, value_at-with_entry-other}
 use Rattle.mur_config.specs.declared.config.Config.{Config}
 use Rattle.mur_config.specs.declared.node.Kind.{Kind}
 use Rattle.mur_config.specs.declared.node.Kind.TheVariants.{Master as master_kind, Frontend, Backend as backend_kind}
 use Rattle.mur_config.specs.declared.node.Link.{Link}
 use Rattle.mur_config.specs.declared.node.Node.{Node}
-use Rattle.mur_config.specs.Nodes.{links_of}
+use Rattle.mur_config.specs.Nodes.{AreNodes, links_of}
 use Rattle.node_step.specs.declared.input.NodeInput.{NodeInput}
 use Rattle.node_step.specs.declared.input.NodeInput.TheVariants.{Opened, Piece, Hung, From}
 use Rattle.node_step.specs.declared.node.NodeState.{NodeState}
+use Rattle.node_step.specs.declared.node.NodeState.TheVariants as state
 use Rattle.node_step.specs.NodeStep.{takes as node_takes}
 use Rattle.node_step.proofs.OwnOuts.{MayMark}
 use Rattle.schedule_text.specs.declared.event.Event.{Event}
-use Rattle.schedule_text.specs.declared.event.Event.TheVariants.{Open, Data, Hang, Deliver}
+use Rattle.schedule_text.specs.declared.event.Event.TheVariants.{Open, Data, Hang, Deliver, Cut, Join}
 use Rattle.cluster_core.specs.declared.world.World.{World}
 use Rattle.cluster_core.specs.Flow.{run_steps}
-use Rattle.cluster_core.specs.World.{carry, carry_all, client_at, client_does, comes_to, deliver_first, first_state, given_more, no_world, node_at, not_lost, opens, start, stepped, steps_by, taken_from_link, takes, told_up, with_client, with_node, with_nodes, with_ups, with_acted}
+use Rattle.cluster_core.specs.World.{are_parted, carry, carry_all, client_at, client_does, comes_to, cuts_if, deliver_first, first_state, given_more, is_nothing, joins_if, master_of, may_cut, may_join, may_part, no_world, node_at, not_lost, opens, start, stepped, steps_by, taken_from_link, takes, told_up, with_client, with_node, with_nodes, with_ups, with_acted}
+use Rattle.cluster_core.proofs.Runs.LinkedNodes.{apart_kinds, the_master}
 use Rattle.cluster_core.proofs.Runs.NotLost.{let_left}
+use Rattle.cluster_core.proofs.Runs.OneNodeLaw.{comes_broken}
 use Rattle.cluster_core.proofs.Runs.OwnNodes.{OfEachNode, comes_of_each}
 use Rattle.cluster_core.proofs.Runs.QuietFlows.{LooksForNone}
-use Rattle.cluster_core.proofs.Runs.QuietNodes.{AnyClient, AreQuietOuts, InputIsQuiet, IsQuiet, NodeIsFresh, NodeIsQuiet, QuietTo, fresh_is_quiet, outs_quiet, stays_quiet, ups_fresh, ups_outs}
+use Rattle.cluster_core.proofs.Runs.QuietNodes.{AnyClient, AreQuietOuts, InputIsQuiet, IsQuietOn, NodeIsFresh, NodeIsQuiet, QuietTo, fresh_is_quiet, outs_quiet, quiet_on, stays_quiet, ups_fresh, ups_outs}
 
 -- all that is on its way is so
-abbrev pub AreQuietOn : Links LinkMsg → Type 0
-AreQuietOn links = (from to : List ℕ) → AllByRecursion IsQuiet (on_link links from to)
+abbrev pub AreQuietOn : List ℕ → Links LinkMsg → Type 0
+AreQuietOn master links = (from to : List ℕ) → AllByRecursion (IsQuietOn master from to) (on_link links from to)
 
 -- ---- what a node lets out
 
-one_more : (queue : List LinkMsg) (message : LinkMsg) (same : Bool) → IsQuiet message → AllByRecursion IsQuiet queue
-    → AllByRecursion IsQuiet (queue ++ cond same (message ∷ []) [])
-one_more queue message true is all = both IsQuiet queue (message ∷ []) all (is, tt)
-one_more queue message false is all = both IsQuiet queue [] all tt
+one_more : (P : LinkMsg → Type 0) (queue : List LinkMsg) (message : LinkMsg) (same : Bool) → (same ≡ true → P message) → AllByRecursion P queue
+    → AllByRecursion P (queue ++ cond same (message ∷ []) [])
+one_more P queue message true is all = both P queue (message ∷ []) all (is refl, tt)
+one_more P queue message false is all = both P queue [] all tt
 
 pub given_links : (world : World) (conn : ℕ) (bytes : List ℕ) (found : Option Client) → (given_more world conn bytes found).links ≡ world.links
 unfolding given_more
 given_links world conn bytes None = refl
 given_links world conn bytes (Some client) = refl
 
-carry_quiet : (marks : Type 0) (node : List ℕ) (world : World) (out : Out) → IsLetOut AnyClient QuietTo marks out → AreQuietOn world.links
-    → AreQuietOn (carry node world out).links
-unfolding carry
-carry_quiet marks node world (to_client conn bytes) is on = subst AreQuietOn (sym (given_links world conn bytes (client_at world conn))) on
-carry_quiet marks node world (Close conn) is on = on
-carry_quiet marks node world (mark_out ask counts) is on = on
-carry_quiet marks node world (tell ask how) is on = on
-carry_quiet marks node world (to_node other message) is on = λ from to.
-    subst (AllByRecursion IsQuiet) (sym (on_link-sent world.links node other from to message))
-    (one_more (on_link world.links from to) message (same_link from to node other) is (on from to))
+module _ (master : List ℕ) where
+  carry_quiet : (marks : Type 0) (node : List ℕ) (world : World) (out : Out) → IsLetOut AnyClient QuietTo marks out → AreQuietOn master world.links
+      → AreQuietOn master (carry node world out).links
+  unfolding carry
+  carry_quiet marks node world (to_client conn bytes) is on = subst (AreQuietOn master) (sym (given_links world conn bytes (client_at world conn))) on
+  carry_quiet marks node world (Close conn) is on = on
+  carry_quiet marks node world (mark_out ask counts) is on = on
+  carry_quiet marks node world (tell ask how) is on = on
+  carry_quiet marks node world (to_node other message) is on = λ from to.
+      subst (AllByRecursion (IsQuietOn master from to)) (sym (on_link-sent world.links node other from to message))
+      (one_more (IsQuietOn master from to) (on_link world.links from to) message (same_link from to node other)
+      (λ _. quiet_on master from to message is) (on from to))
 
-carry_all_quiet : (marks : Type 0) (node : List ℕ) (world : World) (outs : List Out) → AreQuietOuts marks outs → AreQuietOn world.links
-    → AreQuietOn (carry_all node world outs).links
-unfolding carry_all
-carry_all_quiet marks node world [] are on = on
-carry_all_quiet marks node world (out ∷ outs) are on =
-    carry_all_quiet marks node (carry node world out) outs are.1 (carry_quiet marks node world out are.0 on)
+  carry_all_quiet : (marks : Type 0) (node : List ℕ) (world : World) (outs : List Out) → AreQuietOuts marks outs → AreQuietOn master world.links
+      → AreQuietOn master (carry_all node world outs).links
+  unfolding carry_all
+  carry_all_quiet marks node world [] are on = on
+  carry_all_quiet marks node world (out ∷ outs) are on =
+      carry_all_quiet marks node (carry node world out) outs are.1 (carry_quiet marks node world out are.0 on)
 
-comes_links : (world : World) (node : List ℕ) (input : NodeInput) (found : Option NodeState)
-    → ((it : NodeState) → found ≡ Some it → AreQuietOuts (MayMark it) (node_takes it input).outs) → AreQuietOn world.links
-    → AreQuietOn (comes_to world node input found).links
-unfolding comes_to
-comes_links world node input None lets on = on
-comes_links world node input (Some it) lets on =
-    carry_all_quiet (MayMark it) node (with_acted world node (node_takes it input)) (not_lost world.broken node (node_takes it input).outs)
-    (let_left AnyClient QuietTo (MayMark it) world.broken node (node_takes it input).outs (lets it refl)) on
+  comes_links : (world : World) (node : List ℕ) (input : NodeInput) (found : Option NodeState)
+      → ((it : NodeState) → found ≡ Some it → AreQuietOuts (MayMark it) (node_takes it input).outs) → AreQuietOn master world.links
+      → AreQuietOn master (comes_to world node input found).links
+  unfolding comes_to
+  comes_links world node input None lets on = on
+  comes_links world node input (Some it) lets on =
+      carry_all_quiet (MayMark it) node (with_acted world node (node_takes it input)) (not_lost world.broken node (node_takes it input).outs)
+      (let_left AnyClient QuietTo (MayMark it) world.broken node (node_takes it input).outs (lets it refl)) on
 
 -- ---- a world
 
-pub record WorldIsQuiet (world : World) : Type 0 where
-  pub nodes : OfEachNode (λ node it. NodeIsQuiet it) world
-  pub links : AreQuietOn world.links
+-- no link of this node is broken
+abbrev pub AreWhole : List ℕ → Broken → Type 0
+AreWhole master broken = (node : List ℕ) → (is_broken broken master node ≡ false) × (is_broken broken node master ≡ false)
 
-comes_quiet : (world : World) (node : List ℕ) (input : NodeInput) → InputIsQuiet input → WorldIsQuiet world
-    → WorldIsQuiet (comes_to world node input (node_at world node))
-comes_quiet world node input is quiet = record {
-  nodes = comes_of_each (λ any it. NodeIsQuiet it) world node input (node_at world node) refl quiet.nodes
-      (λ it there. stays_quiet it input (quiet.nodes node it there) is);
-  links = comes_links world node input (node_at world node) (λ it there. outs_quiet it input (quiet.nodes node it there) is) quiet.links;
-}
+pub record WorldIsQuiet (master : List ℕ) (world : World) : Type 0 where
+  pub nodes : OfEachNode (NodeIsQuiet master) world
+  pub links : AreQuietOn master world.links
+  pub whole : AreWhole master world.broken
 
-opens_quiet : (world : World) (node : List ℕ) (conn : ℕ) (found : Option Client) → WorldIsQuiet world → WorldIsQuiet (opens world node conn found)
-unfolding opens
-opens_quiet world node conn (Some there) quiet = quiet
-opens_quiet world node conn None quiet =
-    comes_quiet (with_client world node conn) node (Opened conn) tt (record { nodes = quiet.nodes; links = quiet.links })
+-- a link that breaks isn't the master's
+parted_apart : (master one other : List ℕ) (it another : NodeState) → NodeIsQuiet master one it → NodeIsQuiet master other another
+    → are_parted it another ≡ true → (one ≢ master) × (other ≢ master)
+unfolding are_parted
+parted_apart master one other (state.Front front) (state.Back home) is also may = (is, also.apart)
+parted_apart master one other (state.Back home) (state.Front front) is also may = (is.apart, also)
+parted_apart master one other (state.Back home) (state.Back another) is also may = (is.apart, also.apart)
+parted_apart master one other (state.Front front) (state.Front another) is also may = cc
+parted_apart master one other (state.Front front) (state.Master it) is also may = cc
+parted_apart master one other (state.Back home) (state.Master it) is also may = cc
+parted_apart master one other (state.Master it) (state.Front front) is also may = cc
+parted_apart master one other (state.Master it) (state.Back home) is also may = cc
+parted_apart master one other (state.Master it) (state.Master another) is also may = cc
 
-client_quiet : (world : World) (input : NodeInput) (found : Option Client) → InputIsQuiet input → WorldIsQuiet world
-    → WorldIsQuiet (client_does world input found)
-unfolding client_does
-client_quiet world input None is quiet = quiet
-client_quiet world input (Some client) is quiet = comes_quiet world client.at input is quiet
+may_part_apart : (master one other : List ℕ) (it another : Option NodeState) → ((s : NodeState) → it ≡ Some s → NodeIsQuiet master one s)
+    → ((s : NodeState) → another ≡ Some s → NodeIsQuiet master other s) → may_part it another ≡ true → (one ≢ master) × (other ≢ master)
+unfolding may_part
+may_part_apart master one other (Some it) (Some another) is also may = parted_apart master one other it another (is it refl) (also another refl) may
+may_part_apart master one other (Some it) None is also may = cc
+may_part_apart master one other None another is also may = cc
 
-behind_first : (queue : List LinkMsg) → AllByRecursion IsQuiet queue → AllByRecursion IsQuiet (drop 1 queue)
-behind_first [] all = tt
-behind_first (message ∷ queue) all = all.1
+first_true : (one two : Bool) → one && two ≡ true → one ≡ true
+first_true true two e = refl
+first_true false two e = cc
 
-either_queue : (queue : List LinkMsg) (same : Bool) → AllByRecursion IsQuiet queue → AllByRecursion IsQuiet (cond same (drop 1 queue) queue)
-either_queue queue true all = behind_first queue all
-either_queue queue false all = all
+pub may_cut_parts : (world : World) (one other : List ℕ) → may_cut world one other ≡ true → may_part (node_at world one) (node_at world other) ≡ true
+unfolding may_cut
+may_cut_parts world one other may =
+    first_true (may_part (node_at world one) (node_at world other)) (not (is_eq (slice_cmp nat_cmp one other)))
+    (first_true (may_part (node_at world one) (node_at world other) && not (is_eq (slice_cmp nat_cmp one other)))
+    (not (is_broken world.broken one other)) may)
 
-taken_quiet : (links : Links LinkMsg) (from to : List ℕ) → AreQuietOn links → AreQuietOn (without_first links from to)
-taken_quiet links from to on = λ a b.
-    subst (AllByRecursion IsQuiet) (sym (on_link-taken links from to a b)) (either_queue (on_link links a b) (same_link a b from to) (on a b))
+pub may_join_broken : (world : World) (one other : List ℕ) → may_join world one other ≡ true → is_broken world.broken one other ≡ true
+unfolding may_join
+may_join_broken world one other may =
+    first_true (is_broken world.broken one other) (is_nothing (on_link world.links one other))
+    (first_true (is_broken world.broken one other && is_nothing (on_link world.links one other)) (is_nothing (on_link world.links other one)) may)
 
-deliver_quiet : (world : World) (from to : List ℕ) (queue : List LinkMsg) → on_link world.links from to ≡ queue → WorldIsQuiet world
-    → WorldIsQuiet (deliver_first world from to queue)
-unfolding deliver_first
-deliver_quiet world from to [] first quiet = quiet
-deliver_quiet world from to (message ∷ rest) first quiet =
-    comes_quiet (taken_from_link world from to) to (From from message) (subst (AllByRecursion IsQuiet) first (quiet.links from to)).0
-    (record { nodes = quiet.nodes; links = taken_quiet world.links from to quiet.links })
+pub cut_apart : (master : List ℕ) (world : World) (one other : List ℕ) → OfEachNode (NodeIsQuiet master) world → may_cut world one other ≡ true
+    → (one ≢ master) × (other ≢ master)
+cut_apart master world one other each may =
+    may_part_apart master one other (node_at world one) (node_at world other) (each one) (each other)
+    (may_cut_parts world one other may)
 
-takes_quiet : (world : World) (event : Event) → WorldIsQuiet world → WorldIsQuiet (takes world event)
-unfolding takes
-takes_quiet world (Open node conn) quiet = opens_quiet world node conn (client_at world conn) quiet
-takes_quiet world (Data conn bytes) quiet = client_quiet world (Piece conn bytes) (client_at world conn) tt quiet
-takes_quiet world (Hang conn) quiet = client_quiet world (Hung conn) (client_at world conn) tt quiet
-takes_quiet world (Deliver from to) quiet = deliver_quiet world from to (on_link world.links from to) refl quiet
-takes_quiet world event quiet = quiet
+module _ (master : List ℕ) where
+  comes_quiet : (world : World) (node : List ℕ) (input : NodeInput) → InputIsQuiet master node input → WorldIsQuiet master world
+      → WorldIsQuiet master (comes_to world node input (node_at world node))
+  comes_quiet world node input is quiet = record {
+    nodes = comes_of_each (NodeIsQuiet master) world node input (node_at world node) refl quiet.nodes
+        (λ it there. stays_quiet master node it input (quiet.nodes node it there) is);
+    links = comes_links master world node input (node_at world node) (λ it there. outs_quiet master node it input (quiet.nodes node it there) is) quiet.links;
+    whole = subst (AreWhole master) (sym (comes_broken world node input (node_at world node))) quiet.whole;
+  }
 
--- each step keeps it
-pub step_quiet : (world : World) (event : Event) → WorldIsQuiet world → WorldIsQuiet (steps_by world event)
-step_quiet world event quiet = takes_quiet (stepped world) event (record { nodes = quiet.nodes; links = quiet.links })
+  opens_quiet : (world : World) (node : List ℕ) (conn : ℕ) (found : Option Client) → WorldIsQuiet master world
+      → WorldIsQuiet master (opens world node conn found)
+  unfolding opens
+  opens_quiet world node conn (Some there) quiet = quiet
+  opens_quiet world node conn None quiet =
+      comes_quiet (with_client world node conn) node (Opened conn) tt (record { nodes = quiet.nodes; links = quiet.links; whole = quiet.whole })
 
-run_quiet : (world : World) (steps : List Event) → WorldIsQuiet world → WorldIsQuiet (run_steps world steps)
-unfolding run_steps
-run_quiet world [] quiet = quiet
-run_quiet world (event ∷ steps) quiet = run_quiet (steps_by world event) steps (step_quiet world event quiet)
+  data_quiet : (world : World) (conn : ℕ) (bytes : List ℕ) (found : Option Client) → WorldIsQuiet master world
+      → WorldIsQuiet master (client_does world (Piece conn bytes) found)
+  unfolding client_does
+  data_quiet world conn bytes None quiet = quiet
+  data_quiet world conn bytes (Some client) quiet = comes_quiet world client.at (Piece conn bytes) tt quiet
+
+  hang_quiet : (world : World) (conn : ℕ) (found : Option Client) → WorldIsQuiet master world → WorldIsQuiet master (client_does world (Hung conn) found)
+  unfolding client_does
+  hang_quiet world conn None quiet = quiet
+  hang_quiet world conn (Some client) quiet = comes_quiet world client.at (Hung conn) tt quiet
+
+  behind_first : (P : LinkMsg → Type 0) (queue : List LinkMsg) → AllByRecursion P queue → AllByRecursion P (drop 1 queue)
+  behind_first P [] all = tt
+  behind_first P (message ∷ queue) all = all.1
+
+  either_queue : (P : LinkMsg → Type 0) (one other : List LinkMsg) (same : Bool) → (same ≡ true → AllByRecursion P one) → AllByRecursion P other
+      → AllByRecursion P (cond same one other)
+  either_queue P one other true here all = here refl
+  either_queue P one other false here all = all
+
+  taken_quiet : (links : Links LinkMsg) (from to : List ℕ) → AreQuietOn master links → AreQuietOn master (without_first links from to)
+  taken_quiet links from to on = λ a b.
+      subst (AllByRecursion (IsQuietOn master a b)) (sym (on_link-taken links from to a b))
+      (either_queue (IsQuietOn master a b) (drop 1 (on_link links a b)) (on_link links a b) (same_link a b from to)
+      (λ _. behind_first (IsQuietOn master a b) (on_link links a b) (on a b)) (on a b))
+
+  deliver_quiet : (world : World) (from to : List ℕ) (queue : List LinkMsg) → on_link world.links from to ≡ queue → WorldIsQuiet master world
+      → WorldIsQuiet master (deliver_first world from to queue)
+  unfolding deliver_first
+  deliver_quiet world from to [] first quiet = quiet
+  deliver_quiet world from to (message ∷ rest) first quiet =
+      comes_quiet (taken_from_link world from to) to (From from message) (subst (AllByRecursion (IsQuietOn master from to)) first (quiet.links from to)).0
+      (record { nodes = quiet.nodes; links = taken_quiet world.links from to quiet.links; whole = quiet.whole })
+
+  -- a link breaks
+
+  kept_quiet : (P : LinkMsg → Type 0) (k : ℕ) (queue : List LinkMsg) → AllByRecursion P queue → AllByRecursion P (take k queue)
+  kept_quiet P zero queue all = tt
+  kept_quiet P (suc k) [] all = tt
+  kept_quiet P (suc k) (message ∷ queue) all = (all.0, kept_quiet P k queue all.1)
+
+  short_quiet : (links : Links LinkMsg) (one other : List ℕ) (k : ℕ) → one ≢ master → other ≢ master → AreQuietOn master links
+      → AreQuietOn master (cut_short links one other k End)
+  short_quiet links one other k ne me on = λ a b.
+      subst (AllByRecursion (IsQuietOn master a b)) (sym (on_link-cut links one other a b k End))
+      (either_queue (IsQuietOn master a b) (take k (on_link links a b) ++ End ∷ []) (on_link links a b) (same_link a b one other)
+      (λ h. (let is = same_names a b one other h in
+      both (IsQuietOn master a b) (take k (on_link links a b)) (End ∷ []) (kept_quiet (IsQuietOn master a b) k (on_link links a b) (on a b))
+      ((λ e. ne (sym is.0 ∙ e), λ e. me (sym is.1 ∙ e)), tt))) (on a b))
+
+  -- a link that isn't the master's
+  not_its : (one other node : List ℕ) → one ≢ master → other ≢ master → (same_link master node one other ≡ false) × (same_link node master one other ≡ false)
+  not_its one other node ne me =
+      (no_link (λ is. ne (sym is.0)) (same_link master node one other) refl, no_link (λ is. me (sym is.1)) (same_link node master one other) refl)
+    where
+      no_link : {a b : List ℕ} → ((a ≡ one) × (b ≡ other) → ⊥) → (same : Bool) → same_link a b one other ≡ same → same_link a b one other ≡ false
+      no_link none true e = absurd (none (same_names _ _ one other e))
+      no_link none false e = e
+
+  breaks_whole : (broken : Broken) (one other : List ℕ) → one ≢ master → other ≢ master → AreWhole master broken → AreWhole master (breaking broken one other)
+  breaks_whole broken one other ne me whole node =
+      let not = not_its one other node ne me in
+      (is_broken-breaking broken one other master node ∙ ap (λ t. t || is_broken broken master node) not.0 ∙ (whole node).0,
+       is_broken-breaking broken one other node master ∙ ap (λ t. t || is_broken broken node master) not.1 ∙ (whole node).1)
+
+  mends_whole : (broken : Broken) (one other : List ℕ) → AreWhole master broken → AreWhole master (mending broken one other)
+  mends_whole broken one other whole node = (
+    is_broken-mending broken one other master node ∙ still_whole (same_link master node one other) (is_broken broken master node) (whole node).0,
+    is_broken-mending broken one other node master ∙ still_whole (same_link node master one other) (is_broken broken node master) (whole node).1,
+  )
+    where
+      still_whole : (same was : Bool) → was ≡ false → cond same false was ≡ false
+      still_whole true was e = refl
+      still_whole false was e = e
+
+  cut_quiet : (world : World) (one other : List ℕ) (k l : ℕ) (may : Bool) → may_cut world one other ≡ may → WorldIsQuiet master world
+      → WorldIsQuiet master (cuts_if may world one other k l)
+  unfolding cuts_if
+  cut_quiet world one other k l true e quiet =
+      let apart = cut_apart master world one other quiet.nodes e in
+      record {
+        nodes = quiet.nodes;
+        links = short_quiet (cut_short world.links one other k End) other one l apart.1 apart.0 (short_quiet world.links one other k apart.0 apart.1 quiet.links);
+        whole = breaks_whole (breaking world.broken one other) other one apart.1 apart.0 (breaks_whole world.broken one other apart.0 apart.1 quiet.whole);
+      }
+  cut_quiet world one other k l false e quiet = quiet
+
+  -- and comes up
+
+  sent_quiet : (links : Links LinkMsg) (one other : List ℕ) → one ≢ master → other ≢ master → AreQuietOn master links
+      → AreQuietOn master (sent links one other Up)
+  sent_quiet links one other ne me on = λ a b.
+      subst (AllByRecursion (IsQuietOn master a b)) (sym (on_link-sent links one other a b Up))
+      (one_more (IsQuietOn master a b) (on_link links a b) Up (same_link a b one other)
+      (λ h. (let is = same_names a b one other h in (λ e. ne (sym is.0 ∙ e), λ e. me (sym is.1 ∙ e)))) (on a b))
+
+  join_apart : (world : World) (one other : List ℕ) → may_join world one other ≡ true → AreWhole master world.broken → (one ≢ master) × (other ≢ master)
+  join_apart world one other may whole =
+      let broken = may_join_broken world one other may in
+      (λ e. (let no : true ≡ false = sym broken ∙ ap (λ n. is_broken world.broken n other) e ∙ (whole other).0 in cc),
+       λ e. (let no : true ≡ false = sym broken ∙ ap (is_broken world.broken one) e ∙ (whole one).1 in cc))
+
+  join_quiet : (world : World) (one other : List ℕ) (may : Bool) → may_join world one other ≡ may → WorldIsQuiet master world
+      → WorldIsQuiet master (joins_if may world one other)
+  unfolding joins_if
+  join_quiet world one other true e quiet =
+      let apart = join_apart world one other e quiet.whole in
+      record {
+        nodes = quiet.nodes;
+        links = sent_quiet (sent world.links one other Up) other one apart.1 apart.0 (sent_quiet world.links one other apart.0 apart.1 quiet.links);
+        whole = mends_whole (mending world.broken one other) other one (mends_whole world.broken one other quiet.whole);
+      }
+  join_quiet world one other false e quiet = quiet
+
+  -- whatever happens
+
+  takes_quiet : (world : World) (event : Event) → WorldIsQuiet master world → WorldIsQuiet master (takes world event)
+  unfolding takes
+  takes_quiet world (Open node conn) quiet = opens_quiet world node conn (client_at world conn) quiet
+  takes_quiet world (Data conn bytes) quiet = data_quiet world conn bytes (client_at world conn) quiet
+  takes_quiet world (Hang conn) quiet = hang_quiet world conn (client_at world conn) quiet
+  takes_quiet world (Deliver from to) quiet = deliver_quiet world from to (on_link world.links from to) refl quiet
+  takes_quiet world (Cut one other k l) quiet = cut_quiet world one other k l (may_cut world one other) refl quiet
+  takes_quiet world (Join one other) quiet = join_quiet world one other (may_join world one other) refl quiet
+  takes_quiet world event quiet = quiet
+
+  -- each step keeps it
+  pub step_quiet : (world : World) (event : Event) → WorldIsQuiet master world → WorldIsQuiet master (steps_by world event)
+  step_quiet world event quiet = takes_quiet (stepped world) event (record { nodes = quiet.nodes; links = quiet.links; whole = quiet.whole })
+
+  run_quiet : (world : World) (steps : List Event) → WorldIsQuiet master world → WorldIsQuiet master (run_steps world steps)
+  unfolding run_steps
+  run_quiet world [] quiet = quiet
+  run_quiet world (event ∷ steps) quiet = run_quiet (steps_by world event) steps (step_quiet world event quiet)
 
 -- ---- the start
 
-record WorldIsFresh (world : World) : Type 0 where
-  nodes : OfEachNode (λ node it. NodeIsFresh it) world
-  links : AreQuietOn world.links
+record WorldIsFresh (master : List ℕ) (world : World) : Type 0 where
+  nodes : OfEachNode (NodeIsFresh master) world
+  links : AreQuietOn master world.links
+  broken : world.broken ≡ []
 
-first_fresh : (config : Config) (node : Node) (kind : Kind) → NodeIsFresh (first_state config node kind)
-unfolding first_state
-first_fresh config node master_kind = tt
-first_fresh config node Frontend = tt
-first_fresh config node backend_kind = (refl, (refl, All-nil LooksForNone))
+module _ (config : Config) (are : AreNodes config.nodes) where
+  abbrev master : List ℕ
+  master = master_of config
 
-node_fresh : (config : Config) (world : World) (node : Node) → OfEachNode (λ any it. NodeIsFresh it) world
-    → OfEachNode (λ any it. NodeIsFresh it) (with_node config world node)
-node_fresh config world node each other it there = ⊎_elim
-    (λ (e : other ≡ node.name).
-    (let same : first_state config node node.kind ≡ it = same_Some (first_state config node node.kind) it
-    (sym (value_at-with_entry (slice_cmp nat_cmp) names_apart world.nodes node.name (first_state config node node.kind))
-    ∙ subst (λ n. node_at (with_node config world node) n ≡ Some it) e there) in
-    subst NodeIsFresh same (first_fresh config node node.kind)))
-    (λ (ne : other ≢ node.name).
-    each other it (sym (value_at-with_entry-other (slice_cmp nat_cmp) names_apart world.nodes node.name other (first_state config node node.kind) ne) ∙ there))
-    (same_or_other (slice_cmp nat_cmp) names_apart other node.name)
+  -- a node of another kind isn't the master
+  not_master : (node : Node) → Contains config.nodes node → node.kind ≢ master_kind → node.name ≢ master
+  not_master node among ne =
+      apart_kinds config.nodes node.kind master_kind node.name master are.names (record { node = node; among = among; kind_is = refl; named = refl })
+      (the_master config are) ne
 
-nodes_fresh : (config : Config) (world : World) (nodes : List Node) → WorldIsFresh world → WorldIsFresh (with_nodes config world nodes)
-unfolding with_nodes
-nodes_fresh config world [] fresh = fresh
-nodes_fresh config world (node ∷ nodes) fresh =
-    nodes_fresh config (with_node config world node) nodes (record { nodes = node_fresh config world node fresh.nodes; links = fresh.links })
+  first_fresh : (node : Node) (kind : Kind) → Contains config.nodes node → node.kind ≡ kind → NodeIsFresh master node.name (first_state config node kind)
+  unfolding first_state
+  first_fresh node master_kind among k = tt
+  first_fresh node Frontend among k = not_master node among (λ e. (let no : Frontend ≡ master_kind = sym k ∙ e in cc))
+  first_fresh node backend_kind among k = record {
+    apart = not_master node among (λ e. (let no : backend_kind ≡ master_kind = sym k ∙ e in cc));
+    master_is = refl;
+    empty = refl;
+    idle = refl;
+    lines = All-nil LooksForNone;
+  }
 
-ups_are_fresh : (world : World) (links : List Link) → WorldIsFresh world → WorldIsFresh (with_ups world links)
-unfolding with_ups
-ups_are_fresh world [] fresh = fresh
-ups_are_fresh world (link ∷ links) fresh = ups_are_fresh (told_up world link) links (record {
-  nodes = comes_of_each (λ any it. NodeIsFresh it) world link.to (From link.from Up) (node_at world link.to) refl fresh.nodes
-      (λ it there. ups_fresh it link.from (fresh.nodes link.to it there));
-  links = comes_links world link.to (From link.from Up) (node_at world link.to) (λ it there. ups_outs it link.from (fresh.nodes link.to it there)) fresh.links;
-})
+  node_fresh : (world : World) (node : Node) → Contains config.nodes node → OfEachNode (NodeIsFresh master) world
+      → OfEachNode (NodeIsFresh master) (with_node config world node)
+  node_fresh world node among each other it there = ⊎_elim
+      (λ (e : other ≡ node.name).
+      (let same : first_state config node node.kind ≡ it = same_Some (first_state config node node.kind) it
+      (sym (value_at-with_entry (slice_cmp nat_cmp) names_apart world.nodes node.name (first_state config node node.kind))
+      ∙ subst (λ n. node_at (with_node config world node) n ≡ Some it) e there) in
+      subst (λ n. NodeIsFresh master n it) (sym e) (subst (NodeIsFresh master node.name) same (first_fresh node node.kind among refl))))
+      (λ (ne : other ≢ node.name).
+      each other it (sym (value_at-with_entry-other (slice_cmp nat_cmp) names_apart world.nodes node.name other (first_state config node node.kind) ne) ∙ there))
+      (same_or_other (slice_cmp nat_cmp) names_apart other node.name)
 
-nothing_yet : WorldIsFresh no_world
-unfolding on_link
-nothing_yet = record { nodes = λ node it there. cc; links = λ from to. tt }
+  nodes_fresh : (world : World) (nodes : List Node) → All (Contains config.nodes) nodes → WorldIsFresh master world
+      → WorldIsFresh master (with_nodes config world nodes)
+  unfolding with_nodes
+  nodes_fresh world [] all fresh = fresh
+  nodes_fresh world (node ∷ nodes) all fresh =
+      nodes_fresh (with_node config world node) nodes (All-tail (Contains config.nodes) node nodes all) (record {
+        nodes = node_fresh world node (All-head (Contains config.nodes) node nodes all) fresh.nodes;
+        links = fresh.links;
+        broken = fresh.broken;
+      })
 
-pub start_quiet : (config : Config) → WorldIsQuiet (start config)
-unfolding start
-start_quiet config =
-    let fresh = ups_are_fresh (with_nodes config no_world config.nodes) (links_of config.nodes) (nodes_fresh config no_world config.nodes nothing_yet) in
-    record { nodes = λ node it there. fresh_is_quiet it (fresh.nodes node it there); links = fresh.links }
+  ups_are_fresh : (world : World) (links : List Link) → WorldIsFresh master world → WorldIsFresh master (with_ups world links)
+  unfolding with_ups
+  ups_are_fresh world [] fresh = fresh
+  ups_are_fresh world (link ∷ links) fresh = ups_are_fresh (told_up world link) links (record {
+    nodes = comes_of_each (NodeIsFresh master) world link.to (From link.from Up) (node_at world link.to) refl fresh.nodes
+        (λ it there. ups_fresh master link.to it link.from (fresh.nodes link.to it there));
+    links = comes_links master world link.to (From link.from Up) (node_at world link.to)
+        (λ it there. ups_outs master link.to it link.from (fresh.nodes link.to it there)) fresh.links;
+    broken = comes_broken world link.to (From link.from Up) (node_at world link.to) ∙ fresh.broken;
+  })
+
+  nothing_yet : WorldIsFresh master no_world
+  unfolding on_link
+  nothing_yet = record { nodes = λ node it there. cc; links = λ from to. tt; broken = refl }
+
+  pub start_quiet : WorldIsQuiet master (start config)
+  unfolding start
+  start_quiet =
+      let fresh = ups_are_fresh (with_nodes config no_world config.nodes) (links_of config.nodes)
+      (nodes_fresh no_world config.nodes (All-contains_itself config.nodes) nothing_yet) in
+      record {
+        nodes = λ node it there. fresh_is_quiet master node it (fresh.nodes node it there);
+        links = fresh.links;
+        whole = subst (AreWhole master) (sym fresh.broken) (λ node. (none_broken master node, none_broken node master));
+      }
 
 -- ---- a run
 
 -- after whatever steps
-pub never_moved : (config : Config) (steps : List Event) → WorldIsQuiet (run_steps (start config) steps)
-never_moved config steps = run_quiet (start config) steps (start_quiet config)
+pub never_moved : (config : Config) (steps : List Event) → AreNodes config.nodes → WorldIsQuiet (master_of config) (run_steps (start config) steps)
+never_moved config steps are = run_quiet (master_of config) (start config) steps (start_quiet config are)
 
-moved_is_loud : (answer : BackAnswer) (server : List ℕ) → answer.body ≡ Moved server → IsQuiet (Answer answer) → ⊥
-moved_is_loud answer server moved is = subst (λ body. IsQuiet (Answer (record answer { body = body }))) moved is
+moved_is_loud : (master from to : List ℕ) (answer : BackAnswer) (server : List ℕ) → answer.body ≡ Moved server → IsQuietOn master from to (Answer answer) → ⊥
+moved_is_loud master from to answer server moved is = subst (λ body. IsQuietOn master from to (Answer (record answer { body = body }))) moved is
 
 -- the first message of a link is no answer that tells so
-pub quiet_moves_none : (world : World) (from to : List ℕ) (answer : BackAnswer) (rest : List LinkMsg) (server : List ℕ) → WorldIsQuiet world
-    → on_link world.links from to ≡ Answer answer ∷ rest → answer.body ≢ Moved server
-quiet_moves_none world from to answer rest server quiet first moved =
-    moved_is_loud answer server moved (subst (AllByRecursion IsQuiet) first (quiet.links from to)).0
+pub quiet_moves_none : (master : List ℕ) (world : World) (from to : List ℕ) (answer : BackAnswer) (rest : List LinkMsg) (server : List ℕ)
+    → WorldIsQuiet master world → on_link world.links from to ≡ Answer answer ∷ rest → answer.body ≢ Moved server
+quiet_moves_none master world from to answer rest server quiet first moved =
+    moved_is_loud master from to answer server moved (subst (AllByRecursion (IsQuietOn master from to)) first (quiet.links from to)).0
 
-pub none_moved : (config : Config) (steps : List Event) (from to : List ℕ) (answer : BackAnswer) (rest : List LinkMsg) (server : List ℕ)
-    → on_link (run_steps (start config) steps).links from to ≡ Answer answer ∷ rest → answer.body ≢ Moved server
-none_moved config steps from to answer rest server first =
-    quiet_moves_none (run_steps (start config) steps) from to answer rest server (never_moved config steps) first
+pub none_moved : (config : Config) (steps : List Event) → AreNodes config.nodes → (from to : List ℕ) (answer : BackAnswer) (rest : List LinkMsg)
+    (server : List ℕ) → on_link (run_steps (start config) steps).links from to ≡ Answer answer ∷ rest → answer.body ≢ Moved server
+none_moved config steps are from to answer rest server first =
+    quiet_moves_none (master_of config) (run_steps (start config) steps) from to answer rest server (never_moved config steps are) first

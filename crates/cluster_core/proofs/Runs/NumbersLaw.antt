@@ -11,11 +11,12 @@ use Rattle.mur_config.specs.declared.node.Link.{Link}
 use Rattle.schedule_text.specs.Brings.{bytes_brought, bytes_of_all}
 use Rattle.schedule_text.specs.ScheduleFits.{HasConnNumber}
 use Rattle.schedule_text.specs.declared.event.Event.{Event}
-use Rattle.schedule_text.specs.declared.event.Event.TheVariants.{Open, Data, Hang, Deliver, Flow}
+use Rattle.schedule_text.specs.declared.event.Event.TheVariants.{Open, Data, Hang, Deliver, Join, Flow, Heal}
 use Rattle.cluster_core.specs.declared.layout.Layout.{Layout}
 use Rattle.cluster_core.specs.declared.world.World.{World}
-use Rattle.cluster_core.specs.Flow.{Flowing, flow, happens, round, rounds, rounds_by, steps_of_event, turn_by, turn_of_link, unrolled}
+use Rattle.cluster_core.specs.Flow.{Flowing, Healing, heal, heal_by, heal_link, heal_links, flow, happens, round, rounds, rounds_by, steps_of_event, turn_by, turn_of_link, unrolled}
 use Rattle.cluster_core.specs.Heard.{heard, heard_first, heard_from, hears, is_frontend, of_client, opened_at}
+use Rattle.cluster_core.specs.World.{may_join}
 use Rattle.cluster_core.specs.Numbers.{HeardFits, NumbersFitAll}
 
 -- ---- what a flow's deliveries bring
@@ -53,7 +54,7 @@ module _ (P : Event → Type 0) where
   unfolding bytes_of_all
   one_fits event is = record { each = (is, tt); bytes = omega arith }
 
-  module _ (delivers : (from to : List ℕ) → P (Deliver from to)) where
+  module _ (delivers : (from to : List ℕ) → P (Deliver from to)) (joins : (from to : List ℕ) → P (Join from to)) where
     pushed : (made : List Event) (from to : List ℕ) → Fit 0 made → Fit 0 (made ++ Deliver from to ∷ [])
     unfolding bytes_brought
     pushed made from to fit = fit_joined 0 0 made (Deliver from to ∷ []) fit (one_fits (Deliver from to) (delivers from to))
@@ -84,11 +85,26 @@ module _ (P : Event → Type 0) where
         let fits = round_fits links flowing fit in
         rounds_fit_by (next.left == flowing.left) next (rounds count links next) fits (rounds_fit count links next fits)
 
+    -- and a heal's joins
+
+    join_fits : (healing : Healing) (link : Link) (may : Bool) → Fit 0 healing.made → Fit 0 (heal_by may healing link).made
+    unfolding heal_by bytes_brought
+    join_fits healing link true fit =
+        fit_joined 0 0 healing.made (Join link.from link.to ∷ []) fit (one_fits (Join link.from link.to) (joins link.from link.to))
+    join_fits healing link false fit = fit
+
+    joins_fit : (links : List Link) (healing : Healing) → Fit 0 healing.made → Fit 0 (heal_links healing links).made
+    unfolding heal_links heal_link
+    joins_fit [] healing fit = fit
+    joins_fit (link ∷ links) healing fit =
+        joins_fit links (heal_link healing link) (join_fits healing link (may_join healing.world link.from link.to) fit)
+
     -- the steps of events
 
     event_fits : (layout : Layout) (world : World) (event : Event) → P event → Fit (bytes_brought event) (steps_of_event layout world event)
-    unfolding steps_of_event flow bytes_brought
+    unfolding steps_of_event flow heal bytes_brought
     event_fits layout world (Flow count) is = rounds_fit count layout.pairs (record { world = world; made = []; left = count }) none_fit
+    event_fits layout world Heal is = joins_fit layout.pairs (record { world = world; made = [] }) none_fit
     event_fits layout world event is = one_fits event is
 
     unrolled_fit : (layout : Layout) (world : World) (events : List Event) → AllByRecursion P events
@@ -107,7 +123,7 @@ any_events (event ∷ events) = (tt, any_events events)
 pub bytes_of_steps : (layout : Layout) (world : World) (events before later : List Event) → unrolled layout world events ≡ before ++ later
     → bytes_of_all before ≤ bytes_of_all events
 bytes_of_steps layout world events before later parts =
-    let fit = unrolled_fit (λ (event : Event). Unit {0}) (λ from to. tt) layout world events (any_events events) in
+    let fit = unrolled_fit (λ (event : Event). Unit {0}) (λ from to. tt) (λ from to. tt) layout world events (any_events events) in
     omega (arith, fit.bytes, ap bytes_of_all parts, bytes_joined before later)
 
 -- ---- what is heard
@@ -186,4 +202,4 @@ steps_fit config steps most fit small before later parts conn =
 pub numbers_fit : (config : Config) (layout : Layout) (world : World) (events : List Event) → AllByRecursion HasConnNumber events → bytes_of_all events < 2 ^ 32
     → NumbersFitAll config (unrolled layout world events)
 numbers_fit config layout world events all small =
-    steps_fit config (unrolled layout world events) (bytes_of_all events) (unrolled_fit HasConnNumber (λ from to. tt) layout world events all) small
+    steps_fit config (unrolled layout world events) (bytes_of_all events) (unrolled_fit HasConnNumber (λ from to. tt) (λ from to. tt) layout world events all) small

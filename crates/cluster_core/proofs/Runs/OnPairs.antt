@@ -1,8 +1,8 @@
 -- A message is on its way only between linked nodes, as long as the records of the frontends name backends.
-use Rattle.std.proofs.Common.{◌≡◌, ◌≢◌, ◌⊎◌, inl, inr, ℕ, Bool, true, false, cond, List, [], ◌∷◌, ◌++◌, drop, Option, None, Some, refl, sym, ◌∙◌, ap, subst, All, Contains, append_assoc}
+use Rattle.std.proofs.Common.{◌≡◌, ◌≢◌, ◌⊎◌, inl, inr, ℕ, Bool, true, false, cond, ◌||◌, List, [], ◌∷◌, ◌++◌, drop, take, Option, None, Some, refl, sym, ◌∙◌, ap, subst, All, Contains, append_assoc}
 use Rattle.std.specs.Prelude.{⊤}
 use Rattle.std.specs.Option.{IsSome}
-use Rattle.std.specs.Ordering.{nat_cmp}
+use Rattle.std.specs.Ordering.{nat_cmp, is_eq}
 use Rattle.std.specs.Cmp.Lexicographic.{slice_cmp}
 use Rattle.std.proofs.Math.Logic.{⊎_elim}
 use Rattle.std.proofs.lemmas.List.{append-nil}
@@ -11,7 +11,7 @@ use Rattle.std.proofs.lemmas.Option.{same_Some}
 use Rattle.back_node.specs.declared.node.BackNode.{BackNode}
 use Rattle.back_node.proofs.Said.{none_owed_at_start}
 use Rattle.cluster_core.specs.declared.world.Client.{Client}
-use Rattle.cluster_core.specs.World.{home_of, master_of, carry, carry_all, client_at, client_does, comes_to, deliver_first, first_state, front_at, home_at, no_world, node_at, not_lost, opens, place_of, start, stepped, steps_by, taken_from_link, takes, told_up, with_client, with_node, with_nodes, with_ups, with_acted}
+use Rattle.cluster_core.specs.World.{are_parted, cuts_if, joins_if, may_cut, may_join, may_part, home_of, master_of, carry, carry_all, client_at, client_does, comes_to, deliver_first, first_state, front_at, home_at, no_world, node_at, not_lost, opens, place_of, start, stepped, steps_by, taken_from_link, takes, told_up, with_client, with_node, with_nodes, with_ups, with_acted}
 use Rattle.feed_core.specs.Feed.{Recs}
 use Rattle.feed_core.specs.Routes.{server_at}
 use Rattle.front_core.specs.declared.front.Front.{Front}
@@ -24,8 +24,10 @@ use Rattle.link_msg.specs.declared.message.LinkMsg.{LinkMsg}
 use Rattle.link_msg.specs.declared.message.LinkMsg.TheVariants.{Up, End, Line, Ask, Answer}
 use Rattle.link_msg.specs.declared.out.Out.{Out}
 use Rattle.link_msg.specs.declared.out.Out.TheVariants.{Client as to_client, Close, Link as to_node, Mark as mark_out, Told as tell}
-use Rattle.link_queue.specs.Links.{Links, on_link, same_link, sent, without_first}
-use Rattle.link_queue.proofs.Wires.{same_names, on_link-sent, on_link-taken}
+use Rattle.link_queue.specs.Broken.{Broken, breaking, is_broken, mending}
+use Rattle.link_queue.specs.Links.{Links, cut_short, on_link, same_link, sent, without_first}
+use Rattle.link_queue.proofs.BrokenLaws.{is_broken-breaking, is_broken-mending, none_broken}
+use Rattle.link_queue.proofs.Wires.{same_names, on_link-cut, on_link-sent, on_link-taken}
 use Rattle.master_core.specs.Boot.{booted}
 use Rattle.mur_base.proofs.MapLaws.{names_apart, same_or_other, value_at-with_entry, value_at-with_entry-other}
 use Rattle.mur_config.specs.declared.config.Config.{Config}
@@ -43,7 +45,7 @@ use Rattle.node_step.proofs.NodeKinds.{a_front, back_is}
 use Rattle.node_step.proofs.MasterOuts.{SpeaksFrom}
 use Rattle.node_step.proofs.OwnOuts.{ComesFrom, HasOwn, KeepsKind, LetsOut, MayBeAnswered, MayMark, MaySend, MovesOn, takes_lets}
 use Rattle.schedule_text.specs.declared.event.Event.{Event}
-use Rattle.schedule_text.specs.declared.event.Event.TheVariants.{Open, Data, Hang, Deliver}
+use Rattle.schedule_text.specs.declared.event.Event.TheVariants.{Open, Data, Hang, Deliver, Cut, Join}
 use Rattle.cluster_core.specs.declared.world.World.{World}
 use Rattle.cluster_core.specs.Flow.{run_steps, steps_of_run}
 use Rattle.cluster_core.specs.Headline.OneNode.{GoesOverLinks}
@@ -52,9 +54,10 @@ use Rattle.cluster_core.proofs.Runs.QuietNodes.{AnyClient}
 use Rattle.cluster_core.proofs.Connections.AsksFirst.{home_is_so}
 use Rattle.cluster_core.proofs.Connections.KeepsLaw.{KeepsLaw, NamesBackends}
 use Rattle.cluster_core.proofs.Starts.Kinds.{HasNode}
-use Rattle.cluster_core.proofs.Runs.LinkedNodes.{Joined, backend_with_master, front_with_backend, front_with_master, the_first}
-use Rattle.cluster_core.proofs.Runs.NeverMoved.{given_links, none_moved}
+use Rattle.cluster_core.proofs.Runs.LinkedNodes.{Joined, backends_joined, backend_with_master, front_with_backend, front_with_master, the_first}
+use Rattle.cluster_core.proofs.Runs.NeverMoved.{given_links, may_cut_parts, may_join_broken, none_moved}
 use Rattle.cluster_core.proofs.Runs.NotLost.{let_left}
+use Rattle.cluster_core.proofs.Runs.OneNodeLaw.{comes_broken, may_cut_apart}
 use Rattle.cluster_core.proofs.Runs.OwnNodes.{OfEachNode, comes_of_each}
 
 -- ---- where frontends ask
@@ -78,10 +81,11 @@ abbrev pub KnowBackendsSoFar : Config → List Event → Type 0
 KnowBackendsSoFar config steps = (before later : List Event) → steps ≡ before ++ later → KnowBackends (run_steps (start config) before)
 
 -- no answer sends a command on
-asks_too : (config : Config) (steps : List Event) → KnowBackends (run_steps (start config) steps) → AskBackends (run_steps (start config) steps)
-asks_too config steps known = record {
+asks_too : (config : Config) (steps : List Event) → AreNodes config.nodes → KnowBackends (run_steps (start config) steps)
+    → AskBackends (run_steps (start config) steps)
+asks_too config steps are known = record {
   known = known;
-  moved = λ from to front answer rest server at first moved. absurd (none_moved config steps from to answer rest server first moved);
+  moved = λ from to front answer rest server at first moved. absurd (none_moved config steps are from to answer rest server first moved);
 }
 
 -- over a link of this node, whatever is sent
@@ -91,6 +95,10 @@ OverLink pairs node other message = Joined pairs node other
 -- nothing is on its way from one node to another, or they are linked
 abbrev pub AreOn : List Link → Links LinkMsg → Type 0
 AreOn pairs links = (from to : List ℕ) → (on_link links from to ≡ []) ⊎ Joined pairs from to
+
+-- only links between linked nodes are broken
+abbrev pub AreBrokenOn : List Link → Broken → Type 0
+AreBrokenOn pairs broken = (from to : List ℕ) → is_broken broken from to ≡ true → Joined pairs from to
 
 -- ---- what a node lets out
 
@@ -237,12 +245,13 @@ module _ (config : Config) (are : AreNodes config.nodes) where
   -- ---- an event
 
   abbrev HasBoth : World → Type 0
-  HasBoth world = AreLinked world × AreOn pairs world.links
+  HasBoth world = AreLinked world × AreOn pairs world.links × AreBrokenOn pairs world.broken
 
   comes_both : (world : World) (node : List ℕ) (input : NodeInput) → MayCome world node input → HasBoth world
       → HasBoth (comes_to world node input (node_at world node))
   comes_both world node input may both =
-      (comes_linked world node input both.0 may, comes_on world node input (node_at world node) refl both.0 may both.1)
+      (comes_linked world node input both.0 may, comes_on world node input (node_at world node) refl both.0 may both.1,
+      subst (AreBrokenOn pairs) (sym (comes_broken world node input (node_at world node))) both.2)
 
   opens_both : (world : World) (node : List ℕ) (conn : ℕ) (found : Option Client) → AskBackends world → HasBoth world → HasBoth (opens world node conn found)
   unfolding opens
@@ -308,7 +317,91 @@ module _ (config : Config) (are : AreNodes config.nodes) where
         sends = λ it there. may_send taken to it (From from message) there both.0
             (λ front at. (asks.known to front at, message_moves world from to front message rest first asks at));
       })
-      (both.0, λ a b. taken_by world.links from to a b (same_link a b from to) refl (both.1 a b))
+      (both.0, λ a b. taken_by world.links from to a b (same_link a b from to) refl (both.1 a b), both.2)
+
+  -- a link breaks, or comes up
+
+  parted_joined : (one other : List ℕ) (it another : NodeState) → one ≢ other → IsLinked config one it → IsLinked config other another
+      → are_parted it another ≡ true → Joined pairs one other
+  unfolding are_parted
+  parted_joined one other (state.Front front) (state.Back home) ne is also may = front_with_backend config one other are is.is_of.0 also.is_of.0
+  parted_joined one other (state.Back home) (state.Front front) ne is also may =
+      let joined = front_with_backend config other one are also.is_of.0 is.is_of.0 in (joined.1, joined.0)
+  parted_joined one other (state.Back home) (state.Back another) ne is also may = backends_joined config one other is.is_of.0 also.is_of.0 ne
+  parted_joined one other (state.Front front) (state.Front another) ne is also may = cc
+  parted_joined one other (state.Front front) (state.Master it) ne is also may = cc
+  parted_joined one other (state.Back home) (state.Master it) ne is also may = cc
+  parted_joined one other (state.Master it) (state.Front front) ne is also may = cc
+  parted_joined one other (state.Master it) (state.Back home) ne is also may = cc
+  parted_joined one other (state.Master it) (state.Master another) ne is also may = cc
+
+  part_joined : (one other : List ℕ) (it another : Option NodeState) → one ≢ other → ((s : NodeState) → it ≡ Some s → IsLinked config one s)
+      → ((s : NodeState) → another ≡ Some s → IsLinked config other s) → may_part it another ≡ true → Joined pairs one other
+  unfolding may_part
+  part_joined one other (Some it) (Some another) ne is also may = parted_joined one other it another ne (is it refl) (also another refl) may
+  part_joined one other (Some it) None ne is also may = cc
+  part_joined one other None another ne is also may = cc
+
+  cut_joined : (world : World) (one other : List ℕ) → AreLinked world → may_cut world one other ≡ true → Joined pairs one other
+  cut_joined world one other each may =
+      part_joined one other (node_at world one) (node_at world other)
+      (λ e. (let no : false ≡ true = sym (may_cut_apart world one other may) ∙ ap (λ n. is_eq (slice_cmp nat_cmp one n)) (sym e) ∙ names_apart.itself one in cc))
+      (each one) (each other) (may_cut_parts world one other may)
+
+  short_by : (links : Links LinkMsg) (one other from to : List ℕ) (k : ℕ) (same : Bool) → same_link from to one other ≡ same → Joined pairs one other
+      → (on_link links from to ≡ []) ⊎ Joined pairs from to → (on_link (cut_short links one other k End) from to ≡ []) ⊎ Joined pairs from to
+  short_by links one other from to k true h joined was =
+      let is = same_names from to one other h in
+      inr (subst (λ f. Joined pairs f to) (sym is.0) (subst (λ t. Joined pairs one t) (sym is.1) joined))
+  short_by links one other from to k false h joined was = ⊎_elim
+      (λ empty. inl (on_link-cut links one other from to k End
+      ∙ ap (λ s. cond s (take k (on_link links from to) ++ End ∷ []) (on_link links from to)) h ∙ empty))
+      (λ there. inr there)
+      was
+
+  short_on : (links : Links LinkMsg) (one other : List ℕ) (k : ℕ) → Joined pairs one other → AreOn pairs links
+      → AreOn pairs (cut_short links one other k End)
+  short_on links one other k joined on = λ from to. short_by links one other from to k (same_link from to one other) refl joined (on from to)
+
+  breaks_by : (broken : Broken) (one other from to : List ℕ) (same : Bool) → same_link from to one other ≡ same → Joined pairs one other
+      → (is_broken broken from to ≡ true → Joined pairs from to) → (same || is_broken broken from to) ≡ true → Joined pairs from to
+  breaks_by broken one other from to true h joined was is =
+      let names = same_names from to one other h in
+      subst (λ f. Joined pairs f to) (sym names.0) (subst (λ t. Joined pairs one t) (sym names.1) joined)
+  breaks_by broken one other from to false h joined was is = was is
+
+  breaks_on : (broken : Broken) (one other : List ℕ) → Joined pairs one other → AreBrokenOn pairs broken → AreBrokenOn pairs (breaking broken one other)
+  breaks_on broken one other joined on = λ from to is.
+      breaks_by broken one other from to (same_link from to one other) refl joined (on from to) (sym (is_broken-breaking broken one other from to) ∙ is)
+
+  mends_on : (broken : Broken) (one other : List ℕ) → AreBrokenOn pairs broken → AreBrokenOn pairs (mending broken one other)
+  mends_on broken one other on = λ from to is.
+      on from to (still (same_link from to one other) (is_broken broken from to) (sym (is_broken-mending broken one other from to) ∙ is))
+    where
+      still : (same was : Bool) → cond same false was ≡ true → was ≡ true
+      still true was e = cc
+      still false was e = e
+
+  cut_both : (world : World) (one other : List ℕ) (k l : ℕ) (may : Bool) → may_cut world one other ≡ may → HasBoth world
+      → HasBoth (cuts_if may world one other k l)
+  unfolding cuts_if
+  cut_both world one other k l true e both =
+      let joined = cut_joined world one other both.0 e in
+      let back : Joined pairs other one = (joined.1, joined.0) in
+      (both.0, short_on (cut_short world.links one other k End) other one l back (short_on world.links one other k joined both.1),
+      breaks_on (breaking world.broken one other) other one back (breaks_on world.broken one other joined both.2))
+  cut_both world one other k l false e both = both
+
+  join_both : (world : World) (one other : List ℕ) (may : Bool) → may_join world one other ≡ may → HasBoth world → HasBoth (joins_if may world one other)
+  unfolding joins_if
+  join_both world one other true e both =
+      let joined = both.2 one other (may_join_broken world one other e) in
+      let back : Joined pairs other one = (joined.1, joined.0) in
+      (both.0,
+      (λ from to. sent_by pairs (sent world.links one other Up) other one Up from to (same_link from to other one) refl back
+      (sent_by pairs world.links one other Up from to (same_link from to one other) refl joined (both.1 from to))),
+      mends_on (mending world.broken one other) other one (mends_on world.broken one other both.2))
+  join_both world one other false e both = both
 
   takes_both : (world : World) (event : Event) → AskBackends world → HasBoth world → HasBoth (takes world event)
   unfolding takes
@@ -316,6 +409,8 @@ module _ (config : Config) (are : AreNodes config.nodes) where
   takes_both world (Data conn bytes) asks both = data_both world conn bytes (client_at world conn) asks both
   takes_both world (Hang conn) asks both = hang_both world conn (client_at world conn) asks both
   takes_both world (Deliver from to) asks both = deliver_both world from to (on_link world.links from to) refl asks both
+  takes_both world (Cut one other k l) asks both = cut_both world one other k l (may_cut world one other) refl both
+  takes_both world (Join one other) asks both = join_both world one other (may_join world one other) refl both
   takes_both world event asks both = both
 
   asks_counted : (world : World) → AskBackends world → AskBackends (stepped world)
@@ -418,6 +513,11 @@ module _ (config : Config) (are : AreNodes config.nodes) where
   nodes_links world [] = refl
   nodes_links world (node ∷ nodes) = nodes_links (with_node config world node) nodes
 
+  nodes_broken : (world : World) (nodes : List Node) → (with_nodes config world nodes).broken ≡ world.broken
+  unfolding with_nodes
+  nodes_broken world [] = refl
+  nodes_broken world (node ∷ nodes) = nodes_broken (with_node config world node) nodes
+
   none_sent : AreOn pairs no_world.links
   unfolding on_link
   none_sent from to = inl refl
@@ -434,13 +534,15 @@ module _ (config : Config) (are : AreNodes config.nodes) where
             (All-weaker (Contains config.nodes) (λ (node : Node). IsLinked config node.name (first_state config node node.kind))
             (λ node among. first_linked node node.kind refl among) config.nodes (All-contains_itself config.nodes)) (no_node (IsLinked config)),
         subst (AreOn pairs) (sym (nodes_links no_world config.nodes)) none_sent,
+        subst (AreBrokenOn pairs) (sym (nodes_broken no_world config.nodes))
+            (λ from to is. absurd (let no : false ≡ true = sym (none_broken from to) ∙ is in cc)),
       )
 
   -- ---- a run
 
   pub on_pairs : (steps : List Event) → KnowBackendsSoFar config steps → AreOn pairs (run_steps (start config) steps).links
   on_pairs steps known =
-      (run_both (start config) steps (λ before later parts. asks_too config before (known before later parts)) start_both).1
+      (run_both (start config) steps (λ before later parts. asks_too config before are (known before later parts)) start_both).1
 
 -- after each single step of a run a message is on its way only between linked nodes
 pub goes_over_links : (config : Config) (events : List Event) → AreNodes config.nodes → KnowBackendsSoFar config (steps_of_run config events)

@@ -1,6 +1,6 @@
 -- In a step one node works, and nothing else changes.
-use Rattle.std.proofs.Common.{◌≡◌, ◌≢◌, ℕ, Bool, true, false, cond, nat_eq, List, [], ◌∷◌, ◌++◌, drop, Option, None, Some, refl, sym, ◌∙◌, ap, subst, arith}
-use Rattle.std.specs.Ordering.{nat_cmp}
+use Rattle.std.proofs.Common.{◌≡◌, ◌≢◌, ℕ, Bool, true, false, not, ◌&&◌, ◌||◌, cond, if◌then◌else◌, nat_eq, List, [], ◌∷◌, ◌++◌, drop, take, Option, None, Some, refl, sym, ◌∙◌, ap, subst, arith}
+use Rattle.std.specs.Ordering.{nat_cmp, is_eq}
 use Rattle.std.specs.Cmp.Lexicographic.{slice_cmp}
 use Rattle.std.proofs.Math.Logic.{⊎_elim}
 use Rattle.std.proofs.lemmas.Bool.Decides.{nat_tests}
@@ -8,6 +8,7 @@ use Rattle.std.proofs.lemmas.List.{append-nil, append_assoc}
 use Rattle.node_step.specs.declared.input.NodeInput.{NodeInput}
 use Rattle.node_step.specs.declared.input.NodeInput.TheVariants.{Opened, Piece, Hung, From}
 use Rattle.link_msg.specs.declared.message.LinkMsg.{LinkMsg}
+use Rattle.link_msg.specs.declared.message.LinkMsg.TheVariants.{Up, End}
 use Rattle.link_msg.specs.declared.out.Out.{Out}
 use Rattle.link_msg.specs.declared.out.Out.TheVariants.{Client as to_client, Close, Link as to_node, Mark as mark_out, Told as tell}
 use Rattle.mur_base.specs.Map.{value_at, with_value}
@@ -15,23 +16,26 @@ use Rattle.mur_base.proofs.MapLaws.{names_apart, numbers_apart, not_equal, same_
 use Rattle.node_step.specs.declared.node.NodeState.{NodeState}
 use Rattle.node_step.specs.NodeStep.{Acted, takes as node_takes}
 use Rattle.schedule_text.specs.declared.event.Event.{Event}
-use Rattle.schedule_text.specs.declared.event.Event.TheVariants.{Open, Data, Hang, Deliver}
+use Rattle.schedule_text.specs.declared.event.Event.TheVariants.{Open, Data, Hang, Deliver, Cut, Join}
 use Rattle.cluster_core.specs.declared.world.Client.{Client}
 use Rattle.mur_base.specs.declared.point.AskId.{AskId}
 use Rattle.mark_history.specs.declared.mark.MarkKind.{MarkKind}
 use Rattle.mark_history.specs.declared.mark.MarkKind.TheVariants.{Home, Told}
 use Rattle.cluster_core.specs.declared.world.World.{World}
 use Rattle.cluster_core.specs.Flow.{run_steps}
-use Rattle.link_queue.specs.Links.{Links, same_link, on_link, without_first}
-use Rattle.cluster_core.specs.Headline.OneNode.{node_of, worker, connected, leaves_on, WasSent, OnlyWorks, WorksBy, OneNodeWorks, OneNodeWorksEach}
-use Rattle.cluster_core.specs.World.{not_lost, marked, client_at, node_at, given_more, carry, carry_all, comes_to, with_client, opens, client_does, taken_from_link, deliver_first, takes, stepped, steps_by, Disks, with_acted, written, written_on}
+use Rattle.link_queue.specs.Broken.{Broken, breaking, is_broken, mending}
+use Rattle.link_queue.specs.Links.{Links, cut_short, same_link, on_link, sent, without_first}
+use Rattle.link_queue.proofs.BrokenLaws.{is_broken-breaking, is_broken-mending}
+use Rattle.cluster_core.specs.Headline.OneNode.{node_of, worker, connected, leaves_on, relinks, ChangesLinks, OnlyLinksChange, WasSent, OnlyWorks, WorksBy, OneNodeWorks, OneNodeWorksEach}
+use Rattle.cluster_core.specs.World.{is_lost, cuts_if, joins_if, may_cut, may_join, may_part, not_lost, marked, client_at, node_at, given_more, carry, carry_all, comes_to, with_client, opens, client_does, taken_from_link, deliver_first, takes, stepped, steps_by, Disks, with_acted, written, written_on}
 use Rattle.cluster_core.proofs.Runs.InTime.{takes_adds}
-use Rattle.link_queue.proofs.Wires.{same_names, on_link-sent, on_link-taken}
+use Rattle.link_queue.proofs.Wires.{same_names, on_link-cut, on_link-sent, on_link-taken}
 
 -- what a node's outputs do: messages stand behind those on its links, clients are given bytes, and nothing else of nodes, disks and links changes
 pub record Sends (node : List ℕ) (before after : World) : Type 0 where
   pub nodes : after.nodes ≡ before.nodes
   pub disks : after.disks ≡ before.disks
+  pub broken : after.broken ≡ before.broken
   pub clients : (conn : ℕ) → node_of (client_at after conn) ≡ node_of (client_at before conn)
   pub others : (from to : List ℕ) → from ≢ node → on_link after.links from to ≡ on_link before.links from to
   goes : (to : List ℕ) → WasSent (on_link before.links node to) (on_link after.links node to)
@@ -49,6 +53,7 @@ sends_nothing : (node : List ℕ) (world : World) → Sends node world world
 sends_nothing node world = record {
   nodes = refl;
   disks = refl;
+  broken = refl;
   clients = λ conn. refl;
   others = λ from to ne. refl;
   goes = λ to. none_sent (on_link world.links node to) (on_link world.links node to) refl;
@@ -58,6 +63,7 @@ sends_more : (node : List ℕ) (one two three : World) → Sends node one two �
 sends_more node one two three first second = record {
   nodes = second.nodes ∙ first.nodes;
   disks = second.disks ∙ first.disks;
+  broken = second.broken ∙ first.broken;
   clients = λ conn. second.clients conn ∙ first.clients conn;
   others = λ from to ne. second.others from to ne ∙ first.others from to ne;
   goes = λ to. sent_on (on_link one.links node to) (on_link two.links node to) (on_link three.links node to) (first.goes to) (second.goes to);
@@ -83,15 +89,22 @@ given_sends node world conn bytes None there = sends_nothing node world
 given_sends node world conn bytes (Some client) there = record {
   nodes = refl;
   disks = refl;
+  broken = refl;
   clients = stays_there world conn client (record client { given = client.given ++ bytes }) there refl;
   others = λ from to ne. refl;
   goes = λ to. none_sent (on_link world.links node to) (on_link world.links node to) refl;
 }
 
+pub given_links : (world : World) (conn : ℕ) (bytes : List ℕ) (found : Option Client) → (given_more world conn bytes found).links ≡ world.links
+unfolding given_more
+given_links world conn bytes None = refl
+given_links world conn bytes (Some client) = refl
+
 marked_sends : (node : List ℕ) (world : World) (ask : AskId) (kind : MarkKind) → Sends node world (marked world ask kind)
 marked_sends node world ask kind = record {
   nodes = refl;
   disks = refl;
+  broken = refl;
   clients = λ conn. refl;
   others = λ from to ne. refl;
   goes = λ to. none_sent (on_link world.links node to) (on_link world.links node to) refl;
@@ -106,6 +119,7 @@ carry_sends node world (tell ask how) = marked_sends node world ask (Told how)
 carry_sends node world (to_node other message) = record {
   nodes = refl;
   disks = refl;
+  broken = refl;
   clients = λ conn. refl;
   others = λ from to ne. on_link-sent world.links node other from to message
       ∙ ap (λ m. on_link world.links from to ++ m) (elsewhere_none from node to other message ne) ∙ append-nil (on_link world.links from to);
@@ -118,16 +132,55 @@ carry_all_sends node world [] = sends_nothing node world
 carry_all_sends node world (out ∷ outs) =
     sends_more node world (carry node world out) _ (carry_sends node world out) (carry_all_sends node (carry node world out) outs)
 
+-- what a node sends on a broken link is lost
+
+one_kept : (node : List ℕ) (world : World) (broken : Broken) (out : Out) (to : List ℕ) → is_lost broken node out ≡ false → is_broken broken node to ≡ true
+    → on_link (carry node world out).links node to ≡ on_link world.links node to
+unfolding carry is_lost
+one_kept node world broken (to_client conn bytes) to not is =
+    ap (λ (l : Links LinkMsg). on_link l node to) (given_links world conn bytes (client_at world conn))
+one_kept node world broken (Close conn) to not is = refl
+one_kept node world broken (mark_out ask counts) to not is = refl
+one_kept node world broken (tell ask how) to not is = refl
+one_kept node world broken (to_node other message) to not is =
+    on_link-sent world.links node other node to message
+    ∙ ap (λ s. on_link world.links node to ++ cond s (message ∷ []) []) (elsewhere (same_link node to node other) refl)
+    ∙ append-nil (on_link world.links node to)
+  where
+    elsewhere : (same : Bool) → same_link node to node other ≡ same → same_link node to node other ≡ false
+    elsewhere true e = (let no : false ≡ true = sym not ∙ ap (is_broken broken node) (sym (same_names node to node other e).1) ∙ is in cc)
+    elsewhere false e = e
+
+either_kept : (node : List ℕ) (world : World) (broken : Broken) (out : Out) (outs : List Out) (to : List ℕ) (lost : Bool) → is_lost broken node out ≡ lost
+    → is_broken broken node to ≡ true
+    → on_link (carry_all node world (not_lost broken node outs)).links node to ≡ on_link world.links node to
+    → on_link (carry_all node (carry node world out) (not_lost broken node outs)).links node to ≡ on_link (carry node world out).links node to
+    → on_link (carry_all node world (if lost then not_lost broken node outs else out ∷ not_lost broken node outs)).links node to ≡ on_link world.links node to
+unfolding carry_all
+either_kept node world broken out outs to true e is without with_it = without
+either_kept node world broken out outs to false e is without with_it = with_it ∙ one_kept node world broken out to e is
+
+all_kept : (node : List ℕ) (world : World) (broken : Broken) (outs : List Out) (to : List ℕ) → is_broken broken node to ≡ true
+    → on_link (carry_all node world (not_lost broken node outs)).links node to ≡ on_link world.links node to
+unfolding not_lost carry_all
+all_kept node world broken [] to is = refl
+all_kept node world broken (out ∷ outs) to is =
+    either_kept node world broken out outs to (is_lost broken node out) refl is (all_kept node world broken outs to is)
+    (all_kept node (carry node world out) broken outs to is)
+
 -- a node that works, and then sends
 works_and_sends : (event : Event) (node : List ℕ) (one two three : World) → OnlyWorks event node one two → Sends node two three
+    → ((to : List ℕ) → is_broken two.broken node to ≡ true → on_link three.links node to ≡ on_link two.links node to)
     → OnlyWorks event node one three
-works_and_sends event node one two three works out = record {
+works_and_sends event node one two three works out kept = record {
   nodes = λ other ne. ap (λ n. value_at (slice_cmp nat_cmp) n other) out.nodes ∙ works.nodes other ne;
   disks = λ other ne. ap (λ d. value_at (slice_cmp nat_cmp) d other) out.disks ∙ works.disks other ne;
   clients = λ conn. out.clients conn ∙ works.clients conn;
   stays = λ from to ne. out.others from to ne ∙ works.stays from to ne;
   sends = λ to. sent_on (leaves_on event node to (on_link one.links node to)) (on_link two.links node to) (on_link three.links node to) (works.sends to)
       (out.goes to);
+  lost = λ to is. kept to (subst (λ b. is_broken b node to ≡ true) (sym works.broken) is) ∙ works.lost to is;
+  broken = out.broken ∙ works.broken;
 }
 
 -- an event that takes no message
@@ -145,6 +198,8 @@ idle event node world clients none there = record {
   stays = λ from to ne. sym (none from to (on_link world.links from to));
   sends = λ to. none_sent (leaves_on event node to (on_link world.links node to)) (on_link world.links node to)
       (sym (none node to (on_link world.links node to)));
+  lost = λ to is. sym (none node to (on_link world.links node to));
+  broken = refl;
 }
 
 -- a message is taken at the node that it goes to
@@ -156,6 +211,8 @@ takes_first from to world = record {
   stays = λ one other ne. on_link-taken world.links from to one other;
   sends = λ other. none_sent (leaves_on (Deliver from to) to other (on_link world.links to other))
       (on_link (without_first world.links from to) to other) (on_link-taken world.links from to to other);
+  lost = λ other is. on_link-taken world.links from to to other;
+  broken = refl;
 }
 
 pub nothing_first : (links : Links LinkMsg) (from to one other : List ℕ) (same : Bool) → same_link one other from to ≡ same → on_link links from to ≡ []
@@ -174,6 +231,8 @@ takes_nothing from to world none = record {
   stays = λ one other ne. nothing_first world.links from to one other (same_link one other from to) refl none;
   sends = λ other. none_sent (leaves_on (Deliver from to) to other (on_link world.links to other)) (on_link world.links to other)
       (nothing_first world.links from to to other (same_link to other from to) refl none);
+  lost = λ other is. nothing_first world.links from to to other (same_link to other from to) refl none;
+  broken = refl;
 }
 
 -- an entry is written to the disk of its node alone
@@ -199,6 +258,8 @@ acts_itself event node before world acted works = record {
   clients = works.clients;
   stays = works.stays;
   sends = works.sends;
+  lost = works.lost;
+  broken = works.broken;
 }
 
 comes_works : (event : Event) (node : List ℕ) (before world : World) (input : NodeInput) (found : Option NodeState) → OnlyWorks event node before world
@@ -208,6 +269,14 @@ comes_works event node before world input None works = works
 comes_works event node before world input (Some it) works =
     works_and_sends event node before _ _ (acts_itself event node before world (node_takes it input) works)
     (carry_all_sends node _ (not_lost world.broken node (node_takes it input).outs))
+    (all_kept node (with_acted world node (node_takes it input)) world.broken (node_takes it input).outs)
+
+-- no link breaks where something comes to a node
+pub comes_broken : (world : World) (node : List ℕ) (input : NodeInput) (found : Option NodeState) → (comes_to world node input found).broken ≡ world.broken
+unfolding comes_to
+comes_broken world node input None = refl
+comes_broken world node input (Some it) =
+    (carry_all_sends node (with_acted world node (node_takes it input)) (not_lost world.broken node (node_takes it input).outs)).broken
 
 -- a client that is connected stays where it is
 joined_before : (node : List ℕ) (conn other : ℕ) (at : Option (List ℕ)) → (at ≡ None → other ≢ conn) → at ≡ connected (Open node conn) other at
@@ -248,12 +317,12 @@ opens_work world node conn None there =
     (idle (Open node conn) node world (with_client world node conn).clients (λ from to queue. refl) (joins world node conn there))
 
 -- bytes come, or a client closes its connection
-client_works : (event : Event) (world : World) (input : NodeInput) (found : Option Client) → TakesNone event
+client_works : (event : Event) (world : World) (input : NodeInput) (found : Option Client) → WorksBy event None world world → TakesNone event
     → ((conn : ℕ) → connected event conn (node_of (client_at world conn)) ≡ node_of (client_at world conn))
     → WorksBy event (node_of found) world (client_does world input found)
 unfolding client_does
-client_works event world input None none stays = refl
-client_works event world input (Some client) none stays =
+client_works event world input None still none stays = still
+client_works event world input (Some client) still none stays =
     comes_works event client.at world world input (node_at world client.at)
     (idle event client.at world world.clients none (λ conn. sym (stays conn)))
 
@@ -264,13 +333,79 @@ deliver_works world from to [] first = takes_nothing from to world first
 deliver_works world from to (message ∷ rest) first =
     comes_works (Deliver from to) to world (taken_from_link world from to) (From from message) (node_at world to) (takes_first from to world)
 
+-- ---- a link breaks, or comes up
+
+-- no link leads from a node to itself
+not_both : (one other from to : List ℕ) → is_eq (slice_cmp nat_cmp one other) ≡ false → same_link from to one other ≡ true → same_link from to other one ≡ true → ⊥
+not_both one other from to apart here there =
+    let is = same_names from to one other here in
+    let also = same_names from to other one there in
+    let same : one ≡ other = sym is.0 ∙ also.0 in
+    let no : false ≡ true = sym apart ∙ ap (λ n. is_eq (slice_cmp nat_cmp one n)) (sym same) ∙ names_apart.itself one in cc
+
+cut_queues : (one other from to : List ℕ) (k l : ℕ) (queue : List LinkMsg) (here there : Bool) → (here ≡ true → there ≡ true → ⊥)
+    → cond there (take l (cond here (take k queue ++ End ∷ []) queue) ++ End ∷ []) (cond here (take k queue ++ End ∷ []) queue)
+    ≡ cond here (take k queue ++ End ∷ []) (cond there (take l queue ++ End ∷ []) queue)
+cut_queues one other from to k l queue true true not = absurd (not refl refl)
+cut_queues one other from to k l queue true false not = refl
+cut_queues one other from to k l queue false there not = refl
+
+either_or : (here there was : Bool) → (there || (here || was)) ≡ ((here || there) || was)
+either_or true true was = refl
+either_or true false was = refl
+either_or false there was = refl
+
+apart_by : (a same c : Bool) → ((a && not same) && c) ≡ true → same ≡ false
+apart_by true true c e = cc
+apart_by true false c e = refl
+apart_by false same c e = cc
+
+pub may_cut_apart : (world : World) (one other : List ℕ) → may_cut world one other ≡ true → is_eq (slice_cmp nat_cmp one other) ≡ false
+unfolding may_cut
+may_cut_apart world one other e =
+    apart_by (may_part (node_at world one) (node_at world other)) (is_eq (slice_cmp nat_cmp one other)) (not (is_broken world.broken one other)) e
+
+cut_works : (world : World) (one other : List ℕ) (k l : ℕ) (may : Bool) → may_cut world one other ≡ may
+    → ChangesLinks may (Cut one other k l) world (cuts_if may world one other k l)
+unfolding cuts_if may_cut
+cut_works world one other k l true e = record {
+  rest = refl;
+  queues = λ from to. on_link-cut (cut_short world.links one other k End) other one from to l End
+      ∙ ap (λ q. cond (same_link from to other one) (take l q ++ End ∷ []) q) (on_link-cut world.links one other from to k End)
+      ∙ cut_queues one other from to k l (on_link world.links from to) (same_link from to one other) (same_link from to other one)
+      (not_both one other from to (may_cut_apart world one other e));
+  broken = λ from to. is_broken-breaking (breaking world.broken one other) other one from to
+      ∙ ap (λ b. same_link from to other one || b) (is_broken-breaking world.broken one other from to)
+      ∙ either_or (same_link from to one other) (same_link from to other one) (is_broken world.broken from to);
+}
+cut_works world one other k l false e = refl
+
+pub join_works : (world : World) (one other : List ℕ) (may : Bool) → ChangesLinks may (Join one other) world (joins_if may world one other)
+unfolding joins_if
+join_works world one other true = record {
+  rest = refl;
+  queues = λ from to. on_link-sent (sent world.links one other Up) other one from to Up
+      ∙ ap (λ q. q ++ cond (same_link from to other one) (Up ∷ []) []) (on_link-sent world.links one other from to Up);
+  broken = λ from to. is_broken-mending (mending world.broken one other) other one from to
+      ∙ ap (λ b. cond (same_link from to other one) false b) (is_broken-mending world.broken one other from to)
+      ∙ mends (same_link from to one other) (same_link from to other one) (is_broken world.broken from to);
+}
+  where
+    mends : (here there was : Bool) → cond there false (cond here false was) ≡ cond (here || there) false was
+    mends true true was = refl
+    mends true false was = refl
+    mends false there was = refl
+join_works world one other false = refl
+
 pub takes_works : (world : World) (event : Event) → WorksBy event (worker world event) world (takes world event)
 unfolding takes
 takes_works world (Open node conn) = opens_work world node conn (client_at world conn) refl
 takes_works world (Data conn bytes) =
-    client_works (Data conn bytes) world (Piece conn bytes) (client_at world conn) (λ from to queue. refl) (λ other. refl)
-takes_works world (Hang conn) = client_works (Hang conn) world (Hung conn) (client_at world conn) (λ from to queue. refl) (λ other. refl)
+    client_works (Data conn bytes) world (Piece conn bytes) (client_at world conn) refl (λ from to queue. refl) (λ other. refl)
+takes_works world (Hang conn) = client_works (Hang conn) world (Hung conn) (client_at world conn) refl (λ from to queue. refl) (λ other. refl)
 takes_works world (Deliver from to) = deliver_works world from to (on_link world.links from to) refl
+takes_works world (Cut one other k l) = cut_works world one other k l (may_cut world one other) refl
+takes_works world (Join one other) = join_works world one other (may_join world one other)
 takes_works world event = refl
 
 pub same_worker : (world : World) (event : Event) → worker (stepped world) event ≡ worker world event
@@ -280,15 +415,29 @@ same_worker world (Hang conn) = refl
 same_worker world (Deliver from to) = refl
 same_worker world event = refl
 
+same_relinks : (world : World) (event : Event) → relinks (stepped world) event ≡ relinks world event
+unfolding may_cut may_join
+same_relinks world (Cut one other k l) = refl
+same_relinks world (Join one other) = refl
+same_relinks world event = refl
+
 -- the count of steps is nothing that works
+links_before_counting : (event : Event) (changes : Bool) (world after : World) → ChangesLinks changes event (stepped world) after → ChangesLinks changes event world after
+links_before_counting event true world after works = record { rest = works.rest; queues = works.queues; broken = works.broken }
+links_before_counting event false world after works = works
+
 before_counting : (event : Event) (at : Option (List ℕ)) (world after : World) → WorksBy event at (stepped world) after → WorksBy event at world after
-before_counting event None world after works = works
+before_counting event None world after works =
+    links_before_counting event (relinks world event) world after
+    (subst (λ changes. ChangesLinks changes event (stepped world) after) (same_relinks world event) works)
 before_counting event (Some node) world after works = record {
   nodes = works.nodes;
   disks = works.disks;
   clients = works.clients;
   stays = works.stays;
   sends = works.sends;
+  lost = works.lost;
+  broken = works.broken;
 }
 
 pub one_node_works : (world : World) (event : Event) → OneNodeWorks event world (steps_by world event)

@@ -1,5 +1,5 @@
 -- In each step of a run the node that works gives bytes to its own clients alone.
-use Rattle.std.proofs.Common.{◌≡◌, ◌≢◌, ℕ, List, [], ◌∷◌, ◌++◌, Option, None, Some, refl, sym, ◌∙◌, ap, subst}
+use Rattle.std.proofs.Common.{◌≡◌, ◌≢◌, ℕ, Bool, true, false, List, [], ◌∷◌, ◌++◌, Option, None, Some, refl, sym, ◌∙◌, ap, subst}
 use Rattle.std.specs.Prelude.{⊤}
 use Rattle.std.specs.List.{AllByRecursion}
 use Rattle.std.specs.Ordering.{nat_cmp}
@@ -9,7 +9,7 @@ use Rattle.std.proofs.lemmas.Option.{same_Some}
 use Rattle.back_node.proofs.Said.{none_owed_at_start}
 use Rattle.cluster_core.specs.declared.layout.Layout.{Layout}
 use Rattle.cluster_core.specs.declared.world.Client.{Client}
-use Rattle.cluster_core.specs.World.{master_of, carry, carry_all, client_at, client_does, comes_to, deliver_first, first_state, given_more, no_world, node_at, not_lost, opens, place_of, start, stepped, steps_by, taken_from_link, takes, told_up, with_client, with_node, with_nodes, with_ups, with_acted}
+use Rattle.cluster_core.specs.World.{cuts_if, joins_if, may_cut, may_join, master_of, carry, carry_all, client_at, client_does, comes_to, deliver_first, first_state, given_more, no_world, node_at, not_lost, opens, place_of, start, stepped, steps_by, taken_from_link, takes, told_up, with_client, with_node, with_nodes, with_ups, with_acted}
 use Rattle.front_core.specs.Front.{new_front}
 use Rattle.front_core.proofs.OwnOuts.{AreLetOut, IsLetOut, MovesBy}
 use Rattle.link_msg.specs.declared.message.LinkMsg.{LinkMsg}
@@ -34,7 +34,7 @@ use Rattle.node_step.specs.NodeStep.{takes as node_takes}
 use Rattle.node_step.proofs.MasterOuts.{SpeaksFrom}
 use Rattle.node_step.proofs.OwnOuts.{ComesFrom, HasOwn, LetsOut, MayBeAnswered, MayMark, MaySend, MovesOn, takes_lets}
 use Rattle.schedule_text.specs.declared.event.Event.{Event}
-use Rattle.schedule_text.specs.declared.event.Event.TheVariants.{Open, Data, Hang, Deliver}
+use Rattle.schedule_text.specs.declared.event.Event.TheVariants.{Open, Data, Hang, Deliver, Cut, Join}
 use Rattle.cluster_core.specs.declared.world.World.{World}
 use Rattle.cluster_core.specs.Flow.{run_steps, steps_of_event}
 use Rattle.cluster_core.specs.Headline.OneNode.{ServesItsOwn, ServesItsOwnBehind, ServesItsOwnEach, node_of}
@@ -225,12 +225,36 @@ deliver_same world from to (message ∷ rest) each other client is ne =
     comes_same (taken_from_link world from to) to (From from message) other (node_at world to) refl each (anyone_speaks from message) (λ e. ne
     (sym e ∙ ap node_of is)) ∙ is
 
+-- a link breaks, or comes up
+
+cut_own : (world : World) (one other : List ℕ) (k l : ℕ) (may : Bool) → HaveOwnClients world → HaveOwnClients (cuts_if may world one other k l)
+unfolding cuts_if
+cut_own world one other k l true each = each
+cut_own world one other k l false each = each
+
+cut_same : (world : World) (one other : List ℕ) (k l : ℕ) (may : Bool) (conn : ℕ) → client_at (cuts_if may world one other k l) conn ≡ client_at world conn
+unfolding cuts_if
+cut_same world one other k l true conn = refl
+cut_same world one other k l false conn = refl
+
+join_own : (world : World) (one other : List ℕ) (may : Bool) → HaveOwnClients world → HaveOwnClients (joins_if may world one other)
+unfolding joins_if
+join_own world one other true each = each
+join_own world one other false each = each
+
+join_same : (world : World) (one other : List ℕ) (may : Bool) (conn : ℕ) → client_at (joins_if may world one other) conn ≡ client_at world conn
+unfolding joins_if
+join_same world one other true conn = refl
+join_same world one other false conn = refl
+
 takes_own : (world : World) (event : Event) → HaveOwnClients world → HaveOwnClients (takes world event)
 unfolding takes
 takes_own world (Open node conn) each = opens_own world node conn (client_at world conn) refl each
 takes_own world (Data conn bytes) each = client_own world (Piece conn bytes) (client_at world conn) (λ client is. ap node_of is) each
 takes_own world (Hang conn) each = client_own world (Hung conn) (client_at world conn) (λ client is. ap node_of is) each
 takes_own world (Deliver from to) each = deliver_own world from to (on_link world.links from to) each
+takes_own world (Cut one other k l) each = cut_own world one other k l (may_cut world one other) each
+takes_own world (Join one other) each = join_own world one other (may_join world one other) each
 takes_own world event each = each
 
 takes_same : (world : World) (event : Event) → HaveOwnClients world → ServesItsOwn event world (takes world event)
@@ -241,6 +265,8 @@ takes_same world (Data conn bytes) each = λ other client is ne.
 takes_same world (Hang conn) each = λ other client is ne.
     client_same world (Hung conn) (client_at world conn) (λ one at. ap node_of at) each other client is ne
 takes_same world (Deliver from to) each = λ other client is ne. deliver_same world from to (on_link world.links from to) each other client is ne
+takes_same world (Cut one other k l) each = λ conn client is ne. cut_same world one other k l (may_cut world one other) conn ∙ is
+takes_same world (Join one other) each = λ conn client is ne. join_same world one other (may_join world one other) conn ∙ is
 takes_same world event each = λ other client is ne. is
 
 same_worker : (world after : World) (event : Event) → ServesItsOwn event (stepped world) after → ServesItsOwn event world after

@@ -1,5 +1,5 @@
 -- No node of a run answers that a mailbox has moved.
-use Rattle.std.proofs.Common.{◌≡◌, ℕ, Bool, true, false, cond, List, [], ◌∷◌, map, Option, None, Some, refl, sym, ◌∙◌, subst}
+use Rattle.std.proofs.Common.{◌≡◌, ◌≢◌, ℕ, Bool, true, false, cond, List, [], ◌∷◌, map, Option, None, Some, refl, sym, ◌∙◌, subst}
 use Rattle.std.specs.Prelude.{⊤, All}
 use Rattle.std.specs.Option.{IfSome}
 use Rattle.std.specs.List.{AllByRecursion}
@@ -11,8 +11,10 @@ use Rattle.std.proofs.lemmas.Map.Views.{IfSome-lookup_from_All}
 use Rattle.back_node.specs.declared.node.BackNode.{BackNode}
 use Rattle.back_node.specs.Acted.{BackActed, acted, home_with}
 use Rattle.back_node.specs.Node.{is_my_master}
+use Rattle.back_node.specs.NodeLaws.{AsksAs}
 use Rattle.back_node.specs.Takes.{UpToEntry, answer_out, ask_by, line_by, line_out, name_ask, name_kind, node_takes, only_entry, passed_over, serves, talks, taken_up}
 use Rattle.back_node.proofs.OnlyEntry.{IsOfOpen, message_entries}
+use Rattle.back_node.proofs.Said.{step_says}
 use Rattle.backend_core.specs.declared.backend.Backend.{Backend}
 use Rattle.backend_core.specs.declared.op_plan.OpPlan.{OpPlan}
 use Rattle.backend_core.specs.declared.op_plan.Telling.{Telling}
@@ -28,6 +30,7 @@ use Rattle.backend_core.specs.Plan.{answer_outs, back_plan, owed_outs, owes}
 use Rattle.backend_core.specs.Read.{read_plan}
 use Rattle.backend_core.specs.Refusal.{is_other, refusal, refusal_in}
 use Rattle.backend_core.specs.Summaries.{summaries_plan}
+use Rattle.feed_links.proofs.Names.{other_name}
 use Rattle.front_core.specs.declared.front.Front.{Front}
 use Rattle.front_core.specs.Front.{ways_of}
 use Rattle.front_core.proofs.OwnOuts.{AreLetOut, HasConnections, MayAsk, MovesBy, both_let, bytes_own, connect_own, message_own}
@@ -67,7 +70,7 @@ use Rattle.cluster_core.proofs.Runs.QuietFlows.{AreHere, IsHeldHere, IsHere, IsN
 
 -- ---- messages
 
--- no answer tells of a server to which a mailbox has moved; and no link goes up or down
+-- no answer tells of a server to which a mailbox has moved; and no node tells that a link goes up or down
 abbrev pub IsQuiet : LinkMsg → Type 0
 IsQuiet Up = ⊥
 IsQuiet End = ⊥
@@ -75,8 +78,34 @@ IsQuiet (Line bytes) = Unit {0}
 IsQuiet (Ask ask) = Unit {0}
 IsQuiet (Answer answer) = TellsNoServer answer.body
 
+-- so is what is on its way from one node to another; but any link may go up or down that isn't one of the master
+abbrev pub IsQuietOn : List ℕ → List ℕ → List ℕ → LinkMsg → Type 0
+IsQuietOn master from to Up = (from ≢ master) × (to ≢ master)
+IsQuietOn master from to End = (from ≢ master) × (to ≢ master)
+IsQuietOn master from to (Line bytes) = Unit {0}
+IsQuietOn master from to (Ask ask) = Unit {0}
+IsQuietOn master from to (Answer answer) = TellsNoServer answer.body
+
+-- what a node says may be on its way anywhere
+pub quiet_on : (master from to : List ℕ) (message : LinkMsg) → IsQuiet message → IsQuietOn master from to message
+quiet_on master from to Up is = absurd is
+quiet_on master from to End is = absurd is
+quiet_on master from to (Line bytes) is = tt
+quiet_on master from to (Ask ask) is = tt
+quiet_on master from to (Answer answer) is = is
+
 abbrev pub AnyClient : ℕ → Type 0
 AnyClient conn = ⊤
+
+abbrev AnyNode : List ℕ → Type 0
+AnyNode node = ⊤
+
+anyone_asks : (from : List ℕ) (message : LinkMsg) → AsksAs AnyNode from message
+anyone_asks from Up = tt
+anyone_asks from End = tt
+anyone_asks from (Line bytes) = tt
+anyone_asks from (Ask ask) = tt
+anyone_asks from (Answer answer) = tt
 
 abbrev pub QuietTo : List ℕ → LinkMsg → Type 0
 QuietTo node message = IsQuiet message
@@ -274,27 +303,39 @@ either_quiet : (test : Bool) (one other : UpToEntry) → BackIsQuiet (done_by on
 either_quiet true one other a c = a
 either_quiet false one other a c = c
 
-home_quiet : (node : BackNode) (from : List ℕ) (message : LinkMsg) → IsQuiet message → IsQuietTalk node.home.held node.flows
-    → BackIsQuiet (node_takes node from message)
+-- what comes of a link that isn't the master's is passed over
+other_quiet : (node : BackNode) (from : List ℕ) (it : UpToEntry) → from ≢ node.flows.master → IsQuietTalk node.home.held node.flows
+    → BackIsQuiet (done_by (cond (is_my_master node from) it (passed_over node)))
+other_quiet node from it ne quiet =
+    subst (λ test. BackIsQuiet (done_by (cond test it (passed_over node)))) (sym (other_name from node.flows.master ne)) (passed_quiet node quiet)
+
+home_quiet : (node : BackNode) (from to : List ℕ) (message : LinkMsg) → IsQuietOn node.flows.master from to message
+    → IsQuietTalk node.home.held node.flows → BackIsQuiet (node_takes node from message)
 unfolding taken_up
-home_quiet node from Up is quiet = absurd is
-home_quiet node from End is quiet = absurd is
-home_quiet node from (Line line) is quiet =
+home_quiet node from to Up is quiet = other_quiet node from (talks node (up_step node.flows)) is.0 quiet
+home_quiet node from to End is quiet = other_quiet node from _ is.0 quiet
+home_quiet node from to (Line line) is quiet =
     either_quiet (is_my_master node from) (line_by node (response_in line)) (passed_over node) (line_quiet node (response_in line) quiet)
     (passed_quiet node quiet)
-home_quiet node from (Ask ask) is quiet = asks_quiet node from ask (name_kind ask.op) refl quiet
-home_quiet node from (Answer answer) is quiet = passed_quiet node quiet
+home_quiet node from to (Ask ask) is quiet = asks_quiet node from ask (name_kind ask.op) refl quiet
+home_quiet node from to (Answer answer) is quiet = passed_quiet node quiet
 
 -- ---- whatever comes to a node
 
-abbrev pub NodeIsQuiet : NodeState → Type 0
-NodeIsQuiet (state.Front front) = Unit {0}
-NodeIsQuiet (state.Back home) = IsQuietTalk home.home.held home.flows
-NodeIsQuiet (state.Master master) = Unit {0}
+pub record HomeIsQuiet (master node : List ℕ) (home : BackNode) : Type 0 where
+  pub apart : node ≢ master
+  pub master_is : home.flows.master ≡ master
+  pub talk : IsQuietTalk home.home.held home.flows
 
-abbrev pub InputIsQuiet : NodeInput → Type 0
-InputIsQuiet (From name message) = IsQuiet message
-InputIsQuiet input = Unit {0}
+-- a frontend and a backend aren't the master
+abbrev pub NodeIsQuiet : List ℕ → List ℕ → NodeState → Type 0
+NodeIsQuiet master node (state.Front front) = node ≢ master
+NodeIsQuiet master node (state.Back home) = HomeIsQuiet master node home
+NodeIsQuiet master node (state.Master it) = Unit {0}
+
+abbrev pub InputIsQuiet : List ℕ → List ℕ → NodeInput → Type 0
+InputIsQuiet master node (From name message) = IsQuietOn master name node message
+InputIsQuiet master node input = Unit {0}
 
 asks_any : (front : Front) → MayAsk QuietTo (ways_of front)
 asks_any front = record { master = λ bytes. tt; named = λ ask server e. tt; made = λ ask e. tt }
@@ -342,66 +383,100 @@ master_quiet master (Piece conn bytes) = (bytes_let AnyClient QuietTo master (te
 master_quiet master (Hung conn) = tt
 master_quiet master (From name message) = (says_let AnyClient QuietTo master (tells_any master) name message (says_any name message)).outs
 
-pub outs_quiet : (it : NodeState) (input : NodeInput) → NodeIsQuiet it → InputIsQuiet input → AreQuietOuts (MayMark it) (node_step it input).outs
-unfolding node_step back_takes
-outs_quiet (state.Front front) input quiet is = front_quiet front input
-outs_quiet (state.Back home) (Opened conn) quiet is = tt
-outs_quiet (state.Back home) (Piece conn bytes) quiet is = tt
-outs_quiet (state.Back home) (Hung conn) quiet is = tt
-outs_quiet (state.Back home) (From name message) quiet is = (home_quiet home name message is quiet).outs
-outs_quiet (state.Master master) input quiet is = master_quiet master input
+-- a backend's master stays its master
+its_master : (home : BackNode) (from : List ℕ) (message : LinkMsg) → (node_takes home from message).state.flows.master ≡ home.flows.master
+its_master home from message =
+    (step_says AnyNode home from message (record { running = λ k d h. tt; waiting = λ k d h. tt }) (anyone_asks from message)).master
 
-pub stays_quiet : (it : NodeState) (input : NodeInput) → NodeIsQuiet it → InputIsQuiet input → NodeIsQuiet (node_step it input).state
-unfolding node_step front_takes back_takes master_takes
-stays_quiet (state.Front front) (Opened conn) quiet is = tt
-stays_quiet (state.Front front) (Piece conn bytes) quiet is = tt
-stays_quiet (state.Front front) (Hung conn) quiet is = tt
-stays_quiet (state.Front front) (From name message) quiet is = tt
-stays_quiet (state.Back home) (Opened conn) quiet is = quiet
-stays_quiet (state.Back home) (Piece conn bytes) quiet is = quiet
-stays_quiet (state.Back home) (Hung conn) quiet is = quiet
-stays_quiet (state.Back home) (From name message) quiet is = (home_quiet home name message is quiet).talk
-stays_quiet (state.Master master) (Opened conn) quiet is = tt
-stays_quiet (state.Master master) (Piece conn bytes) quiet is = tt
-stays_quiet (state.Master master) (Hung conn) quiet is = tt
-stays_quiet (state.Master master) (From name message) quiet is = tt
+module _ (master node : List ℕ) where
+  home_so : (home : BackNode) (from : List ℕ) (message : LinkMsg) → HomeIsQuiet master node home → IsQuietOn master from node message
+      → BackIsQuiet (node_takes home from message)
+  home_so home from message quiet is =
+      home_quiet home from node message (subst (λ m. IsQuietOn m from node message) (sym quiet.master_is) is) quiet.talk
+
+  pub outs_quiet : (it : NodeState) (input : NodeInput) → NodeIsQuiet master node it → InputIsQuiet master node input
+      → AreQuietOuts (MayMark it) (node_step it input).outs
+  unfolding node_step back_takes
+  outs_quiet (state.Front front) input quiet is = front_quiet front input
+  outs_quiet (state.Back home) (Opened conn) quiet is = tt
+  outs_quiet (state.Back home) (Piece conn bytes) quiet is = tt
+  outs_quiet (state.Back home) (Hung conn) quiet is = tt
+  outs_quiet (state.Back home) (From name message) quiet is = (home_so home name message quiet is).outs
+  outs_quiet (state.Master it) input quiet is = master_quiet it input
+
+  pub stays_quiet : (it : NodeState) (input : NodeInput) → NodeIsQuiet master node it → InputIsQuiet master node input
+      → NodeIsQuiet master node (node_step it input).state
+  unfolding node_step front_takes back_takes master_takes
+  stays_quiet (state.Front front) (Opened conn) quiet is = quiet
+  stays_quiet (state.Front front) (Piece conn bytes) quiet is = quiet
+  stays_quiet (state.Front front) (Hung conn) quiet is = quiet
+  stays_quiet (state.Front front) (From name message) quiet is = quiet
+  stays_quiet (state.Back home) (Opened conn) quiet is = quiet
+  stays_quiet (state.Back home) (Piece conn bytes) quiet is = quiet
+  stays_quiet (state.Back home) (Hung conn) quiet is = quiet
+  stays_quiet (state.Back home) (From name message) quiet is = record {
+    apart = quiet.apart;
+    master_is = its_master home name message ∙ quiet.master_is;
+    talk = (home_so home name message quiet is).talk;
+  }
+  stays_quiet (state.Master it) (Opened conn) quiet is = tt
+  stays_quiet (state.Master it) (Piece conn bytes) quiet is = tt
+  stays_quiet (state.Master it) (Hung conn) quiet is = tt
+  stays_quiet (state.Master it) (From name message) quiet is = tt
 
 -- ---- a node that is told that a link to it is up, before anything else came to it
 
 -- nothing is there, and nothing is under way
-abbrev pub NodeIsFresh : NodeState → Type 0
-NodeIsFresh (state.Front front) = Unit {0}
-NodeIsFresh (state.Back home) = (home.home.held ≡ []) × ((home.flows.running ≡ []) × All LooksForNone home.flows.sent)
-NodeIsFresh (state.Master master) = Unit {0}
+pub record HomeIsFresh (master node : List ℕ) (home : BackNode) : Type 0 where
+  pub apart : node ≢ master
+  pub master_is : home.flows.master ≡ master
+  pub empty : home.home.held ≡ []
+  pub idle : home.flows.running ≡ []
+  pub lines : All LooksForNone home.flows.sent
+
+abbrev pub NodeIsFresh : List ℕ → List ℕ → NodeState → Type 0
+NodeIsFresh master node (state.Front front) = node ≢ master
+NodeIsFresh master node (state.Back home) = HomeIsFresh master node home
+NodeIsFresh master node (state.Master it) = Unit {0}
 
 none_here : (held : Names) → held ≡ [] → AreHere held
 none_here held none = subst AreHere (sym none) (All-nil IsHeldHere)
 
-pub fresh_is_quiet : (it : NodeState) → NodeIsFresh it → NodeIsQuiet it
-fresh_is_quiet (state.Front front) fresh = tt
-fresh_is_quiet (state.Back home) fresh =
-    record { here = none_here home.home.held fresh.0; lines = fresh.1.1; resyncs = λ it e. (fresh.0, fresh.1.0) }
-fresh_is_quiet (state.Master master) fresh = tt
+module _ (master node : List ℕ) where
+  fresh_talk : (home : BackNode) → HomeIsFresh master node home → IsQuietTalk home.home.held home.flows
+  fresh_talk home fresh =
+      record { here = none_here home.home.held fresh.empty; lines = fresh.lines; resyncs = λ it e. (fresh.empty, fresh.idle) }
 
-up_by_quiet : (home : BackNode) (test : Bool) → NodeIsFresh (state.Back home)
-    → BackIsQuiet (done_by (cond test (talks home (up_step home.flows)) (passed_over home)))
-up_by_quiet home true fresh =
-    let quiet = fresh_is_quiet (state.Back home) fresh in talk_quiet home _ quiet (up_quiet home.home.held home.flows quiet fresh.0 fresh.1.0)
-up_by_quiet home false fresh = passed_quiet home (fresh_is_quiet (state.Back home) fresh)
+  pub fresh_is_quiet : (it : NodeState) → NodeIsFresh master node it → NodeIsQuiet master node it
+  fresh_is_quiet (state.Front front) fresh = fresh
+  fresh_is_quiet (state.Back home) fresh = record { apart = fresh.apart; master_is = fresh.master_is; talk = fresh_talk home fresh }
+  fresh_is_quiet (state.Master it) fresh = tt
 
-up_by_fresh : (home : BackNode) (test : Bool) → NodeIsFresh (state.Back home)
-    → NodeIsFresh (state.Back (done_by (cond test (talks home (up_step home.flows)) (passed_over home))).state)
-up_by_fresh home true fresh = (fresh.0, (fresh.1.0, (up_by_quiet home true fresh).talk.lines))
-up_by_fresh home false fresh = fresh
+  up_by_quiet : (home : BackNode) (test : Bool) → HomeIsFresh master node home
+      → BackIsQuiet (done_by (cond test (talks home (up_step home.flows)) (passed_over home)))
+  up_by_quiet home true fresh =
+      let quiet = fresh_talk home fresh in talk_quiet home _ quiet (up_quiet home.home.held home.flows quiet fresh.empty fresh.idle)
+  up_by_quiet home false fresh = passed_quiet home (fresh_talk home fresh)
 
-pub ups_outs : (it : NodeState) (from : List ℕ) → NodeIsFresh it → AreQuietOuts (MayMark it) (node_step it (From from Up)).outs
-unfolding node_step back_takes taken_up
-ups_outs (state.Front front) from fresh = front_quiet front (From from Up)
-ups_outs (state.Back home) from fresh = (up_by_quiet home (is_my_master home from) fresh).outs
-ups_outs (state.Master master) from fresh = master_quiet master (From from Up)
+  up_by_fresh : (home : BackNode) (test : Bool) → HomeIsFresh master node home
+      → HomeIsFresh master node (done_by (cond test (talks home (up_step home.flows)) (passed_over home))).state
+  up_by_fresh home true fresh = record {
+    apart = fresh.apart;
+    master_is = fresh.master_is;
+    empty = fresh.empty;
+    idle = fresh.idle;
+    lines = (up_by_quiet home true fresh).talk.lines;
+  }
+  up_by_fresh home false fresh = fresh
 
-pub ups_fresh : (it : NodeState) (from : List ℕ) → NodeIsFresh it → NodeIsFresh (node_step it (From from Up)).state
-unfolding node_step front_takes back_takes master_takes taken_up
-ups_fresh (state.Front front) from fresh = tt
-ups_fresh (state.Back home) from fresh = up_by_fresh home (is_my_master home from) fresh
-ups_fresh (state.Master master) from fresh = tt
+  pub ups_outs : (it : NodeState) (from : List ℕ) → NodeIsFresh master node it → AreQuietOuts (MayMark it) (node_step it (From from Up)).outs
+  unfolding node_step back_takes taken_up
+  ups_outs (state.Front front) from fresh = front_quiet front (From from Up)
+  ups_outs (state.Back home) from fresh = (up_by_quiet home (is_my_master home from) fresh).outs
+  ups_outs (state.Master it) from fresh = master_quiet it (From from Up)
+
+  pub ups_fresh : (it : NodeState) (from : List ℕ) → NodeIsFresh master node it → NodeIsFresh master node (node_step it (From from Up)).state
+  unfolding node_step front_takes back_takes master_takes taken_up
+  ups_fresh (state.Front front) from fresh = fresh
+  ups_fresh (state.Back home) from fresh = up_by_fresh home (is_my_master home from) fresh
+  ups_fresh (state.Master it) from fresh = tt

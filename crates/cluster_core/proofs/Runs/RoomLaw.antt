@@ -1,6 +1,6 @@
 -- No count of a run is above the steps and the bytes that its events bring.
 use Rattle.std.proofs.Math.Logic.{⊎_elim}
-use Rattle.std.proofs.Common.{◌≡◌, ◌≢◌, ℕ, ◌+◌, ◌<◌, ◌≤◌, ◌^◌, List, [], ◌∷◌, Option, None, Some, refl, sym, ◌∙◌, ap, subst, arith, ◌-◌, Result, Ok, Err, OnOk}
+use Rattle.std.proofs.Common.{◌≡◌, ◌≢◌, ℕ, ◌+◌, ◌<◌, ◌≤◌, ◌^◌, Bool, true, false, List, [], ◌∷◌, Option, None, Some, refl, sym, ◌∙◌, ap, subst, arith, ◌-◌, Result, Ok, Err, OnOk}
 use Rattle.std.specs.Option.{IfSome}
 use Rattle.std.specs.Ordering.{nat_cmp}
 use Rattle.std.specs.Cmp.Lexicographic.{slice_cmp}
@@ -26,11 +26,11 @@ use Rattle.node_step.specs.NodeStep.{as_front, takes as node_takes}
 use Rattle.node_step.specs.Room.{FrontHasRoom, HasRoomToTake}
 use Rattle.node_step.proofs.Counts.{HasCommandsAt, bytes_of, takes_counts, room_to_take, room_to_open, room_to_hang}
 use Rattle.schedule_text.specs.declared.event.Event.{Event}
-use Rattle.schedule_text.specs.declared.event.Event.TheVariants.{Open, Data, Hang, Deliver, Flow, Heal}
+use Rattle.schedule_text.specs.declared.event.Event.TheVariants.{Open, Data, Hang, Deliver, Cut, Join, Flow, Heal}
 use Rattle.schedule_text.specs.Brings.{steps_of, bytes_brought}
 use Rattle.cluster_core.specs.declared.world.Client.{Client}
 use Rattle.cluster_core.specs.declared.world.World.{World}
-use Rattle.cluster_core.specs.World.{not_lost, no_world, start, told_up, with_ups, first_state, with_node, with_nodes, client_at, node_at, front_at, with_state, acts, comes_to, with_client, opens, home_of, master_of, setting_of, client_does, taken_from_link, deliver_first, takes, stepped, steps_by, with_acted}
+use Rattle.cluster_core.specs.World.{cuts_if, joins_if, may_cut, may_join, not_lost, no_world, start, told_up, with_ups, first_state, with_node, with_nodes, client_at, node_at, front_at, with_state, acts, comes_to, with_client, opens, home_of, master_of, setting_of, client_does, taken_from_link, deliver_first, takes, stepped, steps_by, with_acted}
 use Rattle.link_queue.specs.Links.{on_link}
 use Rattle.cluster_core.specs.Room.{HaveCommands, HasRoom}
 use Rattle.cluster_core.proofs.Runs.InTime.{comes_add, takes_adds}
@@ -85,12 +85,24 @@ first_commands world from to [] n have = more_commands world n (n + 0) (omega ar
 first_commands world from to (message ∷ rest) n have =
     comes_commands (taken_from_link world from to) to (From from message) n (node_at world to) refl have
 
+cut_commands : (world : World) (one other : List ℕ) (k l n : ℕ) (may : Bool) → HaveCommands world n → HaveCommands (cuts_if may world one other k l) (n + 0)
+unfolding cuts_if
+cut_commands world one other k l n true have = more_commands world n (n + 0) (omega arith) have
+cut_commands world one other k l n false have = more_commands world n (n + 0) (omega arith) have
+
+join_commands : (world : World) (one other : List ℕ) (n : ℕ) (may : Bool) → HaveCommands world n → HaveCommands (joins_if may world one other) (n + 0)
+unfolding joins_if
+join_commands world one other n true have = more_commands world n (n + 0) (omega arith) have
+join_commands world one other n false have = more_commands world n (n + 0) (omega arith) have
+
 takes_commands : (world : World) (event : Event) (n : ℕ) → HaveCommands world n → HaveCommands (takes world event) (n + bytes_brought event)
 unfolding takes bytes_brought
 takes_commands world (Open node conn) n have = opens_commands world node conn n (client_at world conn) have
 takes_commands world (Data conn bytes) n have = client_commands world (Piece conn bytes) n (client_at world conn) have
 takes_commands world (Hang conn) n have = client_commands world (Hung conn) n (client_at world conn) have
 takes_commands world (Deliver from to) n have = first_commands world from to (on_link world.links from to) n have
+takes_commands world (Cut one other k l) n have = cut_commands world one other k l n (may_cut world one other) have
+takes_commands world (Join one other) n have = join_commands world one other n (may_join world one other) have
 takes_commands world event n have = more_commands world n (n + 0) (omega arith) have
 
 pub step_commands : (world : World) (event : Event) (n : ℕ) → HaveCommands world n → HaveCommands (steps_by world event) (n + bytes_brought event)

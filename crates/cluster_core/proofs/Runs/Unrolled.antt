@@ -6,9 +6,9 @@ use Rattle.schedule_text.specs.declared.event.Event.{Event}
 use Rattle.schedule_text.specs.declared.event.Event.TheVariants.{Open, Data, Hang, Deliver, Cut, Join, Crash, Arm, Start, Flow, Heal}
 use Rattle.cluster_core.specs.declared.layout.Layout.{Layout}
 use Rattle.cluster_core.specs.declared.world.World.{World}
-use Rattle.cluster_core.specs.Flow.{Flowing, delivered, turn_by, turn_of_link, round, rounds_by, rounds, flow, steps_of_event, happens, run, unrolled, run_steps}
+use Rattle.cluster_core.specs.Flow.{Flowing, Healing, delivered, heal, heal_by, heal_link, heal_links, turn_by, turn_of_link, round, rounds_by, rounds, flow, steps_of_event, happens, run, unrolled, run_steps}
 use Rattle.link_queue.specs.Links.{on_link}
-use Rattle.cluster_core.specs.World.{steps_by}
+use Rattle.cluster_core.specs.World.{may_join, steps_by}
 
 pub run_steps-append : (world : World) (front back : List Event) → run_steps world (front ++ back) ≡ run_steps (run_steps world front) back
 unfolding run_steps
@@ -53,6 +53,25 @@ flow_made : (layout : Layout) (world : World) (count : ℕ) → (flow layout wor
 unfolding flow run_steps
 flow_made layout world count = rounds_made world count layout.pairs (record { world = world; made = []; left = count }) refl
 
+-- so is a heal the joins that it made
+pub join_made : (start : World) (healing : Healing) (link : Link) (may : Bool) → healing.world ≡ run_steps start healing.made
+    → (heal_by may healing link).world ≡ run_steps start (heal_by may healing link).made
+unfolding heal_by run_steps
+join_made start healing link true e =
+    ap (λ w. steps_by w (Join link.from link.to)) e ∙ sym (run_steps-append start healing.made (Join link.from link.to ∷ []))
+join_made start healing link false e = e
+
+joins_made : (start : World) (healing : Healing) (links : List Link) → healing.world ≡ run_steps start healing.made
+    → (heal_links healing links).world ≡ run_steps start (heal_links healing links).made
+unfolding heal_links heal_link
+joins_made start healing [] e = e
+joins_made start healing (link ∷ links) e =
+    joins_made start (heal_link healing link) links (join_made start healing link (may_join healing.world link.from link.to) e)
+
+pub heal_made : (layout : Layout) (world : World) → (heal layout world).world ≡ run_steps world (heal layout world).made
+unfolding heal run_steps
+heal_made layout world = joins_made world (record { world = world; made = [] }) layout.pairs refl
+
 pub event_made : (layout : Layout) (world : World) (event : Event) → happens layout world event ≡ run_steps world (steps_of_event layout world event)
 unfolding happens steps_of_event run_steps
 event_made layout world (Flow count) = flow_made layout world count
@@ -65,7 +84,7 @@ event_made layout world (Join from to) = refl
 event_made layout world (Crash node c k) = refl
 event_made layout world (Arm node a c k) = refl
 event_made layout world (Start node) = refl
-event_made layout world Heal = refl
+event_made layout world Heal = heal_made layout world
 
 pub by_steps : (layout : Layout) (world : World) (events : List Event) → run layout world events ≡ run_steps world (unrolled layout world events)
 unfolding run unrolled run_steps

@@ -66,13 +66,17 @@ relinks world (Cut one other kept kept_back) = may_cut world one other
 relinks world (Join one other) = may_join world one other
 relinks world event = false
 
+-- what a link from one node to another is sent where it comes up
+abbrev pub up_on : List ℕ → List ℕ → List ℕ → List ℕ → List LinkMsg
+up_on one other from to = if same_link from to one other then Up ∷ [] else []
+
 -- what stands on a link then: of one that breaks so many messages, and End behind them; on one that comes up Up
 abbrev pub relinked : Event → List ℕ → List ℕ → List LinkMsg → List LinkMsg
 relinked (Cut one other kept kept_back) from to queue =
     if same_link from to one other then take kept queue ++ End ∷ []
     else if same_link from to other one then take kept_back queue ++ End ∷ []
     else queue
-relinked (Join one other) from to queue = if are_both one other from to then queue ++ Up ∷ [] else queue
+relinked (Join one other) from to queue = (queue ++ up_on one other from to) ++ up_on other one from to
 relinked event from to queue = queue
 
 -- and whether it is broken

@@ -5,7 +5,7 @@ use Rattle.cluster_core.proofs.Runs.RunRoom.{way_begins, way_goes_on, way_has_ro
 use Rattle.cluster_core.proofs.cluster.run.Goals as goal
 
 pub loop-event-init : goal.loop-event-init
-loop-event-init c = record { can_next = tt; is_finite = tt; count = search rules; way = way_begins _ _ _ _ c.in_ok-cluster.ensures.start (search rules) }
+loop-event-init c = record { can_next = tt; is_finite = tt; count = search rules; way = way_begins _ _ _ _ c.in_ok-cluster.ensures.nodes c.in_ok-cluster.ensures.start (search rules) }
 
 pub step-requires : goal.step-requires
 step-requires c =
