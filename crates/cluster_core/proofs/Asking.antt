@@ -6,3 +6,4 @@ pub mod StepSends
 pub mod Asked
 pub mod FrontAsked
 pub mod OnceLaw
+pub mod ServerEnds

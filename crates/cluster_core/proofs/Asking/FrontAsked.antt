@@ -1,5 +1,6 @@
 -- A frontend: in a step an ask goes out for each command that comes to wait for a server's answer, and for no other.
-use Rattle.std.proofs.Common.{◌≡◌, ◌≢◌, ℕ, ◌+◌, nat_eq, cond, Bool, true, false, ◌&&◌, List, [], Option, None, Some, refl, sym, ◌∙◌, ap, subst}
+use Rattle.std.proofs.Common.{◌≡◌, ◌≢◌, ℕ, ◌+◌, nat_eq, cond, Bool, true, false, ◌&&◌, List, [], ◌∷◌, Option, None, Some, refl, sym, ◌∙◌, ap, subst, arith}
+use Rattle.std.specs.List.{AllByRecursion}
 use Rattle.std.specs.Ordering.{nat_cmp}
 use Rattle.std.specs.Cmp.Lexicographic.{pointwise, same_text}
 use Rattle.std.proofs.Math.Logic.{⊎_elim}
@@ -10,7 +11,7 @@ use Rattle.asking_core.specs.declared.waiting.At.TheVariants.{Home, Barrier}
 use Rattle.asking_core.specs.declared.waiting.Waiting.{Waiting}
 use Rattle.feed_links.proofs.Names.{same_name}
 use Rattle.front_core.specs.Ended.{released, released_at}
-use Rattle.front_core.specs.Front.{Stepped, answer_at, answer_from, bytes_by, bytes_in, connect, connect_at, connection_at, deliver, front_bytes_at, front_hang_at, hang, having_read, hung_up, line_by, line_from, ok_at, still, up_from, waits_for, ways_of, with_turned, with_up}
+use Rattle.front_core.specs.Front.{Stepped, answer_at, answer_from, bytes_by, bytes_in, connect, connect_at, connection_at, deliver, end_from, front_bytes_at, front_hang_at, hang, having_read, hung_up, line_by, line_from, ok_at, still, up_from, waits_for, ways_of, with_turned, with_up, without_up}
 use Rattle.front_core.specs.Reading.{inputs_of_more}
 use Rattle.front_core.specs.Slots.{new_connection}
 use Rattle.front_core.specs.Stages.{asks_at, has_asked}
@@ -25,14 +26,17 @@ use Rattle.link_msg.specs.declared.answer.BackAnswer.{BackAnswer}
 use Rattle.link_msg.specs.declared.message.LinkMsg.{LinkMsg}
 use Rattle.link_msg.specs.declared.message.LinkMsg.TheVariants.{Up, End, Line, Ask, Answer}
 use Rattle.link_msg.specs.declared.out.Out.{Out}
+use Rattle.link_msg.specs.declared.out.Out.TheVariants.{Client, Close, Link, Mark, Told}
+use Rattle.mark_history.proofs.Numbers.{count_cons}
 use Rattle.mur_base.specs.Map.{with_entry}
 use Rattle.mur_base.specs.declared.point.AskId.{AskId}
 use Rattle.mur_base.proofs.MapLaws.{numbers_apart, same_or_other, value_at-with_entry, value_at-with_entry-other, value_at-with_value, value_at-with_value-other}
 use Rattle.node_step.specs.declared.input.NodeInput.{NodeInput}
 use Rattle.node_step.specs.declared.input.NodeInput.TheVariants.{Opened, Piece, Hung, From}
 use Rattle.cluster_core.specs.Headline.AsksOnce.{Awaits}
-use Rattle.cluster_core.proofs.Asking.Asked.{GoesOn, SaysMoved, answer_goes, asked_in, awaits, bytes_go, due, hangs_go, its_number, its_server, ok_goes, same_ask}
+use Rattle.cluster_core.proofs.Asking.Asked.{GoesOn, SaysMoved, answer_goes, asked_in, awaits, bytes_go, due, hangs_go, is_asking, its_number, its_server, ok_goes, same_ask}
 use Rattle.cluster_core.proofs.Asking.Asked.GoesOn.{anew, as_it_was}
+use Rattle.cluster_core.proofs.Asking.ServerEnds.{IsForClient, StaysOrEnds, has_ended, server_ends, stays}
 
 -- ---- whether a command waits for a server
 
@@ -236,6 +240,11 @@ unfolding has_asked
 nothing_waits_there c id server is waits =
     (let no : false ≡ true = sym (ap (λ s. has_asked s server) is) ∙ its_server id.conn c id server waits in cc)
 
+ended_waits_not : (c : Connection) (id : AskId) (server : List ℕ) → c.stage ≡ Ended → awaits id.conn c id server ≡ true → ⊥
+unfolding has_asked
+ended_waits_not c id server is waits =
+    (let no : false ≡ true = sym (ap (λ s. has_asked s server) is) ∙ its_server id.conn c id server waits in cc)
+
 module _ (front : Front) where
   none_moved : (input : NodeInput) → ((id : AskId) (server : List ℕ) → IsMoved input id server → ⊥) → TellsNone input front
   none_moved input none id server was moved = none id server moved
@@ -384,10 +393,44 @@ module _ (front : Front) where
     still_so : FrontAsks (From from message) front (still front)
     still_so = still_asking (From from message) front (none_moved (From from message) none)
 
-  pub message_asks : (from : List ℕ) (message : LinkMsg) → message ≢ End → FrontAsks (From from message) front (deliver front from message)
+  -- the link from a server ends
+  module _ (from : List ℕ) (ne : from ≢ front.master) where
+    abbrev behind_end : Stepped
+    behind_end = end_from (without_up front from) from
+
+    none_sent : (id : AskId) (server : List ℕ) (outs : List Out) → AllByRecursion IsForClient outs → asked_in id server outs ≡ 0
+    none_sent id server [] are = refl
+    none_sent id server (out ∷ outs) are = omega (arith, count_cons (is_asking id server) out outs, by out are.0, none_sent id server outs are.1)
+      where
+        by : (out : Out) → IsForClient out → ◌≡◌ {A = ℕ} (cond (is_asking id server out) 1 0) 0
+        by (Client conn bytes) is = refl
+        by (Close conn) is = refl
+        by (Link node message) is = absurd is
+        by (Mark ask counts) is = absurd is
+        by (Told ask how) is = absurd is
+
+    -- a command that waits then has waited
+    waited_then : (id : AskId) (server : List ℕ) → Awaits (Some behind_end.front) id server
+        → StaysOrEnds (connection_at front id.conn) (connection_at behind_end.front id.conn) → Awaits (Some front) id server
+    waited_then id server waits (stays same) =
+        waits_there front waits.connection id server (sym same ∙ there_it_is behind_end.front id server waits) (awaits_it behind_end.front id server waits)
+    waited_then id server waits (has_ended c is stage) =
+        absurd (ended_waits_not c id server stage (awaits_at behind_end.front id server waits c is))
+
+    end_asks : FrontAsks (From from End) front behind_end
+    end_asks id server =
+        let its = server_ends front from ne in
+        isnt_asked
+        (λ comes.
+        (let no : From from End ≡ From server (Answer (record { id = id; body = Moved server })) =
+        comes.is_new (waited_then id server comes.waits (its.connections id.conn)) in cc))
+        (none_sent id server behind_end.outs its.outs)
+
+  pub message_asks : (from : List ℕ) (message : LinkMsg) → (message ≡ End → from ≢ front.master)
+      → FrontAsks (From from message) front (deliver front from message)
   unfolding deliver
   message_asks from (Answer answer) other = answer_asks from answer (waits_for (connection_at front (answer.id).conn) from) refl
   message_asks from Up other = up_asks from Up (λ id server is. cc) (pointwise nat_eq from front.master)
-  message_asks from End other = absurd (other refl)
+  message_asks from End other = end_asks from (other refl)
   message_asks from (Line line) other = line_asks from (Line line) (λ id server is. cc) line (pointwise nat_eq from front.master)
   message_asks from (Ask ask) other = still_so from (Ask ask) (λ id server is. cc)

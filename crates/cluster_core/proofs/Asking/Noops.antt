@@ -27,7 +27,7 @@ use Rattle.feed_core.specs.Routes.{server_by}
 use Rattle.feed_core.specs.declared.rec.Rec.{Rec}
 use Rattle.front_core.specs.Answered.{answer_by, answer_comes, by_then, clears_at, need_behind, ok_by, ok_comes, reading_again, refused_behind, sends_if, waiting_come}
 use Rattle.front_core.specs.Ended.{released, released_at}
-use Rattle.front_core.specs.Front.{Stepped, answer_at, answer_from, bytes_by, bytes_in, connect, connect_at, connection_at, deliver, front_bytes_at, having_read, line_by, line_from, ok_at, up_from, waits_for, ways_of, with_turned, with_up}
+use Rattle.front_core.specs.Front.{Stepped, answer_at, answer_from, bytes_by, bytes_in, connect, connect_at, connection_at, deliver, end_from, front_bytes_at, having_read, line_by, line_from, ok_at, up_from, waits_for, ways_of, with_turned, with_up, without_up}
 use Rattle.front_core.specs.Reading.{inputs_of_more}
 use Rattle.front_core.specs.Taken.{Turned, Ways, answers_last, asks, begins_if, comes_at, input_comes, input_in, inputs_come, lists, lists_if, next_of, request_in}
 use Rattle.front_core.specs.Taken.{to_begin, told_now, turned_by_need}
@@ -53,7 +53,7 @@ use Rattle.link_msg.specs.declared.how.How.TheVariants.{Behind}
 use Rattle.link_msg.specs.declared.message.LinkMsg.{LinkMsg}
 use Rattle.link_msg.specs.declared.message.LinkMsg.TheVariants.{Up, End, Line, Ask, Answer}
 use Rattle.link_msg.specs.declared.out.Out.{Out}
-use Rattle.link_msg.specs.declared.out.Out.TheVariants.{Link}
+use Rattle.link_msg.specs.declared.out.Out.TheVariants.{Client, Close, Link, Mark, Told}
 use Rattle.mur_base.specs.declared.point.AskId.{AskId}
 use Rattle.mur_base.specs.declared.point.What.TheVariants.{Unreached as unreached}
 use Rattle.mur_base.proofs.MapLaws.{numbers_apart, value_at-with_value}
@@ -68,6 +68,7 @@ use Rattle.session_core.specs.Relocated.{Refused, relocated}
 use Rattle.cluster_core.specs.Headline.Asks.{IsNeeded, IsRightLine}
 use Rattle.cluster_core.specs.Headline.Asks.IsNeeded.{to_list, is_unknown, is_put_off}
 use Rattle.cluster_core.specs.Headline.Asks.IsRightLine.{is_update, is_noop}
+use Rattle.cluster_core.proofs.Asking.ServerEnds.{IsForClient, server_ends}
 use Rattle.cluster_core.proofs.Runs.QuietNodes.{AnyClient}
 
 -- ---- a connection
@@ -402,11 +403,22 @@ module _ (taken : Option LinkMsg) (front : Front) where
   line_says bytes true = line_by_says bytes (barrier_answered bytes)
   line_says bytes false = tt
 
--- a message that comes, but that a link ended
-pub message_says : (front : Front) (from : List ℕ) (message : LinkMsg) → message ≢ End → SaysRightly (Some message) (deliver front from message)
+-- what is for clients alone
+mute_says : (taken : Option LinkMsg) (now : Front) (outs : List Out) → AllByRecursion IsForClient outs → AreLetOut AnyClient (MaySay taken now) ⊤ outs
+mute_says taken now [] are = tt
+mute_says taken now (Client conn bytes ∷ outs) are = (tt, mute_says taken now outs are.1)
+mute_says taken now (Close conn ∷ outs) are = (tt, mute_says taken now outs are.1)
+mute_says taken now (Link node message ∷ outs) are = absurd are.0
+mute_says taken now (Mark ask counts ∷ outs) are = absurd are.0
+mute_says taken now (Told ask how ∷ outs) are = absurd are.0
+
+-- a message that comes; of the master's link none ends
+pub message_says : (front : Front) (from : List ℕ) (message : LinkMsg) → (message ≡ End → from ≢ front.master)
+    → SaysRightly (Some message) (deliver front from message)
 unfolding deliver
 message_says front from (Answer answer) other = answer_says (Some (Answer answer)) front answer (waits_for (connection_at front (answer.id).conn) from) refl
 message_says front from Up other = up_says (Some Up) (with_up front from) (pointwise nat_eq from front.master) refl
-message_says front from End other = absurd (other refl)
+message_says front from End other =
+    mute_says (Some End) (end_from (without_up front from) from).front (end_from (without_up front from) from).outs (server_ends front from (other refl)).outs
 message_says front from (Line line) other = line_says (Some (Line line)) front line (pointwise nat_eq from front.master)
 message_says front from (Ask ask) other = tt

@@ -14,12 +14,14 @@ use Rattle.link_msg.specs.declared.message.LinkMsg.{LinkMsg}
 use Rattle.link_msg.specs.declared.message.LinkMsg.TheVariants.{Up, End, Line, Ask, Answer}
 use Rattle.link_msg.specs.declared.out.Out.{Out}
 use Rattle.link_msg.specs.declared.out.Out.TheVariants.{Client, Close, Link, Mark, Told}
+use Rattle.link_queue.specs.Broken.{is_broken}
 use Rattle.link_queue.specs.Links.{on_link, same_link}
 use Rattle.link_queue.proofs.Wires.{same_itself, same_names}
 use Rattle.mark_history.proofs.Numbers.{count_cons}
 use Rattle.mark_history.proofs.Marks.{count_both}
 use Rattle.mur_base.specs.declared.point.AskId.{AskId}
 use Rattle.mur_config.specs.declared.config.Config.{Config}
+use Rattle.mur_config.specs.Nodes.{AreNodes}
 use Rattle.node_step.specs.declared.input.NodeInput.{NodeInput}
 use Rattle.node_step.specs.declared.input.NodeInput.TheVariants.{Opened, Piece, Hung, From}
 use Rattle.node_step.specs.declared.node.NodeState.{NodeState}
@@ -33,7 +35,7 @@ use Rattle.cluster_core.specs.Flow.{run_steps, steps_of_run}
 use Rattle.cluster_core.specs.Headline.Asks.{IsRightlySent, taken_by}
 use Rattle.cluster_core.specs.Headline.AsksOnce.{AsksAsItWaits, AsksInTheStep, AsksOnceEach, Awaits, ComesToWait, TakesMoved, is_ask_of}
 use Rattle.cluster_core.specs.Headline.OneNode.{leaves_on}
-use Rattle.cluster_core.specs.World.{front_at, node_at, start, steps_by}
+use Rattle.cluster_core.specs.World.{front_at, master_of, node_at, start, steps_by}
 use Rattle.cluster_core.proofs.Asking.Asked.{asked_in, count_one, is_asking}
 use Rattle.cluster_core.proofs.Asking.FrontAsked.{Comes, FrontAsks, IsAskedSo, IsMoved, bytes_ask, connect_asks, hang_asks, message_asks}
 use Rattle.cluster_core.proofs.Asking.FrontAsked.IsAskedSo.{is_asked, isnt_asked}
@@ -42,7 +44,7 @@ use Rattle.cluster_core.proofs.Asking.StepSends.{IsBrought, StepSends, all_sent,
 use Rattle.cluster_core.proofs.Asking.StepSends.StepSends.{is_away, rests, sends}
 use Rattle.cluster_core.proofs.Runs.NeverMoved.{WorldIsQuiet, never_moved}
 use Rattle.cluster_core.proofs.Runs.OneNodeLaw.{one_more_step}
-use Rattle.cluster_core.proofs.Runs.QuietNodes.{AnyClient, IsQuiet}
+use Rattle.cluster_core.proofs.Runs.QuietNodes.{AnyClient, IsQuietOn}
 
 -- ---- counts
 
@@ -101,17 +103,18 @@ record FrontSteps (front : Front) (input : NodeInput) : Type 0 where
   is : as_front (Some (front_takes front input).state) ≡ Some now
   asks : FrontAsks input front (record { front = now; outs = (front_takes front input).outs })
 
--- no link ended
-abbrev EndsNone : NodeInput → Type 0
-EndsNone input = taken_in input ≢ Some End
+-- no link with this node ended
+abbrev EndsNone : List ℕ → NodeInput → Type 0
+EndsNone master (From name message) = message ≡ End → name ≢ master
+EndsNone master input = ⊤
 
-front_steps : (front : Front) (input : NodeInput) → EndsNone input → FrontSteps front input
+front_steps : (front : Front) (input : NodeInput) → EndsNone front.master input → FrontSteps front input
 unfolding front_takes as_front
 front_steps front (Opened conn) none = record { now = (connect front conn).front; is = refl; asks = connect_asks front conn }
 front_steps front (Piece conn bytes) none = record { now = (bytes_in front conn bytes).front; is = refl; asks = bytes_ask front conn bytes }
 front_steps front (Hung conn) none = record { now = hang front conn; is = refl; asks = hang_asks front conn }
 front_steps front (From name message) none =
-    record { now = (deliver front name message).front; is = refl; asks = message_asks front name message (λ e. none (ap Some e)) }
+    record { now = (deliver front name message).front; is = refl; asks = message_asks front name message none }
 
 -- ---- a step
 
@@ -165,7 +168,12 @@ module _ (world next : World) (event : Event) (node server : List ℕ) (id : Ask
     by_front outs (is_asked comes one) = record { once = λ c. one; never = λ none. absurd (none (comes_here comes)) }
     by_front outs (isnt_asked none zero) = none_comes (asked_in id server outs) (λ comes. none (comes_there comes)) zero
 
-  by_node : (it : NodeState) (input : NodeInput) → EndsNone input → node_at world node ≡ Some it → IsBrought event node input
+  -- of a frontend's master none did
+  abbrev EndsNoneOf : NodeState → NodeInput → Type 0
+  EndsNoneOf (state.Front front) input = EndsNone front.master input
+  EndsNoneOf it input = ⊤
+
+  by_node : (it : NodeState) (input : NodeInput) → EndsNoneOf it input → node_at world node ≡ Some it → IsBrought event node input
       → taken_by event world ≡ taken_in input → node_at next node ≡ Some (node_takes it input).state
       → AsksAsItWaits event world next node server id (asked_in id server (node_takes it input).outs)
   unfolding node_takes
@@ -180,7 +188,10 @@ module _ (world next : World) (event : Event) (node server : List ℕ) (id : Ask
       (none_asked id server _ (master_asks [] None None refl master input))
 
   -- what was sent is this
-  module _ (sent : List LinkMsg) (ends : taken_by event world ≢ Some End) (behind : on_link next.links node server ≡ leaves_on event node server (on_link world.links node server) ++ sent) where
+  module _ (sent : List LinkMsg) (whole : is_broken world.broken node server ≡ false)
+      (ends : (it : NodeState) (input : NodeInput) → node_at world node ≡ Some it → IsBrought event node input → taken_by event world ≡ taken_in input
+      → EndsNoneOf it input)
+      (behind : on_link next.links node server ≡ leaves_on event node server (on_link world.links node server) ++ sent) where
     it_is : (more : List LinkMsg) → on_link next.links node server ≡ leaves_on event node server (on_link world.links node server) ++ more → more ≡ sent
     it_is more is = append_cancel_left (leaves_on event node server (on_link world.links node server)) more sent (sym is ∙ behind)
 
@@ -196,31 +207,50 @@ module _ (world next : World) (event : Event) (node server : List ℕ) (id : Ask
         (none_is (left server))
     by_sends (is_away was now left) =
         none_comes _ (λ comes. nobody_waits (front_at next node) id server (ap as_front now ∙ no_front_there) comes.waits) (none_is (left server))
-    by_sends (sends it input there brought taken then links) =
+    by_sends (sends it input there brought taken then links lost) =
         subst (AsksAsItWaits event world next node server id)
         (sym (sent_count node server id (node_takes it input).outs)
-        ∙ ap (count_by (is_ask_of id)) (it_is (all_sent node server (node_takes it input).outs) (links server)))
-        (by_node it input (λ e. ends (taken ∙ e)) there brought taken then)
+        ∙ ap (count_by (is_ask_of id)) (it_is (all_sent node server (node_takes it input).outs) (links server whole)))
+        (by_node it input (ends it input there brought taken) there brought taken then)
 
-step_asks : (world : World) (event : Event) → world.broken ≡ [] → taken_by event world ≢ Some End → AsksInTheStep event world (steps_by world event)
-step_asks world event whole ends node server sent id is behind =
-    by_sends world (steps_by world event) event node server id sent ends behind (step_sends world event node whole is)
+-- what the node takes ends no link with its master
+abbrev EndsRightly : World → Event → Type 0
+EndsRightly world event = (node : List ℕ) (front : Front) (name : List ℕ) → front_at world node ≡ Some front → event ≡ Deliver name node
+    → taken_by event world ≡ Some End → name ≢ front.master
 
--- no link ends in a run
-first_no_end : (queue : List LinkMsg) → AllByRecursion IsQuiet queue → slice_get queue 0 ≢ Some End
-first_no_end [] all e = cc
-first_no_end (message ∷ queue) all e = (let same : message ≡ End = cc in subst IsQuiet same all.0)
+step_asks : (world : World) (event : Event) → EndsRightly world event → AsksInTheStep event world (steps_by world event)
+step_asks world event rightly node server sent id is whole behind =
+    by_sends world (steps_by world event) event node server id sent whole ends behind (step_sends world event node is)
+  where
+    ends : (it : NodeState) (input : NodeInput) → node_at world node ≡ Some it → IsBrought event node input → taken_by event world ≡ taken_in input
+        → EndsNoneOf world (steps_by world event) event node server id it input
+    ends (state.Front front) (From name message) there brought taken = λ e.
+        rightly node front name (ap as_front there ∙ a_front front) brought (taken ∙ ap (λ m. Some m) e)
+    ends (state.Front front) (Opened conn) there brought taken = tt
+    ends (state.Front front) (Piece conn bytes) there brought taken = tt
+    ends (state.Front front) (Hung conn) there brought taken = tt
+    ends (state.Back home) input there brought taken = tt
+    ends (state.Master master) input there brought taken = tt
 
-takes_no_end : (world : World) (event : Event) → WorldIsQuiet world → taken_by event world ≢ Some End
-takes_no_end world (Deliver from to) quiet e = first_no_end (on_link world.links from to) (quiet.links from to) e
-takes_no_end world event quiet e = cc
+-- no link of the master ends in a run
+first_no_end : (master from to : List ℕ) (queue : List LinkMsg) → AllByRecursion (IsQuietOn master from to) queue → slice_get queue 0 ≡ Some End
+    → from ≢ master
+first_no_end master from to [] all e = cc
+first_no_end master from to (message ∷ queue) all e = (let same : message ≡ End = cc in (subst (IsQuietOn master from to) same all.0).0)
 
--- no link is broken behind any of these steps of a run
-abbrev pub AreWhole : Config → List Event → Type 0
-AreWhole config steps = (before later : List Event) → steps ≡ before ++ later → (run_steps (start config) before).broken ≡ []
+ends_rightly : (config : Config) (world : World) (event : Event) → WorldIsQuiet (master_of config) world
+    → ((node : List ℕ) (front : Front) → front_at world node ≡ Some front → front.master ≡ master_of config) → EndsRightly world event
+ends_rightly config world event quiet masters node front name there is ended same =
+    first_no_end (master_of config) name node (on_link world.links name node) (quiet.links name node)
+    (sym (ap (λ (e : Event). taken_by e world) is) ∙ ended) (same ∙ masters node front there)
 
-pub asks_once : (config : Config) (events : List Event) → AreWhole config (steps_of_run config events) → AsksOnceEach config events
-asks_once config events whole before event later parts =
+-- each frontend has the master of the configuration, behind each of these steps of a run
+abbrev pub HaveMaster : Config → List Event → Type 0
+HaveMaster config steps = (before later : List Event) → steps ≡ before ++ later → (node : List ℕ) (front : Front)
+    → front_at (run_steps (start config) before) node ≡ Some front → front.master ≡ master_of config
+
+pub asks_once : (config : Config) (events : List Event) → AreNodes config.nodes → HaveMaster config (steps_of_run config events) → AsksOnceEach config events
+asks_once config events are have before event later parts =
     let world = run_steps (start config) before in
-    subst (AsksInTheStep event world) (sym (one_more_step (start config) before event)) (step_asks world event (whole before (event ∷ later) parts)
-    (takes_no_end world event (never_moved config before)))
+    subst (AsksInTheStep event world) (sym (one_more_step (start config) before event))
+    (step_asks world event (ends_rightly config world event (never_moved config before are) (have before (event ∷ later) parts)))

@@ -1,5 +1,5 @@
--- What a step sends on each link: what the node that works in it lets out there, for what comes to it.
-use Rattle.std.proofs.Common.{◌≡◌, ℕ, cond, List, [], ◌∷◌, ◌++◌, Option, None, Some, refl, sym, ◌∙◌, ap, subst, append-nil, append_assoc}
+-- What a step sends on each link: what the node that works in it lets out there, for what comes to it; on a broken link nothing.
+use Rattle.std.proofs.Common.{◌≡◌, ℕ, true, false, cond, List, [], ◌∷◌, ◌++◌, Option, None, Some, refl, sym, ◌∙◌, ap, subst, append-nil, append_assoc}
 use Rattle.std.specs.Prelude.{⊤, slice_get}
 use Rattle.std.specs.Ordering.{nat_cmp}
 use Rattle.std.specs.List.{flat_map}
@@ -7,6 +7,7 @@ use Rattle.std.specs.Cmp.Lexicographic.{slice_cmp}
 use Rattle.link_msg.specs.declared.message.LinkMsg.{LinkMsg}
 use Rattle.link_msg.specs.declared.out.Out.{Out}
 use Rattle.link_msg.specs.declared.out.Out.TheVariants.{Client as to_client, Close, Link as to_node, Mark as mark_out, Told as tell}
+use Rattle.link_queue.specs.Broken.{Broken, is_broken}
 use Rattle.link_queue.specs.Links.{Links, on_link, same_link}
 use Rattle.link_queue.proofs.Wires.{on_link-sent, on_link-taken}
 use Rattle.many_links.specs.Murder.{put_all, put_out}
@@ -22,9 +23,10 @@ use Rattle.cluster_core.specs.declared.world.Client.{Client}
 use Rattle.cluster_core.specs.declared.world.World.{World}
 use Rattle.cluster_core.specs.Headline.Asks.{taken_by}
 use Rattle.cluster_core.specs.Headline.OneNode.{leaves_on, node_of, worker}
-use Rattle.cluster_core.specs.World.{client_at, client_does, comes_to, deliver_first, node_at, opens, stepped, steps_by, taken_from_link, takes, with_client, with_written}
+use Rattle.cluster_core.specs.World.{client_at, client_does, comes_to, deliver_first, node_at, not_lost, opens, stepped, steps_by, taken_from_link, takes, with_client, with_written}
 use Rattle.cluster_core.proofs.Asking.NodeAsks.{taken_in}
-use Rattle.cluster_core.proofs.Nodes.Carried.{acts_whole, is_made}
+use Rattle.cluster_core.proofs.Nodes.Carried.{is_made}
+use Rattle.cluster_core.proofs.Nodes.Lossy.{puts_kept, puts_lost}
 use Rattle.cluster_core.proofs.Runs.OneNodeLaw.{nothing_first}
 
 -- ---- on a link
@@ -70,30 +72,37 @@ pub data StepSends (world : World) (event : Event) (node : List ℕ) (next : Wor
       → ((server : List ℕ) → on_link next.links node server ≡ leaves_on event node server (on_link world.links node server)) → StepSends world event node next
   sends : (it : NodeState) (input : NodeInput) → node_at world node ≡ Some it → IsBrought event node input → taken_by event world ≡ taken_in input
       → node_at next node ≡ Some (node_takes it input).state
-      → ((server : List ℕ) → on_link next.links node server
+      → ((server : List ℕ) → is_broken world.broken node server ≡ false → on_link next.links node server
       ≡ leaves_on event node server (on_link world.links node server) ++ all_sent node server (node_takes it input).outs)
+      → ((server : List ℕ) → is_broken world.broken node server ≡ true
+      → on_link next.links node server ≡ leaves_on event node server (on_link world.links node server))
       → StepSends world event node next
 
 -- what comes to a node, in a world that has the nodes and what the event left on the links
 comes_sends : (world begun : World) (event : Event) (node : List ℕ) (input : NodeInput) (found : Option NodeState) → node_at begun node ≡ found
-    → begun.nodes ≡ world.nodes → begun.broken ≡ []
+    → begun.nodes ≡ world.nodes → begun.broken ≡ world.broken
     → ((server : List ℕ) → on_link begun.links node server ≡ leaves_on event node server (on_link world.links node server))
     → IsBrought event node input → taken_by event world ≡ taken_in input → StepSends world event node (comes_to begun node input found)
 unfolding comes_to
-comes_sends world begun event node input None there nodes whole left brought taken =
+comes_sends world begun event node input None there nodes broken left brought taken =
     is_away (ap (λ n. value_at (slice_cmp nat_cmp) n node) (sym nodes) ∙ there) there left
-comes_sends world begun event node input (Some it) there nodes whole left brought taken =
+comes_sends world begun event node input (Some it) there nodes broken left brought taken =
     let acted = node_takes it input in
-    let made = is_made (with_written begun node acted.entry) node acted.state acted.outs in
-    let is = acts_whole begun node acted whole in
+    let put : World = with_written begun node acted.entry in
+    let let_out : List Out = not_lost begun.broken node acted.outs in
+    let made = is_made put node acted.state let_out in
     sends it input (ap (λ n. value_at (slice_cmp nat_cmp) n node) (sym nodes) ∙ there) brought taken
-    (ap (λ (w : World). node_at w node) is ∙ ap (λ n. value_at (slice_cmp nat_cmp) n node) made.nodes
+    (ap (λ n. value_at (slice_cmp nat_cmp) n node) made.nodes
     ∙ value_at-with_value (slice_cmp nat_cmp) names_apart begun.nodes node acted.state it there)
-    (λ server.
-    ap (λ (w : World). on_link w.links node server) is ∙ ap (λ (l : Links LinkMsg). on_link l node server) made.links
+    (λ server whole.
+    ap (λ (l : Links LinkMsg). on_link l node server) made.links
+    ∙ puts_kept begun.broken node node server (ap (λ (b : Broken). is_broken b node server) broken ∙ whole) begun.links acted.outs
     ∙ all_put node server begun.links acted.outs ∙ ap (λ q. q ++ all_sent node server acted.outs) (left server))
+    (λ server cut.
+    ap (λ (l : Links LinkMsg). on_link l node server) made.links
+    ∙ puts_lost begun.broken node server (ap (λ (b : Broken). is_broken b node server) broken ∙ cut) acted.outs begun.links ∙ left server)
 
-module _ (world : World) (whole : world.broken ≡ []) where
+module _ (world : World) where
   abbrev begun : World
   begun = stepped world
 
@@ -101,7 +110,7 @@ module _ (world : World) (whole : world.broken ≡ []) where
   unfolding opens
   opens_sends node conn (Some there) = rests refl refl (λ server. refl)
   opens_sends node conn None =
-      comes_sends world (with_client begun node conn) (Open node conn) node (Opened conn) (node_at begun node) refl refl whole (λ server. refl) tt refl
+      comes_sends world (with_client begun node conn) (Open node conn) node (Opened conn) (node_at begun node) refl refl refl (λ server. refl) tt refl
 
   client_sends : (event : Event) (node : List ℕ) (input : NodeInput) (found : Option Client) → node_of found ≡ Some node
       → ((server : List ℕ) → leaves_on event node server (on_link world.links node server) ≡ on_link world.links node server)
@@ -111,7 +120,7 @@ module _ (world : World) (whole : world.broken ≡ []) where
   client_sends event node input (Some client) is left brought taken =
       let same : client.at ≡ node = cc in
       subst (λ n. StepSends world event node (comes_to begun n input (node_at begun n))) (sym same)
-      (comes_sends world begun event node input (node_at begun node) refl refl whole (λ server. sym (left server)) brought taken)
+      (comes_sends world begun event node input (node_at begun node) refl refl refl (λ server. sym (left server)) brought taken)
 
   deliver_sends : (from to : List ℕ) (queue : List LinkMsg) → on_link world.links from to ≡ queue
       → StepSends world (Deliver from to) to (deliver_first begun from to queue)
@@ -134,6 +143,5 @@ module _ (world : World) (whole : world.broken ≡ []) where
       subst (λ n. StepSends world (Deliver from to) n (takes begun (Deliver from to))) same (deliver_sends from to (on_link world.links from to) refl)
   takes_sends event node is = cc
 
-pub step_sends : (world : World) (event : Event) (node : List ℕ) → world.broken ≡ [] → worker world event ≡ Some node
-    → StepSends world event node (steps_by world event)
-step_sends world event node whole is = takes_sends world whole event node is
+pub step_sends : (world : World) (event : Event) (node : List ℕ) → worker world event ≡ Some node → StepSends world event node (steps_by world event)
+step_sends world event node is = takes_sends world event node is

@@ -5,6 +5,7 @@ use Rattle.std.specs.Cmp.Lexicographic.{pointwise}
 use Rattle.back_node.specs.declared.node.BackNode.{BackNode}
 use Rattle.back_node.specs.Takes.{node_takes}
 use Rattle.imap_talk.specs.Heard.{Heard, nobody}
+use Rattle.imap_talk.specs.Transcript.{Stop}
 use Rattle.imap_types.specs.declared.op.Op.{Op}
 use Rattle.link_msg.specs.declared.message.LinkMsg.{LinkMsg}
 use Rattle.link_msg.specs.declared.message.LinkMsg.TheVariants.{Line}
@@ -25,7 +26,7 @@ use Rattle.cluster_core.specs.Headline.Lines.{AreOfOthers, BeginsAsAsked, Begins
 use Rattle.cluster_core.specs.Numbers.{NumbersFitAll}
 use Rattle.cluster_core.specs.World.{backends_of, home_at, start, steps_by}
 use Rattle.cluster_core.proofs.Commands.Standing.{Fixed}
-use Rattle.cluster_core.proofs.Connections.KeepsLaw.{ConnectionIs, IsUntold, KeepsLaw, fixed_of, is_closed, is_elsewhere, is_nobody, is_open}
+use Rattle.cluster_core.proofs.Connections.KeepsLaw.{ConnectionIs, IsUntold, KeepsLaw, fixed_of, is_closed, is_cut_off, is_elsewhere, is_nobody, is_open}
 use Rattle.cluster_core.proofs.Keeps.Numbers.{asked_fit}
 use Rattle.cluster_core.proofs.Lines.AtNode.{IsAtNode, at_node, rests, works}
 use Rattle.cluster_core.proofs.Lines.OneStep.{HasWaiting, IsForOne, WaitedOrTaken, WaitsStill, for_taken, for_waited, it_comes, it_waited, line_tells}
@@ -60,18 +61,19 @@ abbrev HaveToBegin : Config → List Event → Type 0
 HaveToBegin config steps = (node : List ℕ) (home : BackNode) → home_at (run_steps (start config) steps) node ≡ Some home → (conn : ℕ) (ask : NameAsk)
     → HasWaiting home conn ask → HasToBegin config node (op_of ask.kind) ask.id steps
 
-nobody_is : (fixed : Fixed) (conn : ℕ) (world : World) (story : Tale) (came : Heard) → came ≡ nobody → ConnectionIs fixed conn world story came
-    → IsUntold fixed conn world story
-nobody_is fixed conn world story _ e (is_nobody none nowhere untold) = untold
-nobody_is fixed conn world story _ e (is_elsewhere node given at none untold) = untold
-nobody_is fixed conn world story _ e (is_open bytes node front connection at begun standing) = cc
-nobody_is fixed conn world story _ e (is_closed bytes node front connection at gone) = cc
+nobody_is : (fixed : Fixed) (conn : ℕ) (world : World) (story : Tale) (stop : Stop) (came : Heard) → came ≡ nobody
+    → ConnectionIs fixed conn world story stop came → IsUntold fixed conn world story
+nobody_is fixed conn world story _ _ e (is_nobody none nowhere untold) = untold
+nobody_is fixed conn world story _ _ e (is_elsewhere node given at none untold) = untold
+nobody_is fixed conn world story _ _ e (is_open bytes node front connection at begun standing) = cc
+nobody_is fixed conn world story _ _ e (is_cut_off bytes node front connection at gone unanswered) = cc
+nobody_is fixed conn world story _ _ e (is_closed stop bytes node front connection at gone) = cc
 
 -- at the start none waits
 none_waits : (config : Config) → LawBehind config [] → HaveToBegin config []
 unfolding heard_from
 none_waits config law node home there conn ask waiting =
-    let untold = nobody_is (fixed_of config) conn (run_steps (start config) []) law.story (heard config conn []) refl (law.connections conn) in
+    let untold = nobody_is (fixed_of config) conn (run_steps (start config) []) law.story (law.stops conn) (heard config conn []) refl (law.connections conn) in
     let no : ask ∷ [] ≡ [] = sym waiting ∙ (untold.nothing.shows node home there).at.waiting in cc
 
 module _ (config : Config) (are : AreNodes config.nodes) (steps : List Event) (fit : NumbersFitAll config steps) (each : EachKeeps config steps) where
@@ -127,7 +129,7 @@ module _ (config : Config) (are : AreNodes config.nodes) (steps : List Event) (f
     waits_on node home then conn ask e =
         let was = home_before node home then in
         still_waits node was.0 was.1 conn ask home (subst (λ (w : World). home_at w node ≡ Some home) (one_more_step (start config) before event) then) e
-        (at_node world node was.0 law.whole was.1 event)
+        (at_node world node was.0 was.1 event)
 
     -- ---- a line that begins something
 
@@ -148,7 +150,7 @@ module _ (config : Config) (are : AreNodes config.nodes) (steps : List Event) (f
           record { id = tells.id; tag = tells.tag; asked = as_asked tells.id tells.its; only = tells.only; elsewhere = tells.elsewhere }
 
       begins_so : BeginsAsAsked config before event node to line (ahead ++ behind_it) for_this
-      begins_so = begins_by (at_node world node home law.whole there event)
+      begins_so = begins_by (at_node world node home there event)
 
   -- what waits, behind each step
   waiting_at : (before later : List Event) → steps ≡ before ++ later → HaveToBegin config before

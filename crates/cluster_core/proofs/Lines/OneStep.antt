@@ -38,7 +38,7 @@ use Rattle.cluster_core.specs.Headline.Lines.{AreOfOthers, SaysNothing, Sends, T
 use Rattle.cluster_core.specs.World.{home_at}
 use Rattle.cluster_core.proofs.Connections.KeepsLaw.{KeepsLaw}
 use Rattle.cluster_core.proofs.Lines.AtNode.{SendsIn}
-use Rattle.cluster_core.proofs.Lines.Says.{IsAlone, IsForAsk, IsSilent, WaitsThen, comes, for_new, for_waiting, kind_is, line_alone, op_of, waited}
+use Rattle.cluster_core.proofs.Lines.Says.{IsAlone, IsForAsk, IsSilent, WaitsThen, comes, for_new, for_waiting, kind_is, line_alone, not_empty, op_of, waited}
 use Rattle.cluster_core.proofs.Lines.Says.{waits_silently}
 use Rattle.cluster_core.proofs.Lines.Steps.{IsDone, fits, hears, step_is, talk}
 use Rattle.cluster_core.proofs.Lines.Tagged.{IsToldSo, behind, master_so, other_so, told_so}
@@ -137,10 +137,14 @@ module _ (config : Config) (came : ℕ → Heard) (world : World) (law : KeepsLa
       (λ up down hearing. (hears_keeps_talk law.master node home up down law.given message hearing).said.sent)
       (λ up down ne talking. (asks_keep_talk law.master node home up down law.given from message ne fits_is talking).said.sent)
 
-  -- what it sends a node of a connection
+  -- what it sends a node of a connection is nothing, where all that it lets out to it is
   of_connection : (conn : ℕ) (to : List ℕ) (sent : List LinkMsg) → Sends world event node to sent
-      → filter (is_own_message (is_of_connection conn)) sent ≡ filter (is_own_message (is_of_connection conn)) (messages_to to next.outs)
-  of_connection conn to sent sends = ap (λ (l : List LinkMsg). filter (is_own_message (is_of_connection conn)) l) (all to sent sends)
+      → filter (is_own_message (is_of_connection conn)) (messages_to to next.outs) ≡ [] → filter (is_own_message (is_of_connection conn)) sent ≡ []
+  of_connection conn to sent sends none = by (all to sent sends)
+    where
+      by : (sent ≡ messages_to to next.outs) ⊎ (sent ≡ []) → filter (is_own_message (is_of_connection conn)) sent ≡ []
+      by (inl e) = ap (λ (l : List LinkMsg). filter (is_own_message (is_of_connection conn)) l) e ∙ none
+      by (inr e) = ap (λ (l : List LinkMsg). filter (is_own_message (is_of_connection conn)) l) e
 
   takes_ask : (it : FrontAsk) → message ≡ Ask it → TakesAsk world event node it.op it.id
   takes_ask it asks = record {
@@ -174,7 +178,7 @@ module _ (config : Config) (came : ℕ → Heard) (world : World) (law : KeepsLa
       since = by_waits silent.waits;
       says = λ to sent sends.
           of_others ask.id sent
-          (of_connection ask.id.conn to sent sends ∙ none_sent (is_of_connection ask.id.conn) to next.outs nothing_goes);
+          (of_connection ask.id.conn to sent sends (none_sent (is_of_connection ask.id.conn) to next.outs nothing_goes));
     }
 
   -- ---- a line that begins something
@@ -182,7 +186,12 @@ module _ (config : Config) (came : ℕ → Heard) (world : World) (law : KeepsLa
   module _ (to : List ℕ) (ahead : List LinkMsg) (line : List ℕ) (behind_it : List LinkMsg) (sends : Sends world event node to (ahead ++ Line line ∷ behind_it))
       (for_this : Op) (begins : begun_by (command_in line) ≡ Some for_this) where
     sent : messages_to to next.outs ≡ ahead ++ Line line ∷ behind_it
-    sent = sym (all to (ahead ++ Line line ∷ behind_it) sends)
+    sent = by (all to (ahead ++ Line line ∷ behind_it) sends)
+      where
+        by : (ahead ++ Line line ∷ behind_it ≡ messages_to to next.outs) ⊎ (ahead ++ Line line ∷ behind_it ≡ [])
+            → messages_to to next.outs ≡ ahead ++ Line line ∷ behind_it
+        by (inl e) = sym e
+        by (inr e) = absurd (not_empty ahead behind_it (Line line) e)
 
     tagged : (id : AskId) × (line_ask line ≡ Some id)
     tagged = (behind IsToldSo ahead (Line line ∷ behind_it) (subst (AllByRecursion IsToldSo) sent (told_rightly to))).0 for_this begins
@@ -210,5 +219,5 @@ module _ (config : Config) (came : ℕ → Heard) (world : World) (law : KeepsLa
       tag = tagged.1;
       its = by_asked alone.asked;
       only = All-append (NotAbout id) ahead behind_it (of_others id ahead alone.none_ahead) (of_others id behind_it alone.none_behind);
-      elsewhere = λ other more ne sends_more. of_others id more (of_connection id.conn other more sends_more ∙ alone.elsewhere other ne);
+      elsewhere = λ other more ne sends_more. of_others id more (of_connection id.conn other more sends_more (alone.elsewhere other ne));
     }

@@ -22,6 +22,12 @@ use Rattle.cluster_core.proofs.Runs.OwnNodes.{OfEachNode, comes_of_each}
 use Rattle.cluster_core.proofs.Routing.FrontTells.{AnswersAlone, HasBegun, begun}
 use Rattle.cluster_core.proofs.Routing.NodeMarks.{HasBegunAt, more_begin}
 
+-- where no node works, each client is as it was
+no_client_changes : (changes : Bool) (event : Event) (world next : World) → ChangesLinks changes event world next → (conn : ℕ)
+    → client_at next conn ≡ client_at world conn
+no_client_changes true event world next only conn = ap (λ (w : World). client_at w conn) only.rest
+no_client_changes false event world next same conn = ap (λ (w : World). client_at w conn) same
+
 module _ (node : List ℕ) (conn number : ℕ) where
   -- at this node so many commands of the connection have begun
   abbrev pub HaveBegun : World → Type 0
@@ -53,6 +59,10 @@ module _ (node : List ℕ) (conn number : ℕ) where
   took world (Data by bytes) each = client_did world (Piece by bytes) (client_at world by) each
   took world (Hang by) each = client_did world (Hung by) (client_at world by) each
   took world (Deliver from to) each = delivered world from to (on_link world.links from to) each
+  took world (Cut one other kept kept_back) each = λ any it there.
+      each any it (ap (λ n. value_at (slice_cmp nat_cmp) n any) (sym (cut_relinks (may_cut world one other) world one other kept kept_back).nodes) ∙ there)
+  took world (Join one other) each = λ any it there.
+      each any it (ap (λ n. value_at (slice_cmp nat_cmp) n any) (sym (join_relinks (may_join world one other) world one other).nodes) ∙ there)
   took world event each = each
 
   stay_begun : (world : World) (steps : List Event) → HaveBegun world → HaveBegun (run_steps world steps)
@@ -70,7 +80,7 @@ module _ (node : List ℕ) (conn number : ℕ) where
   is_connected event = refl
 
   stays_by : (event : Event) (works : Option (List ℕ)) (world next : World) → WorksBy event works world next → IsThere world → IsThere next
-  stays_by event None world next same there = ap (λ (w : World). node_of (client_at w conn)) same ∙ there
+  stays_by event None world next changes there = ap node_of (no_client_changes (relinks world event) event world next changes conn) ∙ there
   stays_by event (Some worker) world next only there = only.clients conn ∙ ap (connected event conn) there ∙ is_connected event
 
   one_step : (world : World) (event : Event) → OneNodeWorks event world (steps_by world event)

@@ -157,7 +157,7 @@ module _ (config : Config) (are : AreNodes config.nodes) (steps : List Event) wh
         let law = laws before (event ∷ later) parts in
         subst (λ (w : World). AllMade w.marks) (sym (one_more_step (start config) before event))
         (after_step before event later parts law (steps_by (run_steps (start config) before) event)
-        (step_marks (run_steps (start config) before) event law.whole) all)
+        (step_marks (run_steps (start config) before) event) all)
 
     made_from : (before later : List Event) → steps ≡ before ++ later → AllMade (run_steps (start config) before).marks
         → AllMade (run_steps (start config) steps).marks

@@ -7,13 +7,15 @@ use Rattle.node_step.specs.declared.input.NodeInput.TheVariants.{Opened, Piece, 
 use Rattle.node_step.specs.declared.node.NodeState.{NodeState}
 use Rattle.node_step.specs.NodeStep.{takes as node_takes}
 use Rattle.schedule_text.specs.declared.event.Event.{Event}
-use Rattle.schedule_text.specs.declared.event.Event.TheVariants.{Open, Data, Hang, Deliver}
+use Rattle.schedule_text.specs.declared.event.Event.TheVariants.{Open, Data, Hang, Deliver, Cut, Join}
 use Rattle.cluster_core.specs.declared.world.Client.{Client}
 use Rattle.cluster_core.specs.declared.world.World.{World}
 use Rattle.cluster_core.specs.Headline.OneNode.{node_of, worker}
-use Rattle.cluster_core.specs.World.{client_at, client_does, comes_to, deliver_first, node_at, opens, stepped, steps_by, taken_from_link, takes, with_client}
-use Rattle.cluster_core.proofs.Nodes.Carried.{acts_whole, is_made, marks_made}
+use Rattle.cluster_core.specs.World.{client_at, client_does, comes_to, deliver_first, may_cut, may_join, node_at, not_lost, opens, stepped, steps_by, taken_from_link, takes, with_client}
+use Rattle.cluster_core.proofs.Nodes.Carried.{is_made, marks_made}
 use Rattle.cluster_core.proofs.Nodes.Comes.{IsOfClient, wrote}
+use Rattle.cluster_core.proofs.Nodes.Lossy.{marks_kept}
+use Rattle.cluster_core.proofs.Nodes.Relinks.{cut_relinks, join_relinks}
 
 -- what comes to a node in a step: a message that was the first on its link, or what a client does
 pub data ComesBy (world : World) (event : Event) (node : List ℕ) : NodeInput → Type 0 where
@@ -33,14 +35,14 @@ data NodeMarks (world : World) (node : List ℕ) (input : NodeInput) (next : Wor
   it_acts : (it : NodeState) → node_at world node ≡ Some it → next.marks ≡ world.marks ++ marks_made world.steps (node_takes it input).outs
       → NodeMarks world node input next
 
-comes_marks : (world : World) (node : List ℕ) (input : NodeInput) (found : Option NodeState) → node_at world node ≡ found → world.broken ≡ []
+comes_marks : (world : World) (node : List ℕ) (input : NodeInput) (found : Option NodeState) → node_at world node ≡ found
     → NodeMarks world node input (comes_to world node input found)
 unfolding comes_to
-comes_marks world node input None there whole = nobody_is_there refl
-comes_marks world node input (Some it) there whole =
+comes_marks world node input None there = nobody_is_there refl
+comes_marks world node input (Some it) there =
     it_acts it there
-    (ap (λ (w : World). w.marks) (acts_whole world node (node_takes it input) whole)
-    ∙ (is_made (wrote world node it input) node (node_takes it input).state (node_takes it input).outs).marks)
+    ((is_made (wrote world node it input) node (node_takes it input).state (not_lost world.broken node (node_takes it input).outs)).marks
+    ∙ ap (λ m. world.marks ++ m) (marks_kept world.broken node world.steps (node_takes it input).outs))
 
 -- in a world that has the nodes, the marks and the count of the step of this one
 step_of : (world begun : World) (event : Event) (node : List ℕ) (input : NodeInput) (next : World) → begun.nodes ≡ world.nodes → begun.marks ≡ world.marks
@@ -50,7 +52,7 @@ step_of world begun event node input next nodes marks steps comes (it_acts it th
     works node it input (subst (λ n. node_at (record world { nodes = n }) node ≡ Some it) nodes there) comes
     (its ∙ ap (λ m. m ++ marks_made begun.steps (node_takes it input).outs) marks ∙ ap (λ s. world.marks ++ marks_made s (node_takes it input).outs) steps)
 
-module _ (world : World) (whole : world.broken ≡ []) where
+module _ (world : World) where
   abbrev begun : World
   begun = stepped world
 
@@ -59,7 +61,7 @@ module _ (world : World) (whole : world.broken ≡ []) where
   opens_marks node conn (Some there) = no_marks refl
   opens_marks node conn None =
       step_of world (with_client begun node conn) (Open node conn) node (Opened conn) _ refl refl refl (of_client (Opened conn) refl tt)
-      (comes_marks (with_client begun node conn) node (Opened conn) (node_at begun node) refl whole)
+      (comes_marks (with_client begun node conn) node (Opened conn) (node_at begun node) refl)
 
   client_marks : (event : Event) (input : NodeInput) (found : Option Client) → worker world event ≡ node_of found → IsOfClient input
       → StepMarks world event (client_does begun input found)
@@ -67,7 +69,7 @@ module _ (world : World) (whole : world.broken ≡ []) where
   client_marks event input None at of = no_marks refl
   client_marks event input (Some client) at of =
       step_of world begun event client.at input _ refl refl refl (of_client input at of)
-      (comes_marks begun client.at input (node_at begun client.at) refl whole)
+      (comes_marks begun client.at input (node_at begun client.at) refl)
 
   deliver_marks : (from to : List ℕ) (queue : List LinkMsg) → on_link world.links from to ≡ queue
       → StepMarks world (Deliver from to) (deliver_first begun from to queue)
@@ -75,7 +77,7 @@ module _ (world : World) (whole : world.broken ≡ []) where
   deliver_marks from to [] first = no_marks refl
   deliver_marks from to (message ∷ rest) first =
       step_of world (taken_from_link begun from to) (Deliver from to) to (From from message) _ refl refl refl (a_message from message rest refl first)
-      (comes_marks (taken_from_link begun from to) to (From from message) (node_at begun to) refl whole)
+      (comes_marks (taken_from_link begun from to) to (From from message) (node_at begun to) refl)
 
   takes_marks : (event : Event) → StepMarks world event (takes begun event)
   unfolding takes
@@ -83,7 +85,9 @@ module _ (world : World) (whole : world.broken ≡ []) where
   takes_marks (Data conn bytes) = client_marks (Data conn bytes) (Piece conn bytes) (client_at begun conn) refl tt
   takes_marks (Hang conn) = client_marks (Hang conn) (Hung conn) (client_at begun conn) refl tt
   takes_marks (Deliver from to) = deliver_marks from to (on_link begun.links from to) refl
+  takes_marks (Cut one other kept kept_back) = no_marks (cut_relinks (may_cut begun one other) begun one other kept kept_back).marks
+  takes_marks (Join one other) = no_marks (join_relinks (may_join begun one other) begun one other).marks
   takes_marks event = no_marks refl
 
-pub step_marks : (world : World) (event : Event) → world.broken ≡ [] → StepMarks world event (steps_by world event)
-step_marks world event whole = takes_marks world whole event
+pub step_marks : (world : World) (event : Event) → StepMarks world event (steps_by world event)
+step_marks world event = takes_marks world event
