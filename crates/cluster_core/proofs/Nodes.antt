@@ -4,7 +4,6 @@ pub mod Carried
 pub mod Comes
 pub mod Known
 pub mod LinksUp
-pub mod Lossy
 pub mod Relinks
 pub mod Stay
 pub mod Thins

@@ -23,10 +23,10 @@ use Rattle.cluster_core.specs.declared.world.Client.{Client}
 use Rattle.cluster_core.specs.declared.world.World.{World}
 use Rattle.cluster_core.specs.Headline.Asks.{taken_by}
 use Rattle.cluster_core.specs.Headline.OneNode.{leaves_on, node_of, worker}
-use Rattle.cluster_core.specs.World.{client_at, client_does, comes_to, deliver_first, node_at, not_lost, opens, stepped, steps_by, taken_from_link, takes, with_client, with_written}
+use Rattle.cluster_core.specs.World.{client_at, client_does, comes_to, deliver_first, node_at, opens, stepped, steps_by, taken_from_link, takes, with_client, with_written}
 use Rattle.cluster_core.proofs.Asking.NodeAsks.{taken_in}
 use Rattle.cluster_core.proofs.Nodes.Carried.{is_made}
-use Rattle.cluster_core.proofs.Nodes.Lossy.{puts_kept, puts_lost}
+use Rattle.cluster_core.proofs.Nodes.Thins.{acts_cut, acts_thinned}
 use Rattle.cluster_core.proofs.Runs.OneNodeLaw.{nothing_first}
 
 -- ---- on a link
@@ -88,19 +88,16 @@ comes_sends world begun event node input None there nodes broken left brought ta
     is_away (ap (λ n. value_at (slice_cmp nat_cmp) n node) (sym nodes) ∙ there) there left
 comes_sends world begun event node input (Some it) there nodes broken left brought taken =
     let acted = node_takes it input in
-    let put : World = with_written begun node acted.entry in
-    let let_out : List Out = not_lost begun.broken node acted.outs in
-    let made = is_made put node acted.state let_out in
+    let made = is_made (with_written begun node acted.entry) node acted.state acted.outs in
+    let is = acts_thinned begun node acted in
     sends it input (ap (λ n. value_at (slice_cmp nat_cmp) n node) (sym nodes) ∙ there) brought taken
-    (ap (λ n. value_at (slice_cmp nat_cmp) n node) made.nodes
+    (ap (λ n. value_at (slice_cmp nat_cmp) n node) (is.nodes ∙ made.nodes)
     ∙ value_at-with_value (slice_cmp nat_cmp) names_apart begun.nodes node acted.state it there)
     (λ server whole.
-    ap (λ (l : Links LinkMsg). on_link l node server) made.links
-    ∙ puts_kept begun.broken node node server (ap (λ (b : Broken). is_broken b node server) broken ∙ whole) begun.links acted.outs
+    is.whole node server (ap (λ (b : Broken). is_broken b node server) (made.broken ∙ broken) ∙ whole)
+    ∙ ap (λ (l : Links LinkMsg). on_link l node server) made.links
     ∙ all_put node server begun.links acted.outs ∙ ap (λ q. q ++ all_sent node server acted.outs) (left server))
-    (λ server cut.
-    ap (λ (l : Links LinkMsg). on_link l node server) made.links
-    ∙ puts_lost begun.broken node server (ap (λ (b : Broken). is_broken b node server) broken ∙ cut) acted.outs begun.links ∙ left server)
+    (λ server cut. acts_cut begun node acted server (ap (λ (b : Broken). is_broken b node server) broken ∙ cut) ∙ left server)
 
 module _ (world : World) where
   abbrev begun : World
@@ -128,7 +125,7 @@ module _ (world : World) where
   deliver_sends from to [] first =
       rests (ap (λ q. slice_get q 0) first) refl (λ server. nothing_first world.links from to to server (same_link to server from to) refl first)
   deliver_sends from to (message ∷ rest) first =
-      comes_sends world (taken_from_link begun from to) (Deliver from to) to (From from message) (node_at begun to) refl refl whole
+      comes_sends world (taken_from_link begun from to) (Deliver from to) to (From from message) (node_at begun to) refl refl refl
       (λ server. on_link-taken world.links from to to server) refl (ap (λ q. slice_get q 0) first)
 
   takes_sends : (event : Event) (node : List ℕ) → worker world event ≡ Some node → StepSends world event node (takes begun event)

@@ -118,10 +118,10 @@ module _ (config : Config) (heard : ℕ → Heard) (world : World) (law : KeepsL
 
     module _ (other : about message ≢ of_connection conn) where
       abbrev at : NamePlace
-      at = at_backend to (each_shown (fixed_of config) conn world law.story (heard conn) (law.connections conn)).0
+      at = at_backend to (each_shown (fixed_of config) conn world law.story (law.stops conn) (heard conn) (law.connections conn)).0
 
       shows : TalkShows whose node up down at
-      shows = shown_at at ((each_shown (fixed_of config) conn world law.story (heard conn) (law.connections conn)).1 to node there)
+      shows = shown_at at ((each_shown (fixed_of config) conn world law.story (law.stops conn) (heard conn) (law.connections conn)).1 to node there)
 
       by_master : LeavesOrTests whose me node message up rest at → Done me
       by_master (leaves_or.is_left it) = is_left at shows.at it.placed.at it.outs
@@ -144,8 +144,8 @@ module _ (config : Config) (heard : ℕ → Heard) (world : World) (law : KeepsL
     -- ---- it is about the command
 
     module _ (own : about message ≡ of_connection conn) where
-      tells : TellsPlace (fixed_of config) conn world law.story (heard conn) from to message
-      tells = first_tells (fixed_of config) conn world law.story (heard conn) from to message rest first own (law.connections conn)
+      tells : TellsPlace (fixed_of config) conn world law.story (law.stops conn) (heard conn) from to message
+      tells = first_tells (fixed_of config) conn world law.story (law.stops conn) (heard conn) from to message rest first own (law.connections conn)
 
       abbrev id : AskId
       id = next_id conn (law.story.told conn)

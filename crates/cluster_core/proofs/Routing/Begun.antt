@@ -1,22 +1,26 @@
 -- A command that has begun at its frontend stays begun, and its client stays there: so once a node takes a message of a command, its frontend doesn't answer
 -- it alone any more.
-use Rattle.std.proofs.Common.{◌≡◌, ℕ, List, [], ◌∷◌, Option, None, Some, refl, sym, ◌∙◌, ap, subst, arith}
+use Rattle.std.proofs.Common.{◌≡◌, ℕ, Bool, true, false, List, [], ◌∷◌, Option, None, Some, refl, sym, ◌∙◌, ap, subst, arith}
+use Rattle.std.specs.Ordering.{nat_cmp}
+use Rattle.std.specs.Cmp.Lexicographic.{slice_cmp}
 use Rattle.link_msg.specs.declared.message.LinkMsg.{LinkMsg}
 use Rattle.link_queue.specs.Links.{on_link}
+use Rattle.mur_base.specs.Map.{value_at}
 use Rattle.mur_base.specs.declared.point.AskId.{AskId}
 use Rattle.node_step.specs.declared.input.NodeInput.{NodeInput}
 use Rattle.node_step.specs.declared.input.NodeInput.TheVariants.{Opened, Piece, Hung, From}
 use Rattle.node_step.specs.declared.node.NodeState.{NodeState}
 use Rattle.node_step.specs.declared.node.NodeState.TheVariants as state
 use Rattle.schedule_text.specs.declared.event.Event.{Event}
-use Rattle.schedule_text.specs.declared.event.Event.TheVariants.{Open, Data, Hang, Deliver}
+use Rattle.schedule_text.specs.declared.event.Event.TheVariants.{Open, Data, Hang, Deliver, Cut, Join}
 use Rattle.cluster_core.specs.declared.world.Client.{Client}
 use Rattle.front_core.specs.declared.connection.Connection.{Connection}
 use Rattle.front_core.specs.declared.front.Front.{Front}
 use Rattle.cluster_core.specs.declared.world.World.{World}
 use Rattle.cluster_core.specs.Flow.{run_steps}
-use Rattle.cluster_core.specs.Headline.OneNode.{OneNodeWorks, WorksBy, connected, node_of, worker}
-use Rattle.cluster_core.specs.World.{client_at, client_does, comes_to, deliver_first, node_at, opens, stepped, steps_by, taken_from_link, takes, with_client}
+use Rattle.cluster_core.specs.Headline.OneNode.{ChangesLinks, OneNodeWorks, WorksBy, connected, node_of, relinks, worker}
+use Rattle.cluster_core.specs.World.{client_at, client_does, comes_to, deliver_first, may_cut, may_join, node_at, opens, stepped, steps_by, taken_from_link, takes, with_client}
+use Rattle.cluster_core.proofs.Nodes.Relinks.{cut_relinks, join_relinks}
 use Rattle.cluster_core.proofs.Runs.OneNodeLaw.{one_node_each}
 use Rattle.cluster_core.proofs.Runs.OwnNodes.{OfEachNode, comes_of_each}
 use Rattle.cluster_core.proofs.Routing.FrontTells.{AnswersAlone, HasBegun, begun}

@@ -11,11 +11,11 @@ use Rattle.schedule_text.specs.declared.event.Event.TheVariants.{Open, Data, Han
 use Rattle.cluster_core.specs.declared.world.Client.{Client}
 use Rattle.cluster_core.specs.declared.world.World.{World}
 use Rattle.cluster_core.specs.Headline.OneNode.{node_of, worker}
-use Rattle.cluster_core.specs.World.{client_at, client_does, comes_to, deliver_first, may_cut, may_join, node_at, not_lost, opens, stepped, steps_by, taken_from_link, takes, with_client}
+use Rattle.cluster_core.specs.World.{client_at, client_does, comes_to, deliver_first, may_cut, may_join, node_at, opens, stepped, steps_by, taken_from_link, takes, with_client}
 use Rattle.cluster_core.proofs.Nodes.Carried.{is_made, marks_made}
 use Rattle.cluster_core.proofs.Nodes.Comes.{IsOfClient, wrote}
-use Rattle.cluster_core.proofs.Nodes.Lossy.{marks_kept}
 use Rattle.cluster_core.proofs.Nodes.Relinks.{cut_relinks, join_relinks}
+use Rattle.cluster_core.proofs.Nodes.Thins.{acts_thinned}
 
 -- what comes to a node in a step: a message that was the first on its link, or what a client does
 pub data ComesBy (world : World) (event : Event) (node : List ℕ) : NodeInput → Type 0 where
@@ -41,8 +41,8 @@ unfolding comes_to
 comes_marks world node input None there = nobody_is_there refl
 comes_marks world node input (Some it) there =
     it_acts it there
-    ((is_made (wrote world node it input) node (node_takes it input).state (not_lost world.broken node (node_takes it input).outs)).marks
-    ∙ ap (λ m. world.marks ++ m) (marks_kept world.broken node world.steps (node_takes it input).outs))
+    ((acts_thinned world node (node_takes it input)).marks
+    ∙ (is_made (wrote world node it input) node (node_takes it input).state (node_takes it input).outs).marks)
 
 -- in a world that has the nodes, the marks and the count of the step of this one
 step_of : (world begun : World) (event : Event) (node : List ℕ) (input : NodeInput) (next : World) → begun.nodes ≡ world.nodes → begun.marks ≡ world.marks

@@ -166,8 +166,8 @@ module _ (config : Config) (heard : ℕ → Heard) (world : World) (law : KeepsL
 
   module _ (from to : List ℕ) (message : LinkMsg) (rest : List LinkMsg) (first : on_link world.links from to ≡ message ∷ rest) (conn : ℕ)
       (own : about message ≡ of_connection conn) where
-    tells : TellsPlace (fixed_of config) conn world law.story (heard conn) from to message
-    tells = first_tells (fixed_of config) conn world law.story (heard conn) from to message rest first own (law.connections conn)
+    tells : TellsPlace (fixed_of config) conn world law.story (law.stops conn) (heard conn) from to message
+    tells = first_tells (fixed_of config) conn world law.story (law.stops conn) (heard conn) from to message rest first own (law.connections conn)
 
     abbrev open_id : AskId
     open_id = next_id conn (law.story.told conn)
@@ -182,17 +182,17 @@ module _ (config : Config) (heard : ℕ → Heard) (world : World) (law : KeepsL
     requests = requests_of (fixed_of config).setting (frames_heard (heard conn))
 
     asked : IsAsked (fixed_of config) conn tells.node law.story requests tells.here
-    asked = asked_so (fixed_of config) conn tells.node tells.connection world law.story (heard conn) tells.here tells.front tells.at tells.count tells.who
+    asked = asked_so (fixed_of config) conn tells.node tells.connection world law.story (law.stops conn) (heard conn) tells.here tells.front tells.at tells.count tells.who
 
     its_client_at : IsClientOf conn tells.node world
-    its_client_at = its_client (fixed_of config) conn tells.node tells.connection world law.story (heard conn) tells.here tells.who
+    its_client_at = its_client (fixed_of config) conn tells.node tells.connection world law.story (law.stops conn) (heard conn) tells.here tells.who
 
     begun_so : (id : AskId) → id ≡ open_id → IsUnderWay id
     begun_so id e =
         let same : id.conn ≡ conn = ap (λ (i : AskId). i.conn) e in
         let last : id.command ≡ length (law.story.told conn) + 1 = ap (λ (i : AskId). i.command) e in
         let one : begun_at (tells.connection).stage ≡ 1 =
-        has_begun (fixed_of config) conn tells.node tells.connection world law.story (heard conn) tells.here tells.who in
+        has_begun (fixed_of config) conn tells.node tells.connection world law.story (law.stops conn) (heard conn) tells.here tells.who in
         record {
           begun = record {
             node = tells.node;
@@ -277,7 +277,7 @@ module _ (config : Config) (heard : ℕ → Heard) (world : World) (law : KeepsL
     line_so : (line : List ℕ) (id : AskId) → message ≡ Line line → line_ask line ≡ Some id → to ≡ master_of config → NumbersFit heard → LineTells id line
     line_so line id is its mine fits =
         let numbered_so : IsNumbered open_id =
-        waits_fit (fixed_of config) conn tells.node tells.front tells.connection world law.story (heard conn) tells.here
+        waits_fit (fixed_of config) conn tells.node tells.front tells.connection world law.story (law.stops conn) (heard conn) tells.here
         (asked_fit config heard world law fits) tells.at tells.who in
         line_by line id is its mine numbered_so tells.here found asked (tells.placed).there
 

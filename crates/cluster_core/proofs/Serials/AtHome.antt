@@ -93,7 +93,7 @@ module _ (config : Config) (heard : ℕ → Heard) (world : World) (law : KeepsL
   abbrev id : AskId
   id = next_id conn (story.told conn)
 
-  waits : WaitsInFlow fixed conn world story (heard conn) to name flow
+  waits : WaitsInFlow fixed conn world story (law.stops conn) (heard conn) to name flow
   waits = waits_in_flow config heard world law to node there name flow runs conn own
 
   -- the backend's step

@@ -191,12 +191,12 @@ module _ (config : Config) (heard : ℕ → Heard) (world : World) (law : KeepsL
       abbrev id : AskId
       id = next_id conn (story.told conn)
 
-      tells : TellsPlace fixed conn world story (heard conn) from name message
-      tells = first_tells fixed conn world story (heard conn) from name message rest first whose (law.connections conn)
+      tells : TellsPlace fixed conn world story (law.stops conn) (heard conn) from name message
+      tells = first_tells fixed conn world story (law.stops conn) (heard conn) from name message rest first whose (law.connections conn)
 
       numbered : IsNumbered id
       numbered =
-          waits_fit fixed conn tells.node tells.front tells.connection world story (heard conn) tells.here (asked_fit config heard world law fits)
+          waits_fit fixed conn tells.node tells.front tells.connection world story (law.stops conn) (heard conn) tells.here (asked_fit config heard world law fits)
           tells.at tells.who
 
       front_of : IsFrontOf config world law.master tells.node tells.front
@@ -289,12 +289,12 @@ module _ (config : Config) (heard : ℕ → Heard) (world : World) (law : KeepsL
         said_by tag c (undecided same was waits_on) = same
         said_by tag c (is_decided turn same session ends_so brings) = absurd brings
 
-        said_of : Whose fixed conn tells.node tells.connection world story (heard conn) tells.here → story.talk.answers conn ≡ story.told conn
+        said_of : Whose fixed conn tells.node tells.connection world story (law.stops conn) (heard conn) tells.here → story.talk.answers conn ≡ story.told conn
         said_of (of_command who) =
-            let waits = each_command_waits fixed conn tells.node tells.front tells.connection world story (heard conn) tells.here tells.at tells.count who in
+            let waits = each_command_waits fixed conn tells.node tells.front tells.connection world story (law.stops conn) (heard conn) tells.here tells.at tells.count who in
             said_by waits.tag waits.c (subst (λ p. KnowsOf fixed tells.node conn waits.tag waits.c story p) is waits.knows)
         said_of (of_list who) =
-            let barred = list_barred fixed conn tells.node tells.connection world story (heard conn) tells.here who in
+            let barred = list_barred fixed conn tells.node tells.connection world story (law.stops conn) (heard conn) tells.here who in
             absurd (let no : sending ≡ place.is_barred barred.at = sym is ∙ barred.is in cc)
 
         reserved_then : heard_move mailbox flow answered.step.it ≡ Some (is_sent mailbox (making flow)) → IsReserved name next conn

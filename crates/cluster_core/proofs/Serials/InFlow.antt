@@ -45,7 +45,7 @@ use Rattle.cluster_core.proofs.Connections.ConnectionLaw.{IsInPlaceOf}
 use Rattle.cluster_core.proofs.Connections.KeepsLaw.{ConnectionIs, IsAt, KeepsLaw, fixed_of}
 use Rattle.cluster_core.proofs.Connections.KeepsLaw.ConnectionIs.{is_nobody, is_elsewhere, is_open, is_closed}
 use Rattle.cluster_core.proofs.Points.ListWaits.{list_barred}
-use Rattle.cluster_core.proofs.Points.Waits.{CommandWaits, Whose, each_command_waits, of_command, of_list, waits_closed, waits_open}
+use Rattle.cluster_core.proofs.Points.Waits.{CommandWaits, Whose, each_command_waits, of_command, of_list, waits_ended, waits_open}
 use Rattle.cluster_core.proofs.Serials.Reserved.{IsAmong, among_kept}
 use Rattle.cluster_core.proofs.Steps.Murders.{at_own}
 
@@ -80,6 +80,7 @@ module _ (server name : List ℕ) (flow : Flow) where
   in_flow place.nowhere e = cc
   in_flow (place.is_asked s ask) e = cc
   in_flow (place.is_answered s answer) e = cc
+  in_flow (place.is_dropped s) e = cc
   in_flow (place.is_at me at) e = at_server me at (pointwise nat_eq me.server server) refl e
   in_flow (place.is_barred at) e = cc
 
@@ -124,7 +125,8 @@ pub its_connection : (conn : ℕ) (flow : Flow) → (flow.ask).conn ≡ conn →
 its_connection conn flow own = grind (arith, nat_tests)
 
 -- the connection's command waits in the flow
-pub record WaitsInFlow (fixed : Fixed) (conn : ℕ) (world : World) (story : Tale) (was : Heard) (server name : List ℕ) (flow : Flow) : Type 0 where
+pub record WaitsInFlow (fixed : Fixed) (conn : ℕ) (world : World) (story : Tale) (stop : Stop) (was : Heard) (server name : List ℕ) (flow : Flow)
+    : Type 0 where
   pub node : List ℕ
   pub front : Front
   pub at : front_at world node ≡ Some front
@@ -132,7 +134,7 @@ pub record WaitsInFlow (fixed : Fixed) (conn : ℕ) (world : World) (story : Tal
   pub is : IsInFlow server name flow here
   pub shows : flows_at (at_backend server here) name ≡ Some flow
   pub placed : IsInPlaceOf fixed world node front.replica (next_id conn (story.told conn)) here
-  pub waits : CommandWaits fixed conn node front world story was here
+  pub waits : CommandWaits fixed conn node front world story stop was here
 
 module _ (config : Config) (heard : ℕ → Heard) (world : World) (law : KeepsLaw config heard world) (server : List ℕ) (backend : BackNode)
     (there : home_at world server ≡ Some backend) (name : List ℕ) (flow : Flow) (runs : flow_at backend.flows name ≡ Some flow) (conn : ℕ)
@@ -143,18 +145,18 @@ module _ (config : Config) (heard : ℕ → Heard) (world : World) (law : KeepsL
   abbrev story : Tale
   story = law.story
 
-  abbrev Waits : Heard → Type 0
-  Waits was = WaitsInFlow fixed conn world story was server name flow
+  abbrev Waits : Stop → Heard → Type 0
+  Waits stop was = WaitsInFlow fixed conn world story stop was server name flow
 
   shown : (here : Place) → ShowEach fixed.master (home_at world) world.links conn here → flows_at (at_backend server here) name ≡ Some flow
   shown here shows =
       sym (((shows server backend there).at).running name) ∙ ap (own_flow (is_of_connection conn)) runs
       ∙ own_here (is_of_connection conn) flow (its_connection conn flow own)
 
-  waits_by : (was : Heard) (node : List ℕ) (front : Front) (connection : Connection) (here : Place) → flows_at (at_backend server here) name ≡ Some flow
+  waits_by : (stop : Stop) (was : Heard) (node : List ℕ) (front : Front) (connection : Connection) (here : Place) → flows_at (at_backend server here) name ≡ Some flow
       → IsAt world conn node front connection → connection.answered ≡ length (story.told conn)
-      → IsInPlaceOf fixed world node front.replica (next_id conn (story.told conn)) here → Whose fixed conn node connection world story was here → Waits was
-  waits_by was node front connection here shows at count placed (of_command who) = record {
+      → IsInPlaceOf fixed world node front.replica (next_id conn (story.told conn)) here → Whose fixed conn node connection world story stop was here → Waits stop was
+  waits_by stop was node front connection here shows at count placed (of_command who) = record {
     node = node;
     front = front;
     at = at.at;
@@ -162,29 +164,36 @@ module _ (config : Config) (heard : ℕ → Heard) (world : World) (law : KeepsL
     is = in_flow server name flow here shows;
     shows = shows;
     placed = placed;
-    waits = each_command_waits fixed conn node front connection world story was here at count who;
+    waits = each_command_waits fixed conn node front connection world story stop was here at count who;
   }
-  waits_by was node front connection here shows at count placed (of_list who) =
-      let barred = list_barred fixed conn node connection world story was here who in absurd (not_barred server name flow here shows barred.at barred.is)
+  waits_by stop was node front connection here shows at count placed (of_list who) =
+      let barred = list_barred fixed conn node connection world story stop was here who in absurd (not_barred server name flow here shows barred.at barred.is)
 
-  connection_waits : (was : Heard) → ConnectionIs fixed conn world story was → Waits was
-  connection_waits was (is_nobody none fronts untold) = absurd (not_nowhere server name flow place.nowhere (shown place.nowhere (untold.nothing).shows) refl)
-  connection_waits was (is_elsewhere node given at none untold) =
+  connection_waits : (stop : Stop) (was : Heard) → ConnectionIs fixed conn world story stop was → Waits stop was
+  connection_waits stop was (is_nobody none fronts untold) = absurd (not_nowhere server name flow place.nowhere (shown place.nowhere (untold.nothing).shows) refl)
+  connection_waits stop was (is_elsewhere node given at none untold) =
       absurd (not_nowhere server name flow place.nowhere (shown place.nowhere (untold.nothing).shows) refl)
-  connection_waits was (is_open bytes node front connection at reader standing) =
+  connection_waits stop was (is_open bytes node front connection at reader standing) =
       let here = standing.here in
       let shows = shown here (standing.placed).shows in
-      waits_by was node front connection here shows at standing.count standing.placed
+      waits_by stop was node front connection here shows at standing.count standing.placed
       (waits_open fixed conn node connection world story bytes here (not_nowhere server name flow here shows) reader standing.client standing.stands)
-  connection_waits was (is_closed bytes node front connection at gone) =
+  connection_waits stop was (is_cut_off bytes node front connection at gone unanswered) =
       let here = gone.here in
       let shows = shown here (gone.placed).shows in
-      waits_by was node front connection here shows at gone.count gone.placed
-      (waits_closed fixed conn node connection world story bytes here (not_nowhere server name flow here shows) gone.stage_is gone.lasts gone.client gone.left)
+      waits_by stop was node front connection here shows at gone.count gone.placed
+      (waits_ended fixed conn node connection world story stop bytes here (not_nowhere server name flow here shows) false (cut_off unanswered) gone.stage_is
+      gone.lasts gone.client gone.cut gone.left)
+  connection_waits stop was (is_closed _ bytes node front connection at gone) =
+      let here = gone.here in
+      let shows = shown here (gone.placed).shows in
+      waits_by stop was node front connection here shows at gone.count gone.placed
+      (waits_ended fixed conn node connection world story stop bytes here (not_nowhere server name flow here shows) true has_hung gone.stage_is gone.lasts
+      gone.client gone.cut gone.left)
 
   -- ITS CONNECTION'S COMMAND WAITS IN THE FLOW
-  pub waits_in_flow : Waits (heard conn)
-  waits_in_flow = connection_waits (heard conn) (law.connections conn)
+  pub waits_in_flow : Waits (law.stops conn) (heard conn)
+  waits_in_flow = connection_waits (law.stops conn) (heard conn) (law.connections conn)
 
 -- ---- where the master has answered ACTIVATE, the one store has replied
 

@@ -21,14 +21,21 @@ use Rattle.name_flows.specs.Running.{flow_at}
 use Rattle.node_step.specs.declared.input.NodeInput.{NodeInput}
 use Rattle.node_step.specs.declared.input.NodeInput.TheVariants.{Opened, Piece, Hung, From}
 use Rattle.node_step.specs.declared.node.NodeState.TheVariants as state
-use Rattle.node_step.specs.NodeStep.{as_back}
+use Rattle.node_step.specs.NodeStep.{as_back, back_takes, takes}
+use Rattle.node_step.proofs.NodeKinds.{back_is}
+use Rattle.node_step.specs.declared.node.NodeState.{NodeState}
 use Rattle.schedule_text.specs.declared.event.Event.{Event}
 use Rattle.schedule_text.specs.declared.event.Event.TheVariants.{Deliver}
 use Rattle.cluster_core.specs.declared.world.World.{World}
-use Rattle.cluster_core.specs.Headline.OneNode.{OnlyWorks, WasSent, WorksBy, leaves_on, worker}
-use Rattle.cluster_core.specs.World.{comes, home_at, Disks}
-use Rattle.cluster_core.proofs.Nodes.Carried.{is_made}
-use Rattle.cluster_core.proofs.Nodes.Comes.{IsOfClient, home_comes, home_does, home_moved, with_home, client_writes}
+use Rattle.cluster_core.specs.Headline.OneNode.{ChangesLinks, OnlyWorks, WasSent, WorksBy, leaves_on, relinked, relinks, worker}
+use Rattle.cluster_core.specs.World.{acts, comes, comes_to, home_at, node_at, not_lost, written, Disks}
+use Rattle.cluster_core.proofs.Nodes.Carried.{is_made, made}
+use Rattle.cluster_core.proofs.Nodes.Comes.{IsOfClient, home_moved, with_home}
+
+comes_at : (world : World) (node : List ℕ) (input : NodeInput) (it : NodeState) → node_at world node ≡ Some it
+    → comes world node input ≡ acts world node (takes it input)
+unfolding comes_to
+comes_at world node input it there = ap (comes_to world node input) there
 
 -- ---- messages on their way
 
@@ -148,33 +155,41 @@ module _ (master : List ℕ) (world : World) (conn : ℕ) (is : IsReserved maste
         behind_all (down world) (down next)
         (works.stays master is.server (λ e. ne (sym e)) ∙ leaves_all event world master is.server (down world) apart)
 
-    works_beside : (at : Option (List ℕ)) → (at ≡ Some is.server → ⊥) → WorksBy event at world next → IsReserved master next conn
-    works_beside None other works =
-        stays next (ap (λ (w : World). home_at w is.server) works)
-        (behind_all (down world) (down next) (ap (λ (w : World). on_link w.links master is.server) works))
-    works_beside (Some node) other works =
+    -- the link from the master is left, whichever links break or come up
+    abbrev KeepsDown : Type 0
+    KeepsDown = (relinks world event ≡ true → relinked event master is.server (down world) ≡ down world)
+
+    relinks_beside : (changes : Bool) → relinks world event ≡ changes → KeepsDown → ChangesLinks changes event world next → IsReserved master next conn
+    relinks_beside true e keeps only =
+        stays next (ap (λ (w : World). home_at w is.server) only.rest)
+        (behind_all (down world) (down next) (only.queues master is.server ∙ keeps e))
+    relinks_beside false e keeps same =
+        stays next (ap (λ (w : World). home_at w is.server) same)
+        (behind_all (down world) (down next) (ap (λ (w : World). on_link w.links master is.server) same))
+
+    works_beside : (at : Option (List ℕ)) → (at ≡ Some is.server → ⊥) → KeepsDown → WorksBy event at world next → IsReserved master next conn
+    works_beside None other keeps works = relinks_beside (relinks world event) refl keeps works
+    works_beside (Some node) other keeps works =
         stays next (ap as_back (works.nodes is.server (λ e. other (ap (λ (n : List ℕ). Some n) (sym e)))))
         (sent_behind node works (same_or_other (slice_cmp nat_cmp) names_apart node master))
 
-    -- another node works
-    pub beside : WorksBy event (worker world event) world next → IsReserved master next conn
-    beside works = works_beside (worker world event) apart works
+    -- another node works, or none
+    pub beside : KeepsDown → WorksBy event (worker world event) world next → IsReserved master next conn
+    beside keeps works = works_beside (worker world event) apart keeps works
 
   -- what a client does at its backend
-  home_idles : (input : NodeInput) → IsOfClient input → home_does is.node input ≡ record { state = is.node; entry = None; outs = [] }
-  home_idles (Opened c) of = refl
-  home_idles (Piece c bytes) of = refl
-  home_idles (Hung c) of = refl
-  home_idles (From name message) of = absurd of
+  idle_comes : (input : NodeInput) → IsOfClient input → comes world is.server input ≡ made world is.server (state.Back is.node) []
+  unfolding takes back_takes not_lost written
+  idle_comes (Opened c) of = comes_at world is.server (Opened c) (state.Back is.node) (back_is (node_at world is.server) is.node is.there)
+  idle_comes (Piece c bytes) of = comes_at world is.server (Piece c bytes) (state.Back is.node) (back_is (node_at world is.server) is.node is.there)
+  idle_comes (Hung c) of = comes_at world is.server (Hung c) (state.Back is.node) (back_is (node_at world is.server) is.node is.there)
+  idle_comes (From name message) of = absurd of
 
-  pub client_leaves : (input : NodeInput) → IsOfClient input → world.broken ≡ [] → IsReserved master (comes world is.server input) conn
+  pub client_leaves : (input : NodeInput) → IsOfClient input → IsReserved master (comes world is.server input) conn
   unfolding put_all
-  client_leaves input of whole =
+  client_leaves input of =
       let idle : BackActed = record { state = is.node; entry = None; outs = [] } in
       let next : World = with_home world is.server idle in
-      subst (λ (w : World). IsReserved master w conn)
-      (sym (home_comes world is.server input is.node whole is.there
-      ∙ ap (λ w. with_home w is.server (home_does is.node input)) (client_writes world is.server (state.Back is.node) input of)
-      ∙ ap (with_home world is.server) (home_idles input of)))
+      subst (λ (w : World). IsReserved master w conn) (sym (idle_comes input of))
       (stays next ((home_moved world is.server is.node idle is.there).own ∙ sym is.there)
       (behind_all (down world) (down next) (ap (λ l. on_link l master is.server) (is_made world is.server (state.Back is.node) []).links)))
