@@ -15,4 +15,5 @@ pub mod OkSteps
 pub mod ClosedSteps
 pub mod Keeps
 pub mod OtherMessages
+pub mod Ends
 pub mod FrontTakes

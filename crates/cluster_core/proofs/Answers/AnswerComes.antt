@@ -25,6 +25,7 @@ use Rattle.point_links.specs.AtHome.{IsElsewhere}
 use Rattle.point_links.specs.AtHome.IsElsewhere.{moved, not_now}
 use Rattle.point_links.specs.Commands.{ClientCommand, WaitsOn}
 use Rattle.point_links.proofs.Told.{moved_waits, not_now_waits}
+use Rattle.front_core.specs.Ups.{Ups}
 use Rattle.cluster_core.specs.declared.world.World.{World}
 use Rattle.cluster_core.specs.World.{home_at}
 use Rattle.cluster_core.proofs.Commands.Knows.{Knows}
@@ -67,7 +68,7 @@ fits setting ways conn connection tag it answer number stage =
     let same : nat_eq (answer.id).command (connection.answered + 1) ≡ true = grind (arith, nat_tests) in
     ap (λ b. answer_by setting ways conn connection answer b connection.stage) same ∙ ap (answer_by setting ways conn connection answer true) stage
 
-module _ (fixed : Fixed) (front : List ℕ) (replica : Replica) (conn : ℕ) (inputs : List Input) (held : Option (List ℕ)) (connection : Connection)
+module _ (fixed : Fixed) (front : List ℕ) (ups : Ups) (replica : Replica) (conn : ℕ) (inputs : List Input) (held : Option (List ℕ)) (connection : Connection)
     (world : World) (story : Tale) (server : List ℕ) (answer : BackAnswer)
     (heard : IsHeard fixed front replica conn inputs held connection world story (place.is_answered server answer)) where
   abbrev c : ClientCommand
@@ -81,32 +82,32 @@ module _ (fixed : Fixed) (front : List ℕ) (replica : Replica) (conn : ℕ) (in
   next_is = ap (λ n. record { conn = conn; command = n + 1 }) heard.count ∙ sym ((heard.waiting).of).its
 
   turns_so : answer.id ≡ c.id
-      → answer_comes fixed.setting (ways_for fixed front replica) conn connection answer
-      ≡ turned_by fixed front replica conn inputs held connection world story (place.is_answered server answer) heard next
+      → answer_comes fixed.setting (ways_for fixed ups replica) conn connection answer
+      ≡ turned_by fixed front ups replica conn inputs held connection world story (place.is_answered server answer) heard next
   turns_so its =
-      fits fixed.setting (ways_for fixed front replica) conn connection (heard.waiting).tag c.waiting answer
+      fits fixed.setting (ways_for fixed ups replica) conn connection (heard.waiting).tag c.waiting answer
       (ap (λ (i : AskId). i.command) (its ∙ sym next_is)) (heard.waiting).stage
-      ∙ ap (λ i. goes_on_by fixed.setting (ways_for fixed front replica) conn connection (heard.waiting).tag
+      ∙ ap (λ i. goes_on_by fixed.setting (ways_for fixed ups replica) conn connection (heard.waiting).tag
       (answered fixed.master i connection.session c.waiting answer.body)) next_is
-      ∙ ap (λ s. goes_on_by fixed.setting (ways_for fixed front replica) conn connection (heard.waiting).tag
+      ∙ ap (λ s. goes_on_by fixed.setting (ways_for fixed ups replica) conn connection (heard.waiting).tag
       (answered fixed.master c.id s c.waiting answer.body)) (sym ((heard.waiting).of).was_is)
 
-  by_knows : InputsCome fixed front replica conn inputs held world story → MaySend fixed front conn world story → NamesBackend (home_at world) answer.body
+  by_knows : InputsCome fixed front ups replica conn inputs held world story → story.talk.requests conn ≡ requests_in inputs → MaySend fixed front ups conn world story → NamesBackend (home_at world) answer.body
       → Knows fixed.master fixed.first front c (heard.waiting).tag (story.told conn) (story.talk.answers conn) (story.course.sessions conn)
       (place.is_answered server answer)
-      → StandsSo fixed front replica conn inputs held world story (answer_comes fixed.setting (ways_for fixed front replica) conn connection answer)
-  by_knows come may names (undecided said was tells) =
+      → StandsSo fixed front replica conn inputs held world story (answer_comes fixed.setting (ways_for fixed ups replica) conn connection answer)
+  by_knows come requests may names (undecided said was tells) =
       subst (λ (t : Turned). StandsSo fixed front replica conn inputs held world story t) (sym (turns_so tells.0))
-      (on_stands fixed front replica conn inputs held connection world story (place.is_answered server answer) heard may next
+      (on_stands fixed front ups replica conn inputs held connection world story (place.is_answered server answer) heard come requests may next
       (elsewhere_waits c fixed.master answer.body tells.1)
       (elsewhere_backend (home_at world) fixed.master c.id c.was c.waiting answer.body tells.1 names) said was)
-  by_knows come may names (is_decided turn said session both brings) =
+  by_knows come requests may names (is_decided turn said session both brings) =
       subst (λ (t : Turned). StandsSo fixed front replica conn inputs held world story t) (sym (turns_so brings.0))
-      (told_stands fixed front replica conn inputs held connection world story (place.is_answered server answer) heard come turn next
+      (told_stands fixed front ups replica conn inputs held connection world story (place.is_answered server answer) heard come turn next
       (brings.1 (c.waiting).at) said session both)
 
   -- WHAT THE ANSWER MAKES OF THE CONNECTION
-  pub answer_turns : InputsCome fixed front replica conn inputs held world story → MaySend fixed front conn world story
+  pub answer_turns : InputsCome fixed front ups replica conn inputs held world story → story.talk.requests conn ≡ requests_in inputs → MaySend fixed front ups conn world story
       → NamesBackend (home_at world) answer.body
-      → StandsSo fixed front replica conn inputs held world story (answer_comes fixed.setting (ways_for fixed front replica) conn connection answer)
-  answer_turns come may names = by_knows come may names (heard.waiting).knows
+      → StandsSo fixed front replica conn inputs held world story (answer_comes fixed.setting (ways_for fixed ups replica) conn connection answer)
+  answer_turns come requests may names = by_knows come requests may names (heard.waiting).knows

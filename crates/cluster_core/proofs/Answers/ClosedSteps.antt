@@ -28,8 +28,9 @@ use Rattle.mur_model.specs.declared.setting.Setting.{Setting}
 use Rattle.node_step.specs.declared.input.NodeInput.TheVariants.{From}
 use Rattle.point_links.specs.Commands.{ClientCommand}
 use Rattle.imap_types.specs.declared.command.Tag.{Tag}
+use Rattle.front_core.specs.Ups.{Ups}
 use Rattle.cluster_core.specs.declared.world.World.{World}
-use Rattle.cluster_core.specs.World.{carry_all, comes, home_at, taken_from_link}
+use Rattle.cluster_core.specs.World.{carry_all, home_at, taken_from_link}
 use Rattle.cluster_core.proofs.Commands.Knows.{Knows, KnowsNames, listed_by}
 use Rattle.cluster_core.proofs.Commands.Knows.Knows.{is_decided, undecided}
 use Rattle.cluster_core.proofs.Commands.Knows.KnowsNames.{is_listed, not_yet}
@@ -40,7 +41,8 @@ use Rattle.cluster_core.proofs.Commands.Standing.IsLeft.{nothing, left_listing, 
 use Rattle.cluster_core.proofs.Connections.ConnectionLaw.{IsInPlaceOf, PlacesStay, keeps_all, same_story}
 use Rattle.cluster_core.proofs.Connections.KeepsFront.{gone_after, with_connection, world_after}
 use Rattle.cluster_core.proofs.Connections.KeepsLaw.{IsGone}
-use Rattle.cluster_core.proofs.Nodes.Comes.{front_comes, with_front}
+use Rattle.cluster_core.proofs.Nodes.AllCome.{all_come, front_all_come}
+use Rattle.cluster_core.proofs.Nodes.Comes.{with_front}
 use Rattle.cluster_core.proofs.Places.FrontTakes.{takes_answer, takes_ok}
 use Rattle.cluster_core.proofs.Places.FrontWorlds.{answer_stays, ok_stays}
 use Rattle.cluster_core.proofs.Connections.FrameLaw.{ways_for}
@@ -48,11 +50,11 @@ use Rattle.cluster_core.proofs.Answers.OkSteps.{delivers_ok}
 use Rattle.cluster_core.proofs.Answers.Steps.{IsBefore, IsStep, step_is}
 
 -- THE STEP OF A CLOSED CONNECTION: it has ended behind it, lets nothing out, and the tale stays
-pub record ClosedStep (fixed : Fixed) (world : World) (story : Tale) (from node : List ℕ) (front : Front) (conn : ℕ) (inputs : List Input) (next : World)
-    : Type 0 where
+pub record ClosedStep (fixed : Fixed) (world : World) (story : Tale) (from node : List ℕ) (front : Front) (conn : ℕ) (inputs : List Input) (stop : Stop)
+    (next : World) : Type 0 where
   pub connection : Connection
   pub step : IsStep fixed world story from node front conn connection [] next story
-  pub gone : IsGone fixed node front.replica conn inputs connection next story
+  pub gone : IsGone fixed node front.replica conn inputs stop connection next story
 
 -- ---- an answer that comes no more
 
@@ -99,12 +101,12 @@ unfolding released_at
 ended_released connection stage = ap (λ s. (released_at connection s).stage) stage
 
 module _ (fixed : Fixed) (world : World) (story : Tale) (from node : List ℕ) (front : Front) (conn : ℕ) (inputs : List Input)
-    (connection : Connection) (before : IsBefore fixed world story node front conn inputs connection)
-    (gone : IsGone fixed node front.replica conn inputs connection world story) where
+    (connection : Connection) (before : IsBefore fixed world story node front conn inputs connection) (stop : Stop)
+    (gone : IsGone fixed node front.replica conn inputs stop connection world story) where
   closed_so : (later : Connection) → later.stage ≡ Ended → later.answered ≡ connection.answered
       → IsInPlaceOf fixed (taken_from_link world from node) node front.replica (next_id conn (story.told conn)) place.nowhere
       → ((other : ℕ) → other ≢ conn → PlacesStay fixed other world (taken_from_link world from node))
-      → ClosedStep fixed world story from node front conn inputs (world_after (taken_from_link world from node) node front conn later [])
+      → ClosedStep fixed world story from node front conn inputs stop (world_after (taken_from_link world from node) node front conn later [])
   unfolding carry_all
   closed_so later stage count over others =
       let base : World = taken_from_link world from node in
@@ -112,7 +114,7 @@ module _ (fixed : Fixed) (world : World) (story : Tale) (from node : List ℕ) (
         connection = later;
         step = step_is fixed world story from node front conn connection later before.at [] story
             (record { others = keeps_all fixed conn base; goes_on = same_story conn story; store = refl; is_told = before.is_told }) others;
-        gone = gone_after fixed base node front conn later inputs front.replica story (before.at).at
+        gone = gone_after fixed base node front conn later inputs stop front.replica story (before.at).at
             (record {
               stage_is = stage;
               count = count ∙ gone.count;
@@ -123,6 +125,7 @@ module _ (fixed : Fixed) (world : World) (story : Tale) (from node : List ℕ) (
               marked = tt;
               left = left_over fixed node conn (requests_in inputs) (story.told conn) (story.talk.answers conn) (story.course.sessions conn) gone.here
                   gone.left;
+              cut = gone.cut;
             });
       }
 
@@ -138,13 +141,13 @@ module _ (fixed : Fixed) (world : World) (story : Tale) (from node : List ℕ) (
       (ap (λ c. waits_for c from) (ap (connection_at front) own ∙ (before.at).has) ∙ ap (λ s. has_asked s from) gone.stage_is)
 
   pub closed_answer : (answer : BackAnswer) (rest : List LinkMsg) → on_link world.links from node ≡ Answer answer ∷ rest → (answer.id).conn ≡ conn
-      → ClosedStep fixed world story from node front conn inputs (comes (taken_from_link world from node) node (From from (Answer answer)))
+      → ClosedStep fixed world story from node front conn inputs stop (all_come (taken_from_link world from node) node (From from (Answer answer)))
   closed_answer answer rest first own =
       let id : AskId = next_id conn (story.told conn) in
       let is = takes_answer fixed.master (home_at world) world.links from node answer rest node front.replica id gone.here (before.may).frontend first own
       gone.placed in
-      subst (λ w. ClosedStep fixed world story from node front conn inputs w)
-      (sym (front_comes (taken_from_link world from node) node (From from (Answer answer)) front before.whole (before.at).at
+      subst (λ w. ClosedStep fixed world story from node front conn inputs stop w)
+      (sym (front_all_come (taken_from_link world from node) node (From from (Answer answer)) front (before.at).at
       ∙ ap (with_front (taken_from_link world from node) node) (drops_answer answer own)
       ∙ ap (λ f. with_front (taken_from_link world from node) node (still f)) (sym same_connection)))
       (closed_so connection gone.stage_is refl is.over
@@ -153,21 +156,21 @@ module _ (fixed : Fixed) (world : World) (story : Tale) (from node : List ℕ) (
 -- ---- the master's OK
 
 module _ (fixed : Fixed) (world : World) (story : Tale) (node : List ℕ) (front : Front) (conn : ℕ) (inputs : List Input)
-    (connection : Connection) (before : IsBefore fixed world story node front conn inputs connection)
-    (gone : IsGone fixed node front.replica conn inputs connection world story) where
+    (connection : Connection) (before : IsBefore fixed world story node front conn inputs connection) (stop : Stop)
+    (gone : IsGone fixed node front.replica conn inputs stop connection world story) where
   pub closed_ok : (bytes : List ℕ) (id : AskId) (rest : List LinkMsg) → on_link world.links fixed.master node ≡ Line bytes ∷ rest
       → barrier_answered bytes ≡ Some id → id.conn ≡ conn
-      → ClosedStep fixed world story fixed.master node front conn inputs
-      (comes (taken_from_link world fixed.master node) node (From fixed.master (Line bytes)))
+      → ClosedStep fixed world story fixed.master node front conn inputs stop
+      (all_come (taken_from_link world fixed.master node) node (From fixed.master (Line bytes)))
   closed_ok bytes id rest first reads_so own =
       let next : AskId = next_id conn (story.told conn) in
       let is = takes_ok fixed.master (home_at world) world.links node bytes id rest node front.replica next gone.here (before.may).frontend first reads_so own
       gone.placed in
-      subst (λ w. ClosedStep fixed world story fixed.master node front conn inputs w)
-      (sym (front_comes (taken_from_link world fixed.master node) node (From fixed.master (Line bytes)) front before.whole (before.at).at
+      subst (λ w. ClosedStep fixed world story fixed.master node front conn inputs stop w)
+      (sym (front_all_come (taken_from_link world fixed.master node) node (From fixed.master (Line bytes)) front (before.at).at
       ∙ ap (with_front (taken_from_link world fixed.master node) node)
       (delivers_ok fixed node front conn connection bytes id before.setting_is before.master_is before.ways_is (before.at).has own reads_so
-      ∙ ap (with_turned front conn) (ok_ended fixed.setting (ways_for fixed node front.replica) conn connection id gone.stage_is))))
-      (closed_so fixed world story fixed.master node front conn inputs connection before gone (released connection)
+      ∙ ap (with_turned front conn) (ok_ended fixed.setting (ways_for fixed front.ups front.replica) conn connection id gone.stage_is))))
+      (closed_so fixed world story fixed.master node front conn inputs connection before stop gone (released connection)
       (ended_released connection gone.stage_is) (released_count connection) is.over
       (λ other ne. ok_stays fixed world node bytes id rest other (before.may).frontend first reads_so (λ e. ne (e ∙ own))))

@@ -53,8 +53,8 @@ use Rattle.cluster_core.proofs.Commands.Place.{Place}
 use Rattle.cluster_core.proofs.Commands.Standing.{Fixed, next_id}
 use Rattle.cluster_core.proofs.Connections.ConnectionLaw.{StandsOn}
 use Rattle.cluster_core.proofs.Places.Stays.{IsFrontend}
+use Rattle.cluster_core.proofs.Connections.AsksFirst.{Reaches}
 use Rattle.cluster_core.proofs.Connections.FrameLaw.{ways_for}
-use Rattle.cluster_core.proofs.Connections.KeepsLaw.{IsLinked}
 use Rattle.cluster_core.proofs.Answers.Replied.{InputsCome, IsHeard, IsHeardFor, ended_stands, heard_for, read_stands}
 use Rattle.cluster_core.proofs.Answers.Tells.{IsTold, behind_told, refusal_told}
 use Rattle.cluster_core.proofs.Answers.WaitsOn.{AsksBackend, waits_on_stands}
@@ -79,26 +79,27 @@ StandsSo fixed front replica conn inputs held world story turned =
     StandsOn fixed front replica conn inputs held turned.connection world story (carry_all front world turned.outs)
 
 -- what a frontend knows of itself, and of a command that it may send on
-pub record MaySend (fixed : Fixed) (front : List ℕ) (conn : ℕ) (world : World) (story : Tale) : Type 0 where
+pub record MaySend (fixed : Fixed) (front : List ℕ) (ups : Ups) (conn : ℕ) (world : World) (story : Tale) : Type 0 where
   pub frontend : IsFrontend fixed.master (home_at world) front
-  pub up : IsLinked (fixed.ups front) fixed.master (λ server. is_some (home_at world server))
+  pub reaches : Reaches fixed.master (home_at world) world.broken ups
   pub is_numbered : IsNumbered (next_id conn (story.told conn))
 
--- the link to whom a message of its goes is up
-sent_is_up : (ups : Ups) (nodes : Nodes) (master : List ℕ) (id : AskId) (session : Sess) (it : WaitingFor) (message : Sent) (at : At)
-    → IsLinked ups master (λ server. is_some (nodes server)) → FitsAt master id session it message at → AsksBackend nodes at → is_up ups message.to ≡ true
-sent_is_up ups nodes master id session it message (Home server) linked fits backend =
-    ap (is_up ups) fits.0 ∙ linked.to_backend server (ap is_some (backend server refl).1)
-sent_is_up ups nodes master id session it message (at_master cause) linked fits backend = ap (is_up ups) fits.0 ∙ linked.to_master
+-- where the link to whom a message of its goes isn't up, one has broken
+sent_cut : (ups : Ups) (nodes : Nodes) (broken : Broken) (master : List ℕ) (id : AskId) (session : Sess) (it : WaitingFor) (message : Sent) (at : At)
+    → Reaches master nodes broken ups → FitsAt master id session it message at → AsksBackend nodes at → is_up ups message.to ≡ false → broken ≢ []
+sent_cut ups nodes broken master id session it message (Home server) reaches fits backend down =
+    reaches.cut message.to down (ap is_some (ap nodes fits.0 ∙ (backend server refl).1))
+sent_cut ups nodes broken master id session it message (at_master cause) reaches fits backend down =
+    absurd (let no : true ≡ false = sym reaches.up ∙ (ap (is_up ups) (sym fits.0) ∙ down) in cc)
 
-module _ (fixed : Fixed) (front : List ℕ) (replica : Replica) (conn : ℕ) (inputs : List Input) (held : Option (List ℕ)) (connection : Connection)
+module _ (fixed : Fixed) (front : List ℕ) (ups : Ups) (replica : Replica) (conn : ℕ) (inputs : List Input) (held : Option (List ℕ)) (connection : Connection)
     (world : World) (story : Tale) (here : Place) (heard : IsHeard fixed front replica conn inputs held connection world story here) where
   abbrev c : ClientCommand
   c = (heard.waiting).c
 
   -- what comes of the command does this to its connection
   abbrev pub turned_by : WentOn → Turned
-  turned_by next = goes_on_by fixed.setting (ways_for fixed front replica) conn connection (heard.waiting).tag next
+  turned_by next = goes_on_by fixed.setting (ways_for fixed ups replica) conn connection (heard.waiting).tag next
 
   abbrev now : Sess → Connection
   now session = record connection { session = session }
@@ -113,21 +114,21 @@ module _ (fixed : Fixed) (front : List ℕ) (replica : Replica) (conn : ℕ) (in
 
   given_stands : (how : How) (reply : Reply) (session : Sess) → has_ended session ≡ ends reply
       → IsTold fixed.setting world story conn how (record { tag = (heard.waiting).tag; reply = reply }) session
-      → InputsCome fixed front replica conn inputs held world story
+      → InputsCome fixed front ups replica conn inputs held world story
       → StandsSo fixed front replica conn inputs held world story
-      (need_behind fixed.setting (ways_for fixed front replica) conn (now session) (heard.waiting).tag how (given_with reply session))
+      (need_behind fixed.setting (ways_for fixed ups replica) conn (now session) (heard.waiting).tag how (given_with reply session))
   unfolding given_with
   given_stands how reply Off same told come =
-      read_stands fixed front replica conn inputs held connection world story (heard.waiting).tag c.it its_heard how reply Off told refl (sym same) come
+      read_stands fixed front ups replica conn inputs held connection world story (heard.waiting).tag c.it its_heard how reply Off told refl (sym same) come
   given_stands how reply (In user) same told come =
-      read_stands fixed front replica conn inputs held connection world story (heard.waiting).tag c.it its_heard how reply (In user) told refl (sym same) come
+      read_stands fixed front ups replica conn inputs held connection world story (heard.waiting).tag c.it its_heard how reply (In user) told refl (sym same) come
   given_stands how reply (Selected view) same told come =
-      read_stands fixed front replica conn inputs held connection world story (heard.waiting).tag c.it its_heard how reply (Selected view) told refl (sym same) come
+      read_stands fixed front ups replica conn inputs held connection world story (heard.waiting).tag c.it its_heard how reply (Selected view) told refl (sym same) come
   given_stands how reply session_ended same told come =
-      ended_stands fixed front replica conn inputs held connection world story (heard.waiting).tag c.it its_heard how reply session_ended told (sym same)
+      ended_stands fixed front ups replica conn inputs held connection world story (heard.waiting).tag c.it its_heard how reply session_ended told (sym same)
 
   -- the store's
-  pub told_stands : InputsCome fixed front replica conn inputs held world story → (turn : Turn) (next : WentOn) → next ≡ told_turn c turn
+  pub told_stands : InputsCome fixed front ups replica conn inputs held world story → (turn : Turn) (next : WentOn) → next ≡ told_turn c turn
       → story.talk.answers conn ≡ story.told conn ++ (record { tag = (heard.waiting).tag; reply = turn.reply }) ∷ []
       → story.course.sessions conn ≡ session_after c.was turn.session → TurnEnds turn
       → StandsSo fixed front replica conn inputs held world story (turned_by next)
@@ -171,7 +172,7 @@ module _ (fixed : Fixed) (front : List ℕ) (replica : Replica) (conn : ℕ) (in
     };
   }
 
-  pub refused_stands : InputsCome fixed front replica conn inputs held world story → (next : WentOn)
+  pub refused_stands : InputsCome fixed front ups replica conn inputs held world story → (next : WentOn)
       → next ≡ refused_turn c (refused_for c.was c.it BeingMoved) → story.talk.requests conn ≡ requests_in inputs
       → story.talk.answers conn ≡ story.told conn → c.was ≡ story.course.sessions conn
       → (table : MailboxTable) → IsSeenBy story.talk.moving world.marks (next_id conn (story.told conn)) table → is_reserved (record_at table c.name) ≡ true
@@ -179,7 +180,7 @@ module _ (fixed : Fixed) (front : List ℕ) (replica : Replica) (conn : ℕ) (in
   refused_stands come next is requests said was table seen moves =
       let turn : Turn = refused_for c.was c.it BeingMoved in
       subst (λ n. StandsSo fixed front replica conn inputs held world story (turned_by n)) (sym is)
-      (read_stands fixed front replica conn inputs held connection world story (heard.waiting).tag c.it its_heard Reserved turn.reply (session_after c.was turn.session)
+      (read_stands fixed front ups replica conn inputs held connection world story (heard.waiting).tag c.it its_heard Reserved turn.reply (session_after c.was turn.session)
       (subst (λ (s : Sess). IsTold fixed.setting world story conn Reserved (record { tag = (heard.waiting).tag; reply = (refused_for s c.it BeingMoved).reply })
       (session_after s (refused_for s c.it BeingMoved).session)) (sym was)
       (refusal_told fixed.setting world story conn (heard.waiting).tag c.it heard.is_told (can_refuse requests said was table seen moves)))
@@ -187,13 +188,30 @@ module _ (fixed : Fixed) (front : List ℕ) (replica : Replica) (conn : ℕ) (in
 
   -- ---- it waits on
 
-  pub on_stands : MaySend fixed front conn world story → (next : WentOn) → WaitsOn fixed.master c next → AsksBackend (home_at world) next.waiting.at
+  -- its server isn't reached, and so it is refused
+  unreached_stands : InputsCome fixed front ups replica conn inputs held world story → story.talk.requests conn ≡ requests_in inputs
+      → (next : WentOn) → WaitsOn fixed.master c next → (sent : Sent) → world.broken ≢ []
+      → story.talk.answers conn ≡ story.told conn → c.was ≡ story.course.sessions conn
+      → StandsSo fixed front replica conn inputs held world story
+      (sends_if false fixed.setting (ways_for fixed ups replica) conn (now next.session) (heard.waiting).tag next.waiting sent)
+  unreached_stands come requests next on sent cut said was = ?
+
+  sends_stands : InputsCome fixed front ups replica conn inputs held world story → story.talk.requests conn ≡ requests_in inputs
+      → MaySend fixed front ups conn world story → (next : WentOn) → (on : WaitsOn fixed.master c next) → AsksBackend (home_at world) next.waiting.at
+      → story.talk.answers conn ≡ story.told conn → c.was ≡ story.course.sessions conn → (up : Bool) → is_up ups on.sent.to ≡ up
+      → StandsSo fixed front replica conn inputs held world story
+      (sends_if up fixed.setting (ways_for fixed ups replica) conn (now next.session) (heard.waiting).tag next.waiting on.sent)
+  sends_stands come requests may next on backend said was true up =
+      waits_on_stands fixed front replica conn inputs held connection world story here heard may.frontend may.is_numbered said was next on backend
+  sends_stands come requests may next on backend said was false down =
+      unreached_stands come requests next on on.sent
+      (sent_cut ups (home_at world) world.broken fixed.master c.id c.was c.waiting on.sent next.waiting.at may.reaches on.asks.fits backend down) said was
+
+  pub on_stands : InputsCome fixed front ups replica conn inputs held world story → story.talk.requests conn ≡ requests_in inputs
+      → MaySend fixed front ups conn world story → (next : WentOn) → WaitsOn fixed.master c next → AsksBackend (home_at world) next.waiting.at
       → story.talk.answers conn ≡ story.told conn → c.was ≡ story.course.sessions conn
       → StandsSo fixed front replica conn inputs held world story (turned_by next)
-  on_stands may next on backend said was =
+  on_stands come requests may next on backend said was =
       subst (λ (t : Then). StandsSo fixed front replica conn inputs held world story
-      (by_then fixed.setting (ways_for fixed front replica) conn (now next.session) (heard.waiting).tag next.waiting t)) (sym on.sends)
-      (subst (λ up. StandsSo fixed front replica conn inputs held world story
-      (sends_if up fixed.setting (ways_for fixed front replica) conn (now next.session) (heard.waiting).tag next.waiting on.sent))
-      (sym (sent_is_up (fixed.ups front) (home_at world) fixed.master c.id c.was c.waiting on.sent next.waiting.at may.up on.asks.fits backend))
-      (waits_on_stands fixed front replica conn inputs held connection world story here heard may.frontend may.is_numbered said was next on backend))
+      (by_then fixed.setting (ways_for fixed ups replica) conn (now next.session) (heard.waiting).tag next.waiting t)) (sym on.sends)
+      (sends_stands come requests may next on backend said was (is_up ups on.sent.to) refl)

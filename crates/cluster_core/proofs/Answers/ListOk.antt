@@ -22,6 +22,7 @@ use Rattle.mur_model.specs.declared.session.Sess.{Sess}
 use Rattle.mur_model.specs.declared.setting.Setting.{Setting}
 use Rattle.node_record.specs.Table.{MailboxTable}
 use Rattle.route_links.specs.Barriers.{Place as barrier}
+use Rattle.front_core.specs.Ups.{Ups}
 use Rattle.cluster_core.specs.declared.world.World.{World}
 use Rattle.cluster_core.proofs.Commands.Knows.{KnowsNames, listed_by}
 use Rattle.cluster_core.proofs.Commands.Knows.KnowsNames.{is_listed, not_yet}
@@ -65,23 +66,23 @@ said_so tag it was told said session table (is_listed other more stays at) =
     record { said_is = more ∙ ap (λ t. told ++ listed_by tag it t ∷ []) (sym (same_barrier table other at)); stays = stays }
 
 -- WHAT THE OK MAKES OF THE CONNECTION
-pub listed_turns : (fixed : Fixed) (front : List ℕ) (replica : Replica) (conn : ℕ) (inputs : List Input) (held : Option (List ℕ)) (connection : Connection)
+pub listed_turns : (fixed : Fixed) (front : List ℕ) (ups : Ups) (replica : Replica) (conn : ℕ) (inputs : List Input) (held : Option (List ℕ)) (connection : Connection)
     (world : World) (story : Tale) (table : MailboxTable)
     (it : Lists fixed inputs held connection (story.told conn) (story.talk.answers conn) (story.course.sessions conn)
     (place.is_barred (barrier.answered table)))
-    → IsHeardFor fixed front replica conn inputs held connection world story it.tag it.it → InputsCome fixed front replica conn inputs held world story
+    → IsHeardFor fixed front replica conn inputs held connection world story it.tag it.it → InputsCome fixed front ups replica conn inputs held world story
     → replica ≡ replica_of table
     → StandsSo fixed front replica conn inputs held world story
-    (ok_comes fixed.setting (ways_for fixed front replica) conn connection (next_id conn (story.told conn)))
-listed_turns fixed front replica conn inputs held connection world story table it heard come has_all =
+    (ok_comes fixed.setting (ways_for fixed ups replica) conn connection (next_id conn (story.told conn)))
+listed_turns fixed front ups replica conn inputs held connection world story table it heard come has_all =
     let answer : Answer = listed_by it.tag it.listing table in
     let said = said_so it.tag it.listing connection.session (story.told conn) (story.talk.answers conn) (story.course.sessions conn) table it.knows in
     let told : IsTold fixed.setting world story conn Behind answer connection.session =
     subst (λ (s : Sess). IsTold fixed.setting world story conn Behind answer s) (sym said.stays)
     (behind_told fixed.setting world story conn answer heard.is_told said.said_is) in
     subst (λ (t : Turned). StandsSo fixed front replica conn inputs held world story t)
-    (sym (fits_list fixed.setting (ways_for fixed front replica) conn connection it.tag it.listing (next_id conn (story.told conn)) (ap (λ n. n + 1) (sym heard.count)) it.stage
-    ∙ ap (λ (r : Replica). reads_on fixed.setting (ways_for fixed front replica) conn connection Behind
+    (sym (fits_list fixed.setting (ways_for fixed ups replica) conn connection it.tag it.listing (next_id conn (story.told conn)) (ap (λ n. n + 1) (sym heard.count)) it.stage
+    ∙ ap (λ (r : Replica). reads_on fixed.setting (ways_for fixed ups replica) conn connection Behind
     (reply_text it.tag (list_reply it.listing (mailbox_names r.records)))) has_all))
-    (read_stands fixed front replica conn inputs held connection world story it.tag it.it heard Behind (list_reply it.listing (mailbox_names (recs_of table)))
+    (read_stands fixed front ups replica conn inputs held connection world story it.tag it.it heard Behind (list_reply it.listing (mailbox_names (recs_of table)))
     connection.session told it.lasts (list_ends it.listing (mailbox_names (recs_of table))) come)

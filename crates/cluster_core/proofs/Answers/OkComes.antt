@@ -23,6 +23,7 @@ use Rattle.node_record.specs.Table.{MailboxTable}
 use Rattle.point_links.specs.Barriers.{decided}
 use Rattle.point_links.specs.Commands.{ClientCommand}
 use Rattle.route_links.specs.Barriers.{Place as barrier}
+use Rattle.front_core.specs.Ups.{Ups}
 use Rattle.cluster_core.specs.declared.world.World.{World}
 use Rattle.cluster_core.specs.World.{home_at}
 use Rattle.cluster_core.proofs.Commands.Knows.{GoesOnAtOk, Knows}
@@ -67,7 +68,7 @@ abbrev pub ClearsToBackend : Fixed → Replica → World → ClientCommand → T
 ClearsToBackend fixed replica world c = (cause : Why) → (c.waiting).at ≡ at_master cause
     → AsksBackend (home_at world) ((cleared replica.records fixed.master fixed.first c.id c.was c.waiting cause).waiting).at
 
-module _ (fixed : Fixed) (front : List ℕ) (replica : Replica) (conn : ℕ) (inputs : List Input) (held : Option (List ℕ)) (connection : Connection)
+module _ (fixed : Fixed) (front : List ℕ) (ups : Ups) (replica : Replica) (conn : ℕ) (inputs : List Input) (held : Option (List ℕ)) (connection : Connection)
     (world : World) (story : Tale) (table : MailboxTable)
     (heard : IsHeard fixed front replica conn inputs held connection world story (place.is_barred (barrier.answered table))) where
   abbrev c : ClientCommand
@@ -84,17 +85,17 @@ module _ (fixed : Fixed) (front : List ℕ) (replica : Replica) (conn : ℕ) (in
   next_is = ap (λ n. record { conn = conn; command = n + 1 }) heard.count ∙ sym ((heard.waiting).of).its
 
   turns_so : (cause : Why) → (c.waiting).at ≡ at_master cause
-      → ok_comes fixed.setting (ways_for fixed front replica) conn connection c.id
-      ≡ turned_by fixed front replica conn inputs held connection world story here heard (next cause)
+      → ok_comes fixed.setting (ways_for fixed ups replica) conn connection c.id
+      ≡ turned_by fixed front ups replica conn inputs held connection world story here heard (next cause)
   turns_so cause at =
-      fits_ok fixed.setting (ways_for fixed front replica) conn connection (heard.waiting).tag c.waiting c.id cause
+      fits_ok fixed.setting (ways_for fixed ups replica) conn connection (heard.waiting).tag c.waiting c.id cause
       (ap (λ (i : AskId). i.command) (sym next_is)) (heard.waiting).stage at
-      ∙ ap (λ i. goes_on_by fixed.setting (ways_for fixed front replica) conn connection (heard.waiting).tag
+      ∙ ap (λ i. goes_on_by fixed.setting (ways_for fixed ups replica) conn connection (heard.waiting).tag
       (cleared replica.records fixed.master fixed.first i connection.session c.waiting cause)) next_is
-      ∙ ap (λ s. goes_on_by fixed.setting (ways_for fixed front replica) conn connection (heard.waiting).tag
+      ∙ ap (λ s. goes_on_by fixed.setting (ways_for fixed ups replica) conn connection (heard.waiting).tag
       (cleared replica.records fixed.master fixed.first c.id s c.waiting cause)) (sym ((heard.waiting).of).was_is)
 
-  module _ (come : InputsCome fixed front replica conn inputs held world story) (may : MaySend fixed front conn world story)
+  module _ (come : InputsCome fixed front ups replica conn inputs held world story) (may : MaySend fixed front ups conn world story)
       (requests : story.talk.requests conn ≡ requests_in inputs)
       (seen : IsSeenBy story.talk.moving world.marks (next_id conn (story.told conn)) table)
       (has_all : replica ≡ replica_of table) (backends : ClearsToBackend fixed replica world c) where
@@ -105,25 +106,25 @@ module _ (fixed : Fixed) (front : List ℕ) (replica : Replica) (conn : ℕ) (in
     by_ok : (cause : Why) → (c.waiting).at ≡ at_master cause → story.talk.answers conn ≡ story.told conn → c.was ≡ story.course.sessions conn
         → GoesOnAtOk table fixed.master c (next cause)
         → StandsSo fixed front replica conn inputs held world story
-        (turned_by fixed front replica conn inputs held connection world story here heard (next cause))
+        (turned_by fixed front ups replica conn inputs held connection world story here heard (next cause))
     by_ok cause at said was (is_refused is reserved) =
-        refused_stands fixed front replica conn inputs held connection world story here heard come (next cause) is requests said was table seen reserved
+        refused_stands fixed front ups replica conn inputs held connection world story here heard come (next cause) is requests said was table seen reserved
     by_ok cause at said was (asks_on on) =
-        on_stands fixed front replica conn inputs held connection world story here heard may (next cause) on (backends cause at) said was
+        on_stands fixed front ups replica conn inputs held connection world story here heard come requests may (next cause) on (backends cause at) said was
 
     by_knows : (cause : Why) → (c.waiting).at ≡ at_master cause
         → Knows fixed.master fixed.first front c (heard.waiting).tag (story.told conn) (story.talk.answers conn) (story.course.sessions conn) here
-        → StandsSo fixed front replica conn inputs held world story (ok_comes fixed.setting (ways_for fixed front replica) conn connection c.id)
+        → StandsSo fixed front replica conn inputs held world story (ok_comes fixed.setting (ways_for fixed ups replica) conn connection c.id)
     by_knows cause at (undecided said was tells) =
         subst (λ (t : Turned). StandsSo fixed front replica conn inputs held world story t) (sym (turns_so cause at))
         (by_ok cause at said was (subst (GoesOnAtOk table fixed.master c) (sym (by_table cause)) (tells (c.waiting).at cause)))
     by_knows cause at (is_decided turn said session both brings) =
         subst (λ (t : Turned). StandsSo fixed front replica conn inputs held world story t) (sym (turns_so cause at))
-        (told_stands fixed front replica conn inputs held connection world story here heard come turn (next cause)
+        (told_stands fixed front ups replica conn inputs held connection world story here heard come turn (next cause)
         (by_table cause ∙ brings (c.waiting).at cause) said session both)
 
     -- WHAT THE OK MAKES OF THE CONNECTION
-    pub ok_turns : StandsSo fixed front replica conn inputs held world story (ok_comes fixed.setting (ways_for fixed front replica) conn connection c.id)
+    pub ok_turns : StandsSo fixed front replica conn inputs held world story (ok_comes fixed.setting (ways_for fixed ups replica) conn connection c.id)
     ok_turns =
         let at = at_barrier (c.waiting).at table (heard.waiting).at in
         by_knows at.cause at.is (heard.waiting).knows

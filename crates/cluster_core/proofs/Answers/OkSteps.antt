@@ -21,14 +21,16 @@ use Rattle.node_step.specs.declared.input.NodeInput.TheVariants.{From}
 use Rattle.node_record.specs.Table.{MailboxTable}
 use Rattle.point_links.specs.Commands.{ClientCommand}
 use Rattle.route_links.specs.Barriers.{Place as barrier}
+use Rattle.front_core.specs.Ups.{Ups}
 use Rattle.cluster_core.specs.declared.world.World.{World}
-use Rattle.cluster_core.specs.World.{comes, home_at, taken_from_link}
+use Rattle.cluster_core.specs.World.{home_at, taken_from_link}
 use Rattle.cluster_core.proofs.Commands.Moving.{IsSeenBy}
 use Rattle.cluster_core.proofs.Commands.Place.{Place, Place as place}
 use Rattle.cluster_core.proofs.Commands.Standing.{Fixed, next_id}
 use Rattle.cluster_core.proofs.Connections.ConnectionLaw.{IsInPlaceOf, IsMarkedAt, IsStanding}
 use Rattle.cluster_core.proofs.Connections.KeepsFront.{world_after}
-use Rattle.cluster_core.proofs.Nodes.Comes.{front_comes, with_front}
+use Rattle.cluster_core.proofs.Nodes.AllCome.{all_come, front_all_come}
+use Rattle.cluster_core.proofs.Nodes.Comes.{with_front}
 use Rattle.cluster_core.proofs.Places.FrontTakes.{takes_ok}
 use Rattle.cluster_core.proofs.Places.FrontWorlds.{ok_stays}
 use Rattle.cluster_core.proofs.Connections.FrameLaw.{ways_for}
@@ -44,10 +46,10 @@ use Rattle.cluster_core.proofs.Answers.Steps.{IsBefore, inputs_may_come, may_sen
 -- ---- the frontend takes the OK of the command
 
 module _ (fixed : Fixed) (node : List ℕ) (front : Front) (conn : ℕ) (connection : Connection) (bytes : List ℕ) (id : AskId)
-    (setting_is : front.setting ≡ fixed.setting) (master_is : front.master ≡ fixed.master) (ways_is : ways_of front ≡ ways_for fixed node front.replica)
+    (setting_is : front.setting ≡ fixed.setting) (master_is : front.master ≡ fixed.master) (ways_is : ways_of front ≡ ways_for fixed front.ups front.replica)
     (has : connection_at front conn ≡ Some connection) (own : id.conn ≡ conn) (reads_so : barrier_answered bytes ≡ Some id) where
   pub delivers_ok : deliver front fixed.master (Line bytes)
-      ≡ with_turned front conn (ok_comes fixed.setting (ways_for fixed node front.replica) conn connection id)
+      ≡ with_turned front conn (ok_comes fixed.setting (ways_for fixed front.ups front.replica) conn connection id)
   unfolding deliver line_from ok_at
   delivers_ok =
       let from_master : pointwise nat_eq fixed.master front.master ≡ true =
@@ -65,10 +67,10 @@ module _ (fixed : Fixed) (world : World) (story : Tale) (node : List ℕ) (front
   not_nowhere table e = cc
 
   ok_comes_so : (bytes : List ℕ) (turned : Turned) → deliver front fixed.master (Line bytes) ≡ with_turned front conn turned
-      → comes (taken_from_link world fixed.master node) node (From fixed.master (Line bytes))
+      → all_come (taken_from_link world fixed.master node) node (From fixed.master (Line bytes))
       ≡ world_after (taken_from_link world fixed.master node) node front conn (released turned.connection) turned.outs
   ok_comes_so bytes turned is =
-      front_comes (taken_from_link world fixed.master node) node (From fixed.master (Line bytes)) front before.whole (before.at).at
+      front_all_come (taken_from_link world fixed.master node) node (From fixed.master (Line bytes)) front (before.at).at
       ∙ ap (with_front (taken_from_link world fixed.master node) node) is
 
   -- of what waits
@@ -81,8 +83,8 @@ module _ (fixed : Fixed) (world : World) (story : Tale) (node : List ℕ) (front
       (place.is_barred (barrier.answered table))
       → OpenStep fixed world story fixed.master node front conn inputs held connection
       (world_after (taken_from_link world fixed.master node) node front conn
-      (released (ok_comes fixed.setting (ways_for fixed node front.replica) conn connection id).connection)
-      (ok_comes fixed.setting (ways_for fixed node front.replica) conn connection id).outs)
+      (released (ok_comes fixed.setting (ways_for fixed front.ups front.replica) conn connection id).connection)
+      (ok_comes fixed.setting (ways_for fixed front.ups front.replica) conn connection id).outs)
   ok_by bytes id rest first reads_so own table over its has_all seen (of_mailbox waiting) =
       let here : Place = place.is_barred (barrier.answered table) in
       let base : World = taken_from_link world fixed.master node in
@@ -90,42 +92,42 @@ module _ (fixed : Fixed) (world : World) (story : Tale) (node : List ℕ) (front
       record { count = standing.count; client = standing.client; nothing = over; is_told = before.is_told; waiting = waiting } in
       let c : ClientCommand = waiting.c in
       turned_step fixed world story fixed.master node front conn inputs held connection before standing
-      (ok_comes fixed.setting (ways_for fixed node front.replica) conn connection id) (waits_live connection waiting.tag c.waiting waiting.stage)
-      (subst (λ i. StandsSo fixed node front.replica conn inputs held base story (ok_comes fixed.setting (ways_for fixed node front.replica) conn connection i))
+      (ok_comes fixed.setting (ways_for fixed front.ups front.replica) conn connection id) (waits_live connection waiting.tag c.waiting waiting.stage)
+      (subst (λ i. StandsSo fixed node front.replica conn inputs held base story (ok_comes fixed.setting (ways_for fixed front.ups front.replica) conn connection i))
       ((waiting.of).its ∙ sym its)
-      (ok_turns fixed node front.replica conn inputs held connection base story table heard
+      (ok_turns fixed node front.ups front.replica conn inputs held connection base story table heard
       (inputs_may_come fixed world story node front conn inputs held connection before fixed.master)
       (may_send fixed world story node front conn inputs held connection before fixed.master (story.talk.answers conn) (story.course.sessions conn) here
       waiting)
       before.requests seen has_all
       (λ cause at. cleared_backend (home_at world) (front.replica).records (before.may).knows fixed.first (before.may).first fixed.master c.id c.was c.waiting
       cause at)))
-      (ok_reader fixed.setting (ways_for fixed node front.replica) conn connection id)
+      (ok_reader fixed.setting (ways_for fixed front.ups front.replica) conn connection id)
       (λ other ne. ok_stays fixed world node bytes id rest other (before.may).frontend first reads_so (λ e. ne (e ∙ own)))
   ok_by bytes id rest first reads_so own table over its has_all seen (of_names it) =
       let base : World = taken_from_link world fixed.master node in
       let heard : IsHeardFor fixed node front.replica conn inputs held connection base story it.tag it.it =
       record { count = standing.count; client = standing.client; nothing = over; is_told = before.is_told; next = it.next } in
       turned_step fixed world story fixed.master node front conn inputs held connection before standing
-      (ok_comes fixed.setting (ways_for fixed node front.replica) conn connection id) (lists_live connection it.tag it.listing it.stage)
-      (subst (λ i. StandsSo fixed node front.replica conn inputs held base story (ok_comes fixed.setting (ways_for fixed node front.replica) conn connection i))
+      (ok_comes fixed.setting (ways_for fixed front.ups front.replica) conn connection id) (lists_live connection it.tag it.listing it.stage)
+      (subst (λ i. StandsSo fixed node front.replica conn inputs held base story (ok_comes fixed.setting (ways_for fixed front.ups front.replica) conn connection i))
       (sym its)
-      (listed_turns fixed node front.replica conn inputs held connection base story table it heard
+      (listed_turns fixed node front.ups front.replica conn inputs held connection base story table it heard
       (inputs_may_come fixed world story node front conn inputs held connection before fixed.master) has_all))
-      (ok_reader fixed.setting (ways_for fixed node front.replica) conn connection id)
+      (ok_reader fixed.setting (ways_for fixed front.ups front.replica) conn connection id)
       (λ other ne. ok_stays fixed world node bytes id rest other (before.may).frontend first reads_so (λ e. ne (e ∙ own)))
 
   pub ok_step : (bytes : List ℕ) (id : AskId) (rest : List LinkMsg) → on_link world.links fixed.master node ≡ Line bytes ∷ rest
       → barrier_answered bytes ≡ Some id → id.conn ≡ conn
       → OpenStep fixed world story fixed.master node front conn inputs held connection
-      (comes (taken_from_link world fixed.master node) node (From fixed.master (Line bytes)))
+      (all_come (taken_from_link world fixed.master node) node (From fixed.master (Line bytes)))
   ok_step bytes id rest first reads_so own =
       let next : AskId = next_id conn (story.told conn) in
       let frontend = (before.may).frontend in
       let is = takes_ok fixed.master (home_at world) world.links node bytes id rest node front.replica next standing.here frontend first reads_so own
       standing.placed in
       let here : Place = place.is_barred (barrier.answered is.table) in
-      let turned : Turned = ok_comes fixed.setting (ways_for fixed node front.replica) conn connection id in
+      let turned : Turned = ok_comes fixed.setting (ways_for fixed front.ups front.replica) conn connection id in
       subst (λ w. OpenStep fixed world story fixed.master node front conn inputs held connection w)
       (sym (ok_comes_so bytes turned (delivers_ok fixed node front conn connection bytes id before.setting_is before.master_is before.ways_is (before.at).has own
       reads_so)))

@@ -28,8 +28,9 @@ use Rattle.mur_model.specs.declared.session.Sess.{Sess}
 use Rattle.mur_model.specs.declared.setting.Setting.{Setting}
 use Rattle.node_step.specs.declared.input.NodeInput.TheVariants.{From}
 use Rattle.route_links.specs.Barriers.{Place as Barrier, Place as barrier}
+use Rattle.front_core.specs.Ups.{Ups}
 use Rattle.cluster_core.specs.declared.world.World.{World}
-use Rattle.cluster_core.specs.World.{comes, home_at, taken_from_link}
+use Rattle.cluster_core.specs.World.{home_at, taken_from_link}
 use Rattle.cluster_core.proofs.Commands.Knows.{KnowsNames}
 use Rattle.cluster_core.proofs.Commands.Knows.KnowsNames.{is_listed, not_yet}
 use Rattle.cluster_core.proofs.Commands.Place.{Place, Place as place}
@@ -38,7 +39,8 @@ use Rattle.cluster_core.proofs.Commands.Standing.{Fixed, HasBegunSo, Lists, Stan
 use Rattle.cluster_core.proofs.Commands.Standing.Stands.{reads, waits, lists, faulted, finished}
 use Rattle.cluster_core.proofs.Connections.ConnectionLaw.{IsInPlaceOf, IsStanding, PlacesStay}
 use Rattle.cluster_core.proofs.Connections.KeepsFront.{standing_after, world_after}
-use Rattle.cluster_core.proofs.Nodes.Comes.{front_comes, with_front}
+use Rattle.cluster_core.proofs.Nodes.AllCome.{all_come, front_all_come}
+use Rattle.cluster_core.proofs.Nodes.Comes.{with_front}
 use Rattle.cluster_core.proofs.Places.FrontTakes.{takes_answer}
 use Rattle.cluster_core.proofs.Places.FrontWorlds.{answer_stays}
 use Rattle.cluster_core.proofs.Connections.FrameLaw.{ways_for}
@@ -135,6 +137,7 @@ module _ (fixed : Fixed) (world : World) (story : Tale) (from node : List ℕ) (
           here = stands.standing.here;
           placed = stands.standing.placed;
           marked = stands.standing.marked;
+          dropped = stands.standing.dropped;
           stands = stands_released fixed node conn inputs held turned.connection (stands.story.told conn) (stands.story.talk.answers conn)
               (stands.story.course.sessions conn) stands.standing.here stands.standing.stands;
         });
@@ -149,7 +152,7 @@ module _ (fixed : Fixed) (world : World) (story : Tale) (from node : List ℕ) (
 
   -- it counts, as it comes from the server that was asked
   delivers_answer : (answer : BackAnswer) (tag : Tag) (it : WaitingFor) → (answer.id).conn ≡ conn → connection.stage ≡ Waits tag it → it.at ≡ Home from
-      → deliver front from (Answer answer) ≡ with_turned front conn (answer_comes fixed.setting (ways_for fixed node front.replica) conn connection answer)
+      → deliver front from (Answer answer) ≡ with_turned front conn (answer_comes fixed.setting (ways_for fixed front.ups front.replica) conn connection answer)
   unfolding deliver answer_from answer_at waits_for has_asked
   delivers_answer answer tag it own stage asked =
       let there : connection_at front (answer.id).conn ≡ Some connection = ap (connection_at front) own ∙ (before.at).has in
@@ -161,21 +164,21 @@ module _ (fixed : Fixed) (world : World) (story : Tale) (from node : List ℕ) (
       ∙ ap (λ ways. with_turned front conn (answer_comes fixed.setting ways conn connection answer)) before.ways_is
 
   answer_comes_so : (answer : BackAnswer) (turned : Turned) → deliver front from (Answer answer) ≡ with_turned front conn turned
-      → comes (taken_from_link world from node) node (From from (Answer answer))
+      → all_come (taken_from_link world from node) node (From from (Answer answer))
       ≡ world_after (taken_from_link world from node) node front conn (released turned.connection) turned.outs
   answer_comes_so answer turned is =
-      front_comes (taken_from_link world from node) node (From from (Answer answer)) front before.whole (before.at).at
+      front_all_come (taken_from_link world from node) node (From from (Answer answer)) front (before.at).at
       ∙ ap (with_front (taken_from_link world from node) node) is
 
   pub answer_step : (answer : BackAnswer) (rest : List LinkMsg) → on_link world.links from node ≡ Answer answer ∷ rest → (answer.id).conn ≡ conn
       → NamesBackend (home_at world) answer.body
-      → OpenStep fixed world story from node front conn inputs held connection (comes (taken_from_link world from node) node (From from (Answer answer)))
+      → OpenStep fixed world story from node front conn inputs held connection (all_come (taken_from_link world from node) node (From from (Answer answer)))
   answer_step answer rest first own names =
       let id : AskId = next_id conn (story.told conn) in
       let frontend = (before.may).frontend in
       let is = takes_answer fixed.master (home_at world) world.links from node answer rest node front.replica id standing.here frontend first own
       standing.placed in
-      let turned : Turned = answer_comes fixed.setting (ways_for fixed node front.replica) conn connection answer in
+      let turned : Turned = answer_comes fixed.setting (ways_for fixed front.ups front.replica) conn connection answer in
       let base : World = taken_from_link world from node in
       let here : Place = place.is_answered from answer in
       let waiting = answer_of fixed node conn inputs held connection (story.told conn) (story.talk.answers conn) (story.course.sessions conn) from answer
@@ -184,9 +187,9 @@ module _ (fixed : Fixed) (world : World) (story : Tale) (from node : List ℕ) (
       subst (λ w. OpenStep fixed world story from node front conn inputs held connection w)
       (sym (answer_comes_so answer turned (delivers_answer answer waiting.tag (waiting.c).waiting own waiting.stage waiting.at)))
       (turned_step turned (waits_live connection waiting.tag (waiting.c).waiting waiting.stage)
-      (answer_turns fixed node front.replica conn inputs held connection base story from answer heard
-      (inputs_may_come fixed world story node front conn inputs held connection before from)
+      (answer_turns fixed node front.ups front.replica conn inputs held connection base story from answer heard
+      (inputs_may_come fixed world story node front conn inputs held connection before from) before.requests
       (may_send fixed world story node front conn inputs held connection before from (story.talk.answers conn) (story.course.sessions conn) here waiting)
       names)
-      (answer_reader fixed.setting (ways_for fixed node front.replica) conn connection answer)
+      (answer_reader fixed.setting (ways_for fixed front.ups front.replica) conn connection answer)
       (λ other ne. answer_stays fixed world from node answer rest other frontend first (λ e. ne (e ∙ own))))

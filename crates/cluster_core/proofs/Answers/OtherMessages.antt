@@ -26,7 +26,8 @@ use Rattle.cluster_core.proofs.Connections.ConnectionLaw.{IsInPlaceOf, says_same
 use Rattle.cluster_core.proofs.Connections.KeepsFront.{fronts_at_other}
 use Rattle.cluster_core.proofs.Connections.KeepsLaw.{FeedsHold, KeepsLaw, KeepsOn, fixed_of, murder_of}
 use Rattle.cluster_core.proofs.Connections.Stays.{StaysInPlace, connection_stays}
-use Rattle.cluster_core.proofs.Nodes.Comes.{FrontMoved, front_comes, front_moved, with_front}
+use Rattle.cluster_core.proofs.Nodes.AllCome.{front_all_come}
+use Rattle.cluster_core.proofs.Nodes.Comes.{FrontMoved, front_moved, with_front}
 use Rattle.cluster_core.proofs.Nodes.Stay.{front_cores}
 use Rattle.cluster_core.proofs.Places.FrontFirst.{IsIdle}
 use Rattle.cluster_core.proofs.Places.FrontTakes.{idle_leaves_all, news_leave_others, none_stays, takes_news}
@@ -64,14 +65,14 @@ module _ (config : Config) (heard : ℕ → Heard) (world : World) (law : KeepsL
           master = law.master;
           nodes = front_cores config world next law.master law.nodes to front later there (record { me = refl; master = refl; first = refl; setting = refl })
               refl (moved_so replica);
-          whole = law.whole;
           story = law.story;
+          stops = law.stops;
           given = law.given;
           many = many;
           feeds = feeds;
           is_told = law.is_told;
           requests = law.requests;
-          connections = λ conn. connection_stays fixed conn world next law.story law.story (heard conn)
+          connections = λ conn. connection_stays fixed conn world next law.story law.story (law.stops conn) (heard conn)
               (record {
                 fronts = fronts_at_other world next to front later conn there (moved_so replica) refl;
                 client = refl;
@@ -84,12 +85,13 @@ module _ (config : Config) (heard : ℕ → Heard) (world : World) (law : KeepsL
                 said = refl;
                 session = refl;
                 moving = refl;
+                broken = refl;
               })
               (law.connections conn);
         };
         more = same_talk (talk_told law.story);
         grows = says_same law.story;
-        closed = λ conn shut. refl;
+        closed = λ conn shut. (refl, refl);
       }
 
   -- its own connections with the new replica, those of others with theirs
@@ -126,7 +128,7 @@ module _ (config : Config) (heard : ℕ → Heard) (world : World) (law : KeepsL
       → KeepsOn config law.story law.stops heard (taken_by config heard world law from message to)
   keeps_by replica does stays =
       let is : taken_by config heard world law from message to ≡ with_replica replica =
-      front_comes (taken_from_link world from to) to (From from message) front law.whole there ∙ ap (with_front (taken_from_link world from to) to) does in
+      front_all_come (taken_from_link world from to) to (From from message) front there ∙ ap (with_front (taken_from_link world from to) to) does in
       subst (λ w. KeepsOn config law.story law.stops heard w) (sym is)
       (replica_keeps replica stays (subst (λ w. ManyHold (murder_of w law.master) law.given law.story.course.store) is taken.many)
       (subst (λ w. FeedsHold config w law.master) is taken.feeds))

@@ -25,6 +25,7 @@ use Rattle.mark_history.specs.Marked.{Tale}
 use Rattle.mark_history.specs.declared.mark.MarkKind.TheVariants.{Told}
 use Rattle.mur_base.proofs.MapLaws.{numbers_apart, value_at-with_value}
 use Rattle.mur_model.specs.declared.session.Sess.{Sess}
+use Rattle.front_core.specs.Ups.{Ups}
 use Rattle.cluster_core.specs.declared.world.World.{World}
 use Rattle.cluster_core.specs.World.{carry_all, client_at, home_at}
 use Rattle.cluster_core.proofs.Commands.AllReached.{AreMarkedSo}
@@ -39,11 +40,11 @@ use Rattle.cluster_core.proofs.Answers.Given.{told_keeps, told_world}
 use Rattle.cluster_core.proofs.Answers.Tells.{IsTold}
 
 -- the inputs that waited come to a connection that reads, and it stands behind them (see FrameLaw)
-abbrev pub InputsCome : Fixed → List ℕ → Replica → ℕ → List Input → Option (List ℕ) → World → Tale → Type 0
-InputsCome fixed front replica conn inputs held before story = (passed new : List Input) (connection : Connection) (world : World)
+abbrev pub InputsCome : Fixed → List ℕ → Ups → Replica → ℕ → List Input → Option (List ℕ) → World → Tale → Type 0
+InputsCome fixed front ups replica conn inputs held before story = (passed new : List Input) (connection : Connection) (world : World)
     → passed ++ new ≡ inputs → FaultsLast new held → ReadsOn fixed front replica conn passed connection before story world
-    → StandsOn fixed front replica conn inputs held (inputs_come fixed.setting (ways_for fixed front replica) conn connection new).connection before story
-    (carry_all front world (inputs_come fixed.setting (ways_for fixed front replica) conn connection new).outs)
+    → StandsOn fixed front replica conn inputs held (inputs_come fixed.setting (ways_for fixed ups replica) conn connection new).connection before story
+    (carry_all front world (inputs_come fixed.setting (ways_for fixed ups replica) conn connection new).outs)
 
 -- the message for which the command of a connection waited at this place was taken, and so it is nowhere
 pub record IsHeard (fixed : Fixed) (front : List ℕ) (replica : Replica) (conn : ℕ) (inputs : List Input) (held : Option (List ℕ))
@@ -51,7 +52,7 @@ pub record IsHeard (fixed : Fixed) (front : List ℕ) (replica : Replica) (conn 
   pub count : connection.answered ≡ length (story.told conn)
   pub client : client_at world conn ≡ Some (client_with front inputs (story.told conn))
   pub nothing : IsInPlaceOf fixed world front replica (next_id conn (story.told conn)) place.nowhere
-  pub is_told : AreMarkedSo fixed.setting world.steps world.marks story
+  pub is_told : AreMarkedSo fixed.setting world.broken world.steps world.marks story
   pub waiting : Waiting fixed front conn inputs held connection (story.told conn) (story.talk.answers conn) (story.course.sessions conn) here
 
 -- whatever request it was that waited for it
@@ -60,7 +61,7 @@ pub record IsHeardFor (fixed : Fixed) (front : List ℕ) (replica : Replica) (co
   pub count : connection.answered ≡ length (story.told conn)
   pub client : client_at world conn ≡ Some (client_with front inputs (story.told conn))
   pub nothing : IsInPlaceOf fixed world front replica (next_id conn (story.told conn)) place.nowhere
-  pub is_told : AreMarkedSo fixed.setting world.steps world.marks story
+  pub is_told : AreMarkedSo fixed.setting world.broken world.steps world.marks story
   pub next : IsNext inputs held connection (story.told conn) tag it
 
 pub heard_for : (fixed : Fixed) (front : List ℕ) (replica : Replica) (conn : ℕ) (inputs : List Input) (held : Option (List ℕ)) (connection : Connection)
@@ -81,7 +82,7 @@ heard_for fixed front replica conn inputs held connection world story here heard
   };
 }
 
-module _ (fixed : Fixed) (front : List ℕ) (replica : Replica) (conn : ℕ) (inputs : List Input) (held : Option (List ℕ)) (connection : Connection)
+module _ (fixed : Fixed) (front : List ℕ) (ups : Ups) (replica : Replica) (conn : ℕ) (inputs : List Input) (held : Option (List ℕ)) (connection : Connection)
     (world : World) (story : Tale) (tag : Tag) (it : Command) (heard : IsHeardFor fixed front replica conn inputs held connection world story tag it)
     (how : How) (reply : Reply) (session : Sess)
     (told : IsTold fixed.setting world story conn how (record { tag = tag; reply = reply }) session) where
@@ -105,7 +106,7 @@ module _ (fixed : Fixed) (front : List ℕ) (replica : Replica) (conn : ℕ) (in
     others = told_keeps fixed world conn was text (next_of conn connection) how refl;
     goes_on = told.goes_on;
     store = told.store;
-    is_told = subst (λ n. AreMarkedSo fixed.setting world.steps
+    is_told = subst (λ n. AreMarkedSo fixed.setting world.broken world.steps
         (world.marks ++ (record { step = world.steps; ask = record { conn = conn; command = n + 1 }; kind = Told how }) ∷ []) told.later)
         (sym heard.count) told.is_told;
   }
@@ -160,11 +161,11 @@ module _ (fixed : Fixed) (front : List ℕ) (replica : Replica) (conn : ℕ) (in
           };
         })
 
-    pub read_stands : InputsCome fixed front replica conn inputs held world story
-        → StandsOn fixed front replica conn inputs held (reads_on fixed.setting (ways_for fixed front replica) conn later how text).connection world story
-        (carry_all front world (reads_on fixed.setting (ways_for fixed front replica) conn later how text).outs)
+    pub read_stands : InputsCome fixed front ups replica conn inputs held world story
+        → StandsOn fixed front replica conn inputs held (reads_on fixed.setting (ways_for fixed ups replica) conn later how text).connection world story
+        (carry_all front world (reads_on fixed.setting (ways_for fixed ups replica) conn later how text).outs)
     read_stands come =
-        let behind : Turned = inputs_come fixed.setting (ways_for fixed front replica) conn (reading_again later) connection.waiting in
+        let behind : Turned = inputs_come fixed.setting (ways_for fixed ups replica) conn (reading_again later) connection.waiting in
         subst (λ w. StandsOn fixed front replica conn inputs held behind.connection world story w)
         (sym (carry_all-append front world (told_so conn later how text) behind.outs))
         (come passed connection.waiting (reading_again later) (carry_all front world (told_so conn later how text))
@@ -189,6 +190,7 @@ module _ (fixed : Fixed) (front : List ℕ) (replica : Replica) (conn : ℕ) (in
           here = place.nowhere;
           placed = nowhere_then;
           marked = tt;
+          dropped = tt;
           stands = finished (heard.next).passed connection.waiting (heard.next).request (story.told conn) answer refl (heard.next).parts
               (heard.next).answered told.told is_end (told.said ∙ sym told.told) refl;
         };

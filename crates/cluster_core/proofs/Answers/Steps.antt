@@ -14,11 +14,13 @@ use Rattle.link_msg.specs.declared.out.Out.{Out}
 use Rattle.mark_history.specs.Marked.{Tale}
 use Rattle.mur_model.specs.declared.session.Sess.{Sess}
 use Rattle.route_links.specs.Answered.{IsNumbered}
+use Rattle.front_core.specs.Ups.{Ups}
 use Rattle.cluster_core.specs.declared.world.World.{World}
 use Rattle.cluster_core.specs.World.{carry_all, home_at, taken_from_link}
 use Rattle.cluster_core.proofs.Commands.AllReached.{AreMarkedSo}
 use Rattle.cluster_core.proofs.Commands.Place.{Place}
 use Rattle.cluster_core.proofs.Commands.Standing.{Fixed, Waiting, next_id}
+use Rattle.cluster_core.proofs.Connections.AsksFirst.{Reaches}
 use Rattle.cluster_core.proofs.Connections.ConnectionLaw.{IsMade, PlacesStay, StandsOn}
 use Rattle.cluster_core.proofs.Connections.FrameLaw.{HasNumbersOf, inputs_kept, ways_for}
 use Rattle.cluster_core.proofs.Connections.KeepsFront.{is_at_after, with_connection, world_after}
@@ -30,14 +32,14 @@ use Rattle.cluster_core.proofs.Answers.Replied.{InputsCome}
 -- a connection of a frontend, before the frontend takes a message
 pub record IsBefore (fixed : Fixed) (world : World) (story : Tale) (node : List ℕ) (front : Front) (conn : ℕ) (inputs : List Input)
     (connection : Connection) : Type 0 where
-  pub whole : world.broken ≡ []
   pub at : IsAt world conn node front connection
   pub setting_is : front.setting ≡ fixed.setting
   pub master_is : front.master ≡ fixed.master
-  pub ways_is : ways_of front ≡ ways_for fixed node front.replica
+  pub ways_is : ways_of front ≡ ways_for fixed front.ups front.replica
   pub may : MayAsk fixed (home_at world) node front.replica
+  pub reaches : Reaches fixed.master (home_at world) world.broken front.ups
   pub numbers : HasNumbersOf conn story
-  pub is_told : AreMarkedSo fixed.setting world.steps world.marks story
+  pub is_told : AreMarkedSo fixed.setting world.broken world.steps world.marks story
   pub requests : story.talk.requests conn ≡ requests_in inputs
 
 -- WHAT THE STEP MAKES: the connection is so then, it let this out, and the tale is this one; the commands of all others are where they were
@@ -77,18 +79,19 @@ waits_numbered fixed front conn inputs held connection story said session here w
 module _ (fixed : Fixed) (world : World) (story : Tale) (node : List ℕ) (front : Front) (conn : ℕ) (inputs : List Input) (held : Option (List ℕ))
     (connection : Connection) (before : IsBefore fixed world story node front conn inputs connection) (from : List ℕ) where
   pub may_send : (said : List AnswerOf) (session : Sess) (here : Place)
-      → Waiting fixed node conn inputs held connection (story.told conn) said session here → MaySend fixed node conn (taken_from_link world from node) story
+      → Waiting fixed node conn inputs held connection (story.told conn) said session here → MaySend fixed node front.ups conn (taken_from_link world from node) story
   may_send said session here waiting = record {
     frontend = (before.may).frontend;
-    up = (before.may).up;
+    reaches = before.reaches;
     is_numbered = waits_numbered fixed node conn inputs held connection story said session here waiting before.numbers before.requests;
   }
 
   -- the inputs that waited come behind it
-  pub inputs_may_come : InputsCome fixed node front.replica conn inputs held (taken_from_link world from node) story
+  pub inputs_may_come : InputsCome fixed node front.ups front.replica conn inputs held (taken_from_link world from node) story
   inputs_may_come passed new later next parts last reads =
-      let behind : Turned = inputs_come fixed.setting (ways_for fixed node front.replica) conn later new in
+      let behind : Turned = inputs_come fixed.setting (ways_for fixed front.ups front.replica) conn later new in
       subst (λ (all : List Input). StandsOn fixed node front.replica conn all held behind.connection (taken_from_link world from node) story
       (carry_all node next behind.outs)) parts
-      (inputs_kept fixed node front.replica conn new held (taken_from_link world from node) story (record { may = before.may; numbers = before.numbers }) last
+      (inputs_kept fixed node front.ups front.replica conn new held (taken_from_link world from node) story
+      (record { may = before.may; reaches = before.reaches; numbers = before.numbers }) last
       passed later next (before.requests ∙ ap requests_in (sym parts)) reads)

@@ -27,10 +27,10 @@ pub record IsTold (setting : Setting) (world : World) (story : Tale) (conn : ℕ
   pub told : later.told conn ≡ story.told conn ++ answer ∷ []
   pub said : later.talk.answers conn ≡ story.told conn ++ answer ∷ []
   pub session_is : later.course.sessions conn ≡ session
-  pub is_told : AreMarkedSo setting world.steps (world.marks ++ mark_now world.steps story conn (Told how) ∷ []) later
+  pub is_told : AreMarkedSo setting world.broken world.steps (world.marks ++ mark_now world.steps story conn (Told how) ∷ []) later
 
 -- the store gave it
-pub behind_told : (setting : Setting) (world : World) (story : Tale) (conn : ℕ) (answer : Answer) → AreMarkedSo setting world.steps world.marks story
+pub behind_told : (setting : Setting) (world : World) (story : Tale) (conn : ℕ) (answer : Answer) → AreMarkedSo setting world.broken world.steps world.marks story
     → IsUntold story conn answer → IsTold setting world story conn Behind answer (story.course.sessions conn)
 behind_told setting world story conn answer marked untold = record {
   later = telling story conn answer;
@@ -61,7 +61,7 @@ abbrev pub refusal_session : Tale → ℕ → Command → Sess
 refusal_session story conn it = session_after (story.course.sessions conn) (refused_for (story.course.sessions conn) it BeingMoved).session
 
 -- it is a refusal, since its mailbox is being moved
-pub refusal_told : (setting : Setting) (world : World) (story : Tale) (conn : ℕ) (tag : Tag) (it : Command) → AreMarkedSo setting world.steps world.marks story
+pub refusal_told : (setting : Setting) (world : World) (story : Tale) (conn : ℕ) (tag : Tag) (it : Command) → AreMarkedSo setting world.broken world.steps world.marks story
     → CanRefuse setting world.marks story conn tag it
     → IsTold setting world story conn Reserved (refusal_answer story conn tag it) (refusal_session story conn it)
 refusal_told setting world story conn tag it marked can =

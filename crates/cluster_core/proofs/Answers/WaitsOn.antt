@@ -33,7 +33,7 @@ use Rattle.cluster_core.proofs.Commands.Knows.Knows.{undecided}
 use Rattle.cluster_core.proofs.Commands.Place.{Place, Place as place}
 use Rattle.cluster_core.proofs.Commands.Standing.{Fixed, WaitsAt, next_id}
 use Rattle.cluster_core.proofs.Commands.Standing.Stands.{waits}
-use Rattle.cluster_core.proofs.Connections.ConnectionLaw.{IsInPlaceOf, IsMarkedAt, KeepsOthers, StandsOn, same_story}
+use Rattle.cluster_core.proofs.Connections.ConnectionLaw.{IsDroppedAt, IsInPlaceOf, IsMarkedAt, KeepsOthers, StandsOn, same_story}
 use Rattle.cluster_core.proofs.Places.FrontSends.{ask_leaves_others, noop_leaves_others, sends_ask, sends_noop}
 use Rattle.cluster_core.proofs.Places.Stays.{IsFrontend}
 use Rattle.cluster_core.proofs.Answers.Replied.{IsHeard}
@@ -70,6 +70,7 @@ record IsSent (fixed : Fixed) (front : List ℕ) (replica : Replica) (conn : ℕ
   at : WaitsAt c.waiting.at here
   is_undecided : Undecided fixed.master fixed.first front c here
   no_mark : (moving : ℕ → List ℕ → Bool) (marks : List Mark) (id : AskId) → IsMarkedAt moving marks id here
+  not_dropped : IsDroppedAt (sent_in world front it) front here
 
 module _ (fixed : Fixed) (front : List ℕ) (replica : Replica) (conn : ℕ) (world : World) (frontend : IsFrontend fixed.master (home_at world) front) where
   asked_others : (server : List ℕ) (node : BackNode) (ask : FrontAsk) → home_at world server ≡ Some node → (ask.id).conn ≡ conn
@@ -130,6 +131,7 @@ module _ (fixed : Fixed) (front : List ℕ) (replica : Replica) (conn : ℕ) (wo
         at = e;
         is_undecided = refl;
         no_mark = λ moving marks id. tt;
+        not_dropped = tt;
       })
   sent_so story c next name asking it (at_master cause) e fits backend its numbered nowhere =
       subst (λ i. IsSent fixed front replica conn world story (waiting_as c next name asking) i)
@@ -144,6 +146,7 @@ module _ (fixed : Fixed) (front : List ℕ) (replica : Replica) (conn : ℕ) (wo
         at = subst (λ a. WaitsAt a (place.is_barred barrier.asked)) (sym e) tt;
         is_undecided = tt;
         no_mark = λ moving marks id. tt;
+        not_dropped = tt;
       })
 
 -- ---- the connection waits on
@@ -171,6 +174,7 @@ waits_on_stands fixed front replica conn inputs held connection world story here
         here = is.here;
         placed = is.placed;
         marked = is.no_mark story.talk.moving world.marks (next_id conn (story.told conn));
+        dropped = is.not_dropped;
         stands = waits (record {
           passed = waiting.passed;
           request = waiting.request;

@@ -1,5 +1,5 @@
 -- Whom a frontend asks first for a command: a backend, by the record of the name or by that of the nearest name above; or the master.
-use Rattle.std.proofs.Common.{◌≡◌, ℕ, true, is_some, List, Option, None, Some, refl, ap}
+use Rattle.std.proofs.Common.{◌≡◌, ◌≢◌, ℕ, true, false, List, [], Option, None, Some, refl, sym, ◌∙◌, ap}
 use Rattle.std.specs.Option.{IsSome}
 use Rattle.ask_routes.specs.Ways.{ask_for, first_step, mailbox_first}
 use Rattle.ask_routes.specs.declared.next.Why.{Why}
@@ -14,12 +14,13 @@ use Rattle.feed_core.proofs.RoutesLaw.{found_nearest}
 use Rattle.front_core.specs.Ups.{Ups, is_up}
 use Rattle.imap_types.specs.declared.op.Op.{Op}
 use Rattle.imap_types.specs.declared.op.Op.TheVariants as op
+use Rattle.link_queue.specs.Broken.{Broken}
 use Rattle.many_links.specs.Murder.{Nodes}
 use Rattle.mur_base.specs.Names.{mail_name_fault}
 use Rattle.mur_base.specs.declared.name.NameFault.{NameFault}
 use Rattle.mur_base.specs.declared.point.AskId.{AskId}
 use Rattle.mur_model.specs.declared.session.Sess.{Sess}
-use Rattle.cluster_core.proofs.Connections.KeepsLaw.{IsLinked, NamesBackends}
+use Rattle.cluster_core.proofs.Connections.KeepsLaw.{NamesBackends}
 
 -- ---- the server of the nearest name above, or the first one, is a backend
 
@@ -50,11 +51,17 @@ pub data FirstWay (nodes : Nodes) (master : List ℕ) (id : AskId) (session : Se
   by_server : (server : List ℕ) → IsSome (nodes server) → FirstWay nodes master id session it (asks_server id session it server)
   by_master : (cause : Why) → FirstWay nodes master id session it (asks_master master id it cause)
 
--- so the link to whom it is sent is up
-way_is_up : (nodes : Nodes) (master : List ℕ) (id : AskId) (session : Sess) (it : Waiting) (begun : Begun) (ups : Ups) → IsLinked ups master (λ server. is_some (nodes server))
-    → FirstWay nodes master id session it begun → is_up ups begun.sent.to ≡ true
-way_is_up nodes master id session it begun ups linked (by_server server there) = linked.to_backend server there
-way_is_up nodes master id session it begun ups linked (by_master cause) = linked.to_master
+-- the link to the master is up, and that to a backend isn't only once a link has broken
+pub record Reaches (master : List ℕ) (nodes : Nodes) (broken : Broken) (ups : Ups) : Type 0 where
+  pub up : is_up ups master ≡ true
+  pub cut : (server : List ℕ) → is_up ups server ≡ false → IsSome (nodes server) → broken ≢ []
+
+-- where the link to whom it is sent isn't up, one has broken
+way_cut : (nodes : Nodes) (master : List ℕ) (id : AskId) (session : Sess) (it : Waiting) (begun : Begun) (broken : Broken) (ups : Ups)
+    → Reaches master nodes broken ups → FirstWay nodes master id session it begun → is_up ups begun.sent.to ≡ false → broken ≢ []
+way_cut nodes master id session it begun broken ups reaches (by_server server there) down = reaches.cut server down there
+way_cut nodes master id session it begun broken ups reaches (by_master cause) down =
+    absurd (let no : true ≡ false = sym reaches.up ∙ down in cc)
 
 module _ (nodes : Nodes) (recs : Recs) (master first : List ℕ) (id : AskId) (session : Sess) (it : Waiting) where
   mailbox_way : (name : List ℕ) (server : Option (List ℕ)) → server_at recs name ≡ server → NamesBackends nodes recs
@@ -78,7 +85,7 @@ module _ (nodes : Nodes) (recs : Recs) (master first : List ℕ) (id : AskId) (s
   unfolding first_sent
   first_way known there = way_of it.name it.asking.op known there
 
-  pub first_is_up : (ups : Ups) → IsLinked ups master (λ server. is_some (nodes server)) → NamesBackends nodes recs → IsSome (nodes first)
-      → is_up ups (first_sent recs master first id session it).sent.to ≡ true
-  first_is_up ups linked known there =
-      way_is_up nodes master id session it (first_sent recs master first id session it) ups linked (first_way known there)
+  pub first_cut : (broken : Broken) (ups : Ups) → Reaches master nodes broken ups → NamesBackends nodes recs → IsSome (nodes first)
+      → is_up ups (first_sent recs master first id session it).sent.to ≡ false → broken ≢ []
+  first_cut broken ups reaches known there down =
+      way_cut nodes master id session it (first_sent recs master first id session it) broken ups reaches (first_way known there) down

@@ -2,7 +2,7 @@
 use Rattle.std.proofs.Common.{◌≡◌, ◌≢◌, ℕ, ◌++◌, List, Some, sym, ◌∙◌, ap, subst, arith}
 use Rattle.std.proofs.Math.Logic.{⊎_elim}
 use Rattle.std.proofs.lemmas.Bool.{cases_eq}
-use Rattle.cluster_core.specs.World.{master_of, client_at, comes, front_at, with_state}
+use Rattle.cluster_core.specs.World.{master_of, client_at, front_at, with_state}
 use Rattle.front_core.specs.declared.front.Front.{Front}
 use Rattle.imap_talk.specs.Heard.{Heard}
 use Rattle.master_core.specs.declared.master.Master.{Master}
@@ -23,7 +23,8 @@ use Rattle.cluster_core.proofs.Connections.KeepsStill.ClientStays.{same_client, 
 use Rattle.cluster_core.proofs.Connections.Stays.{ReplicasStay, fixed_places, same_front}
 use Rattle.cluster_core.proofs.Feeds.AtMaster.{master_serves_feeds}
 use Rattle.cluster_core.proofs.Feeds.Many.{master_serves_many}
-use Rattle.cluster_core.proofs.Nodes.Comes.{MasterMoved, master_comes, master_does, master_moved, master_no_front_at, with_master, client_writes}
+use Rattle.cluster_core.proofs.Nodes.AllCome.{all_come, master_all_come}
+use Rattle.cluster_core.proofs.Nodes.Comes.{MasterMoved, master_does, master_moved, master_no_front_at, with_master, client_writes}
 use Rattle.cluster_core.proofs.Nodes.Stay.{master_keeps_nodes}
 use Rattle.cluster_core.proofs.Places.FrontWorlds.{alike_stay}
 
@@ -81,12 +82,12 @@ module _ (config : Config) (heard : ℕ → Heard) (world : World) (conn : ℕ) 
     steps = omega (arith, ap (λ (w : World). w.steps) alone.next_is);
   }
 
-  next_is : comes world me input ≡ next
+  next_is : all_come world me input ≡ next
   next_is =
-      master_comes world me input law.master law.whole (law.nodes).is_there
+      master_all_come world me input law.master (law.nodes).is_there
       ∙ ap (λ w. with_master w me served) (client_writes world me (state.Master law.master) input (of_client conn input is))
 
-  serves : (after : ℕ → Heard) → ((other : ℕ) → after other ≡ heard other) → KeepsOn config law.story law.stops after (comes world me input)
+  serves : (after : ℕ → Heard) → ((other : ℕ) → after other ≡ heard other) → KeepsOn config law.story law.stops after (all_come world me input)
   serves after same =
       subst (λ w. KeepsOn config law.story law.stops after w) (sym next_is)
       (still_kept config heard after world next served.master alike same law

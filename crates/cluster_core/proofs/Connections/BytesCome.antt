@@ -45,7 +45,8 @@ use Rattle.cluster_core.proofs.Commands.Standing.Stands.{lists, waits}
 use Rattle.cluster_core.proofs.Connections.ConnectionLaw.{IsReading, IsStanding, StandsOn, keeps_all, same_story}
 use Rattle.cluster_core.proofs.Connections.FrameLaw.{HasNumbersOf, inputs_kept, ways_for}
 use Rattle.cluster_core.proofs.Connections.KeepsLaw.{IsAt, KeepsLaw, fixed_of}
-use Rattle.cluster_core.proofs.Connections.MayAskAt.{may_ask}
+use Rattle.cluster_core.proofs.Links.Stand.{LinksStand}
+use Rattle.cluster_core.proofs.Connections.MayAskAt.{may_ask, reaches}
 use Rattle.cluster_core.proofs.Connections.OwnOuts.{inputs_own, own_noops}
 use Rattle.cluster_core.specs.Numbers.{HeardFits, NumbersFit}
 
@@ -180,7 +181,7 @@ bytes_many setting bytes =
 -- ---- more bytes of a connection at its frontend
 
 abbrev pub ways_same : Config → List ℕ → Front → Ways
-ways_same config node front = ways_for (fixed_of config) node front.replica
+ways_same config node front = ways_for (fixed_of config) front.ups front.replica
 
 module _ (config : Config) (heard : ℕ → Heard) (world : World) (law : KeepsLaw config heard world) (conn : ℕ) (bytes more node : List ℕ) (front : Front)
     (connection : Connection) (e : heard conn ≡ client bytes false) (at : IsAt world conn node front connection)
@@ -215,20 +216,24 @@ module _ (config : Config) (heard : ℕ → Heard) (world : World) (law : KeepsL
       let few : length (told.talk.requests conn) < 2 ^ 64 = omega (arith, ap length so, bytes_many (setting_of config) (bytes ++ more), its_numbers.1) in
       (its_numbers.0, few)
 
-  pub now_told : (held : Read) → reading_of (setting_of config) bytes ≡ held → AreMarkedSo (setting_of config) world.steps world.marks told
+  pub now_told : (held : Read) → reading_of (setting_of config) bytes ≡ held → AreMarkedSo (setting_of config) world.broken world.steps world.marks told
   now_told held is =
       asks_more world.steps world.marks law.story _ (asked_more config heard conn bytes more held e is law.story.talk.requests law.requests) law.is_told
 
-  pub reading_behind : connection.reader ≡ reading_of (setting_of config) bytes
+  pub reading_behind : LinksStand config world → connection.reader ≡ reading_of (setting_of config) bytes
       → IsReading fixed node front.replica conn (inputs_in (setting_of config) bytes) connection world law.story → Behind
-  reading_behind reader reading =
+  reading_behind links reader reading =
       let held : reading_of (setting_of config) bytes ≡ connection.reader = sym reader in
       subst (λ f. StandsOn fixed node front.replica conn f (begun (bytes ++ more)) turned.connection world told
       (carry_all node world turned.outs)) (sym (inputs_with_more (setting_of config) bytes more connection.reader held))
       (subst (λ h. StandsOn fixed node front.replica conn (inputs_in (setting_of config) bytes ++ new) h turned.connection world told
       (carry_all node world turned.outs)) (sym (ap (λ (r : Read). r.held) (reading_with_more (setting_of config) bytes more connection.reader held)))
-      (inputs_kept fixed node front.replica conn new (read_more (setting_of config) connection.reader more).held world told
-      (record { may = may_ask config heard world node front law at.at; numbers = told_numbers connection.reader held })
+      (inputs_kept fixed node front.ups front.replica conn new (read_more (setting_of config) connection.reader more).held world told
+      (record {
+        may = may_ask config heard world node front law at.at;
+        reaches = reaches config heard world node front law links at.at;
+        numbers = told_numbers connection.reader held;
+      })
       (faults_after (setting_of config) bytes more connection.reader held)
       (inputs_in (setting_of config) bytes) (having_read (setting_of config) connection more) world
       (all_inputs config heard conn bytes more connection.reader e held)
@@ -269,7 +274,7 @@ module _ (config : Config) (heard : ℕ → Heard) (world : World) (law : KeepsL
         its_numbers.1,
       ) in
       own_noops (master_of config) (home_at world) conn (connection.answered + length new) turned.outs its_numbers.0 few (may.frontend).master_no_home
-      (inputs_own fixed (home_at world) node front.replica conn may.knows may.first (having_read (setting_of config) connection more) new)
+      (inputs_own fixed (home_at world) front.ups front.replica conn may.knows may.first (having_read (setting_of config) connection more) new)
 
   -- the inputs of more bytes wait behind a command that waits
   abbrev Waits_on : Turned
@@ -336,6 +341,7 @@ module _ (config : Config) (heard : ℕ → Heard) (world : World) (law : KeepsL
           here = standing.here;
           placed = standing.placed;
           marked = standing.marked;
+          dropped = standing.dropped;
           stands = stands;
         };
       })

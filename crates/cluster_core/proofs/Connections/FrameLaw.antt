@@ -1,6 +1,6 @@
 -- The inputs of one connection keep the law: each request gets its answer, or begins to wait for a backend or the master; a literal gets its continuation, a
 -- fault its line.
-use Rattle.std.proofs.Common.{◌≡◌, ℕ, ◌+◌, ◌<◌, ◌^◌, List, [], ◌∷◌, ◌++◌, length, Option, None, Some, refl, sym, ◌∙◌, ap, subst, append_assoc, length-append, true, false, arith}
+use Rattle.std.proofs.Common.{◌≡◌, ℕ, ◌+◌, ◌<◌, ◌^◌, List, [], ◌∷◌, ◌++◌, length, Option, None, Some, refl, sym, ◌∙◌, ap, subst, append_assoc, length-append, Bool, true, false, arith}
 use Rattle.std.specs.Ordering.{nat_cmp}
 use Rattle.std.proofs.lemmas.List.{append-nil}
 use Rattle.asking_core.specs.Begins.{Begun, ask_of, first_sent}
@@ -13,7 +13,8 @@ use Rattle.front_core.proofs.OneConnection.Readings.{FaultsLast}
 use Rattle.front_core.specs.declared.connection.Connection.{Connection}
 use Rattle.front_core.specs.declared.connection.Stage.{Stage}
 use Rattle.front_core.specs.declared.connection.Stage.TheVariants.{Reading, Waits, Lists, Ended}
-use Rattle.front_core.specs.Taken.{Turned, Ways, answers_now, answers_last, begins_if, comes_at, input_comes, input_in, inputs_come, lists_if, lists_with, request_in, to_begin, told_now, ways_by}
+use Rattle.front_core.specs.Taken.{Turned, Ways, answers_now, answers_last, asks, begins_if, comes_at, input_comes, input_in, inputs_come, lists_if, lists_with, request_in, to_begin, told_now, ways_by}
+use Rattle.front_core.specs.Ups.{Ups, is_up}
 use Rattle.front_core.proofs.FramesLaws.{HoldsBack, ended_drops, held_back}
 use Rattle.front_core.proofs.OneConnection.FrontAnswers.{IsTaken, request_taken}
 use Rattle.front_core.proofs.OneConnection.FrontAnswers.IsTaken.{here, finishes, asked, listed}
@@ -69,17 +70,17 @@ use Rattle.cluster_core.proofs.Commands.Knows.KnowsNames.{not_yet}
 use Rattle.cluster_core.proofs.Commands.Place.{Place, Place as place}
 use Rattle.cluster_core.proofs.Commands.Standing.{Fixed, IsCommandOf, Stands, WaitsAt, next_id}
 use Rattle.cluster_core.proofs.Commands.Standing.Stands.{reads, waits, lists as waits_listing, faulted, finished}
-use Rattle.cluster_core.proofs.Connections.AsksFirst.{FirstWay, first_is_up, first_way}
+use Rattle.cluster_core.proofs.Connections.AsksFirst.{FirstWay, Reaches, first_cut, first_way}
 use Rattle.cluster_core.proofs.Connections.AsksFirst.FirstWay.{by_server, by_master}
-use Rattle.cluster_core.proofs.Connections.ConnectionLaw.{IsInPlaceOf, IsMarkedAt, ReadsOn, StandsOn, client_with, keeps_on, session_at}
+use Rattle.cluster_core.proofs.Connections.ConnectionLaw.{IsDroppedAt, IsInPlaceOf, IsMarkedAt, ReadsOn, StandsOn, client_with, keeps_on, session_at}
 use Rattle.cluster_core.proofs.Connections.Nowhere.{nowhere_too}
 use Rattle.cluster_core.proofs.Connections.Said.{IsAnsweredSo, answer_carried, carry_all-append, counted_one, end_carried, given_keeps, given_world, last_carried, line_carried, said_made, said_one, said_tale, told_one}
 use Rattle.cluster_core.proofs.Connections.Sends.{MayAsk, SendsSo, asks_so, bars_so, may_ask_later}
 use Rattle.cluster_core.proofs.Places.FrontWorlds.{with_sent}
 
 -- by what a frontend of this replica decides whom it asks
-abbrev pub ways_for : Fixed → List ℕ → Replica → Ways
-ways_for fixed front replica = ways_by replica.records fixed.master fixed.first (fixed.ups front)
+abbrev pub ways_for : Fixed → Ups → Replica → Ways
+ways_for fixed ups replica = ways_by replica.records fixed.master fixed.first ups
 
 -- its commands have numbers of 64 bits
 abbrev pub HasNumbersOf : ℕ → Tale → Type 0
@@ -165,6 +166,7 @@ module _ (fixed : Fixed) (front : List ℕ) (replica : Replica) (conn : ℕ) whe
           placed = nowhere_too fixed.master (home_at world) world.links front replica (next_id conn (story.told conn)) (length (now.told conn) + 1)
               was.reading.nothing;
           marked = tt;
+          dropped = tt;
           stands = finished inputs more request (story.told conn) answer refl refl was.reading.answered one is_end
               (said_one fixed.setting story conn request tag reply session_ended is ∙ sym one) refl;
         };
@@ -234,6 +236,7 @@ module _ (fixed : Fixed) (front : List ℕ) (replica : Replica) (conn : ℕ) whe
           here = place.nowhere;
           placed = was.reading.nothing;
           marked = tt;
+          dropped = tt;
           stands = faulted refl none
               (ap length (requests-append inputs (Faults fault ∷ []) ∙ append-nil (requests_in inputs))
               ∙ answered_lengths inputs (story.told conn) was.reading.answered)
@@ -252,13 +255,14 @@ module _ (fixed : Fixed) (front : List ℕ) (replica : Replica) (conn : ℕ) whe
       (request : Request) (stage : Stage) (to : List ℕ) (message : LinkMsg) (its_place : Place)
       (was : ReadsOn fixed front replica conn inputs connection before told world)
       → IsMarkedAt was.story.talk.moving world.marks (next_id conn (was.story.told conn)) its_place
+      → IsDroppedAt (with_sent world front to message) front its_place
       → SendsSo fixed world (with_sent world front to message) front replica (next_at connection) its_place
       → Stands fixed front conn (inputs ++ Asks request ∷ waiting) held (record connection { waiting = waiting; stage = stage })
       (was.story.told conn) (was.story.talk.answers conn) (was.story.course.sessions conn) its_place
       → StandsOn fixed front replica conn (inputs ++ Asks request ∷ waiting) held
       (record connection { waiting = waiting; stage = stage }) before told (carry_all front world (to_node to message ∷ []))
   unfolding carry_all carry
-  sent_here inputs waiting held connection before told world request stage to message its_place was marked sends stands =
+  sent_here inputs waiting held connection before told world request stage to message its_place was marked dropped sends stands =
       let story = was.story in
       let next : World = with_sent world front to message in
       record {
@@ -285,6 +289,7 @@ module _ (fixed : Fixed) (front : List ℕ) (replica : Replica) (conn : ℕ) whe
               (sends.own (subst (λ n. IsInPlaceOf fixed world front replica (record { conn = conn; command = n + 1 }) place.nowhere)
               (sym was.reading.count) was.reading.nothing));
           marked = marked;
+          dropped = dropped;
           stands = stands;
         };
       }
@@ -296,11 +301,12 @@ module _ (fixed : Fixed) (front : List ℕ) (replica : Replica) (conn : ℕ) whe
       → IsCommandOf fixed conn (was.story.told conn) connection.session c → WaitsAt c.waiting.at its_place
       → Undecided fixed.master fixed.first front c its_place
       → IsMarkedAt was.story.talk.moving world.marks (next_id conn (was.story.told conn)) its_place
+      → IsDroppedAt (with_sent world front to message) front its_place
       → SendsSo fixed world (with_sent world front to message) front replica (next_at connection) its_place
       → StandsOn fixed front replica conn (inputs ++ Asks request ∷ waiting) held
       (record connection { waiting = waiting; stage = Waits tag c.waiting }) before told (carry_all front world (to_node to message ∷ []))
-  waits_here inputs waiting held connection before told world request tag to message c its_place was is last of at so marked sends =
-      sent_here inputs waiting held connection before told world request (Waits tag c.waiting) to message its_place was marked sends (waits (record {
+  waits_here inputs waiting held connection before told world request tag to message c its_place was is last of at so marked dropped sends =
+      sent_here inputs waiting held connection before told world request (Waits tag c.waiting) to message its_place was marked dropped sends (waits (record {
         passed = inputs;
         request = request;
         tag = tag;
@@ -347,12 +353,12 @@ module _ (fixed : Fixed) (front : List ℕ) (replica : Replica) (conn : ℕ) whe
       let c : ClientCommand = begins_at (next_id conn (was.story.told conn)) connection.session it name work need (Home server) in
       waits_here inputs waiting held connection before told world request tag server (Ask ask) c (place.is_asked server ask) was is last
       (record { setting_is = refl; its = refl; was_is = refl }) refl
-      (ap (λ n. ask_of (record { conn = conn; command = n + 1 }) connection.session first) was.reading.count) tt
+      (ap (λ n. ask_of (record { conn = conn; command = n + 1 }) connection.session first) was.reading.count) tt tt
       (asks_so fixed world front server replica ask may.frontend there)
   asked_by inputs waiting held connection before told world request tag it name work begun was is need last may numbered (by_master cause) =
       let c : ClientCommand = begins_at (next_id conn (was.story.told conn)) connection.session it name work need (Barrier cause) in
       waits_here inputs waiting held connection before told world request tag fixed.master (noop_of (next_at connection)) c (place.is_barred barrier.asked) was
-      is last (record { setting_is = refl; its = refl; was_is = refl }) tt tt tt
+      is last (record { setting_is = refl; its = refl; was_is = refl }) tt tt tt tt
       (bars_so fixed world front replica (next_at connection) may.frontend numbered)
 
   -- what begins to wait, and what goes out for it
@@ -391,7 +397,7 @@ module _ (fixed : Fixed) (front : List ℕ) (replica : Replica) (conn : ℕ) whe
   listed_kept inputs waiting held connection before told world request tag it listing was is need last may numbered =
       let may_now : MayAsk fixed (home_at world) front replica = may_ask_later fixed before world front replica was.made.others.nodes may in
       sent_here inputs waiting held connection before told world request (Lists tag listing) fixed.master (noop_of (next_at connection))
-      (place.is_barred barrier.asked) was tt (bars_so fixed world front replica (next_at connection) may_now.frontend numbered)
+      (place.is_barred barrier.asked) was tt tt (bars_so fixed world front replica (next_at connection) may_now.frontend numbered)
       (waits_listing (record {
         tag = tag;
         it = it;
@@ -415,14 +421,14 @@ reads_input : (setting : Setting) (ways : Ways) (conn : ℕ) (connection : Conne
 unfolding input_comes comes_at
 reads_input setting ways conn connection input e = ap (comes_at setting ways conn connection input) e
 
-module _ (fixed : Fixed) (front : List ℕ) (replica : Replica) (conn : ℕ) where
+module _ (fixed : Fixed) (front : List ℕ) (ups : Ups) (replica : Replica) (conn : ℕ) where
   -- what inputs make of a connection of this frontend
   abbrev come : Connection → List Input → Turned
-  come connection inputs = inputs_come fixed.setting (ways_for fixed front replica) conn connection inputs
+  come connection inputs = inputs_come fixed.setting (ways_for fixed ups replica) conn connection inputs
 
   -- an input, and then the others
   came_on : (all : List Input) (held : Option (List ℕ)) (connection : Connection) (before : World) (told : Tale) (world : World)
-      (input : Input) (inputs : List Input) (turned : Turned) → input_comes fixed.setting (ways_for fixed front replica) conn connection input ≡ turned
+      (input : Input) (inputs : List Input) (turned : Turned) → input_comes fixed.setting (ways_for fixed ups replica) conn connection input ≡ turned
       → StandsOn fixed front replica conn all held (come turned.connection inputs).connection before told
       (carry_all front (carry_all front world turned.outs) (come turned.connection inputs).outs)
       → StandsOn fixed front replica conn all held (come connection (input ∷ inputs)).connection before told
@@ -443,7 +449,7 @@ module _ (fixed : Fixed) (front : List ℕ) (replica : Replica) (conn : ℕ) whe
       subst (λ n. StandsOn fixed front replica conn (inputs ++ Faults fault ∷ n) held (come connection (Faults fault ∷ n)).connection before told
       (carry_all front world (come connection (Faults fault ∷ n)).outs)) (sym nil)
       (came_on (inputs ++ Faults fault ∷ []) held connection before told world (Faults fault) [] _
-      (reads_input fixed.setting (ways_for fixed front replica) conn connection (Faults fault) was.reading.stage_is)
+      (reads_input fixed.setting (ways_for fixed ups replica) conn connection (Faults fault) was.reading.stage_is)
       (faulted_here fixed front replica conn inputs held connection before told world fault none was))
 
   -- the inputs of a piece that haven't ended stand so
@@ -459,6 +465,7 @@ module _ (fixed : Fixed) (front : List ℕ) (replica : Replica) (conn : ℕ) whe
       here = place.nowhere;
       placed = was.reading.nothing;
       marked = tt;
+      dropped = tt;
       stands = reads was.reading.stage_is was.reading.waiting_is was.reading.session_is was.reading.goes_on was.reading.answered was.reading.said refl;
     };
   }
@@ -498,7 +505,7 @@ module _ (fixed : Fixed) (front : List ℕ) (replica : Replica) (conn : ℕ) whe
 
   -- an input behind which the connection reads on
   read_on : (inputs new : List Input) (input : Input) (held : Option (List ℕ)) (connection : Connection) (before : World) (told : Tale) (world : World)
-      (turned : Turned) → input_comes fixed.setting (ways_for fixed front replica) conn connection input ≡ turned
+      (turned : Turned) → input_comes fixed.setting (ways_for fixed ups replica) conn connection input ≡ turned
       → told.talk.requests conn ≡ requests_in (inputs ++ input ∷ new)
       → Follow new held before told
       → ReadsOn fixed front replica conn (inputs ++ input ∷ []) turned.connection before told (carry_all front world turned.outs)
@@ -514,12 +521,13 @@ module _ (fixed : Fixed) (front : List ℕ) (replica : Replica) (conn : ℕ) whe
   -- whom the frontend may ask, and what numbers its commands have
   pub record MaySend (before : World) (told : Tale) : Type 0 where
     pub may : MayAsk fixed (home_at before) front replica
+    pub reaches : Reaches fixed.master (home_at before) before.broken ups
     pub numbers : HasNumbersOf conn told
 
   -- a message goes out for a request, and the inputs behind it wait
   sent_kept : (inputs new : List Input) (request : Request) (held : Option (List ℕ)) (connection : Connection) (before : World) (told : Tale) (world : World)
       (stage : Stage) (outs : List Out) (was : ReadsOn fixed front replica conn inputs connection before told world) → HoldsBack stage
-      → request_in fixed.setting (ways_for fixed front replica) conn connection request ≡ record { connection = record connection { stage = stage }; outs = outs }
+      → request_in fixed.setting (ways_for fixed ups replica) conn connection request ≡ record { connection = record connection { stage = stage }; outs = outs }
       → StandsOn fixed front replica conn (inputs ++ Asks request ∷ new) held (record connection { waiting = new; stage = stage }) before told
       (carry_all front (carry_all front world outs) [])
       → StandsOn fixed front replica conn (inputs ++ Asks request ∷ new) held (come connection (Asks request ∷ new)).connection before told
@@ -528,23 +536,43 @@ module _ (fixed : Fixed) (front : List ℕ) (replica : Replica) (conn : ℕ) whe
   sent_kept inputs new request held connection before told world stage outs was holds form stands =
       let turned : Turned = record { connection = record connection { stage = stage }; outs = outs } in
       let waits_all : come turned.connection new ≡ record { connection = record connection { waiting = new; stage = stage }; outs = [] } =
-      held_back fixed.setting (ways_for fixed front replica) conn turned.connection new holds
+      held_back fixed.setting (ways_for fixed ups replica) conn turned.connection new holds
       ∙ ap (λ w. record { connection = record connection { waiting = w ++ new; stage = stage }; outs = [] }) was.reading.waiting_is in
       came_on (inputs ++ Asks request ∷ new) held connection before told world (Asks request) new turned
-      (reads_input fixed.setting (ways_for fixed front replica) conn connection (Asks request) was.reading.stage_is ∙ form)
+      (reads_input fixed.setting (ways_for fixed ups replica) conn connection (Asks request) was.reading.stage_is ∙ form)
       (subst (λ (t : Turned). StandsOn fixed front replica conn (inputs ++ Asks request ∷ new) held t.connection before told
       (carry_all front (carry_all front world turned.outs) t.outs)) (sym waits_all) stands)
+
+  -- it is sent, or its server isn't reached
+  asked_if : (inputs new : List Input) (request : Request) (held : Option (List ℕ)) (connection : Connection) (before : World) (told : Tale) (world : World)
+      (was : ReadsOn fixed front replica conn inputs connection before told world) → MaySend before told → FaultsLast new held
+      → told.talk.requests conn ≡ requests_in (inputs ++ Asks request ∷ new)
+      → Follow new held before told → (tag : Tag) (it : Command) (name : List ℕ) (work : Work) → request ≡ a_command tag it
+      → need_of fixed.setting (was.story.course.sessions conn) it ≡ Mailbox name work
+      → ((c : Connection) → c.session ≡ was.story.course.sessions conn
+      → request_in fixed.setting (ways_for fixed ups replica) conn c request ≡ asks (ways_for fixed ups replica) conn c tag name (asked_for name work))
+      → (up : Bool) → is_up ups (begun_at fixed front replica conn connection name work).sent.to ≡ up
+      → StandsOn fixed front replica conn (inputs ++ Asks request ∷ new) held (come connection (Asks request ∷ new)).connection before told
+      (carry_all front world (come connection (Asks request ∷ new)).outs)
+  unfolding input_in requests_in
+  asked_if inputs new request held connection before told world was sends last all follow tag it name work is need form true up =
+      let begun : Begun = begun_at fixed front replica conn connection name work in
+      sent_kept inputs new request held connection before told world (Waits tag begun.waiting) (to_node begun.sent.to begun.sent.message ∷ []) was tt
+      (form connection was.reading.session_is ∙ ap (λ b. begins_if b conn connection tag begun) up)
+      (asked_kept fixed front replica conn inputs new held connection before told world request tag it name work was is need last sends.may
+      (next_numbered inputs new (Asks request) connection before told world request was all refl sends.numbers))
+  asked_if inputs new request held connection before told world was sends last all follow tag it name work is need form false down = ?
 
   request_kept : (inputs new : List Input) (request : Request) (held : Option (List ℕ)) (connection : Connection) (before : World) (told : Tale) (world : World)
       (was : ReadsOn fixed front replica conn inputs connection before told world) → MaySend before told → FaultsLast new held
       → told.talk.requests conn ≡ requests_in (inputs ++ Asks request ∷ new)
-      → Follow new held before told → IsTaken fixed.setting (ways_for fixed front replica) conn (was.story.course.sessions conn) request
+      → Follow new held before told → IsTaken fixed.setting (ways_for fixed ups replica) conn (was.story.course.sessions conn) request
       → StandsOn fixed front replica conn (inputs ++ Asks request ∷ new) held (come connection (Asks request ∷ new)).connection before told
       (carry_all front world (come connection (Asks request ∷ new)).outs)
   unfolding input_in requests_in carry_all
   request_kept inputs new request held connection before told world was sends last all follow (here tag reply session is alone stays lasts form) =
       read_on inputs new (Asks request) held connection before told world (answers_now conn connection session tag reply)
-      (reads_input fixed.setting (ways_for fixed front replica) conn connection (Asks request) was.reading.stage_is ∙ form connection was.reading.session_is)
+      (reads_input fixed.setting (ways_for fixed ups replica) conn connection (Asks request) was.reading.stage_is ∙ form connection was.reading.session_is)
       all follow
       (answered_here fixed front replica conn inputs (inputs ++ Asks request ∷ []) connection before told world request tag reply session was
       (next_of inputs new (Asks request) connection before told world request was all refl) is alone stays lasts
@@ -552,25 +580,19 @@ module _ (fixed : Fixed) (front : List ℕ) (replica : Replica) (conn : ℕ) whe
   request_kept inputs new request held connection before told world was sends last all follow (finishes tag it reply command is alone is_end form) =
       let turned : Turned = last_of conn connection tag reply in
       came_on (inputs ++ Asks request ∷ new) held connection before told world (Asks request) new turned
-      (reads_input fixed.setting (ways_for fixed front replica) conn connection (Asks request) was.reading.stage_is ∙ form connection was.reading.session_is)
+      (reads_input fixed.setting (ways_for fixed ups replica) conn connection (Asks request) was.reading.stage_is ∙ form connection was.reading.session_is)
       (subst (λ (t : Turned). StandsOn fixed front replica conn (inputs ++ Asks request ∷ new) held t.connection before told
       (carry_all front (carry_all front world turned.outs) t.outs))
-      (sym (last_turned fixed.setting (ways_for fixed front replica) conn (record connection { session = session_ended }) tag reply new))
+      (sym (last_turned fixed.setting (ways_for fixed ups replica) conn (record connection { session = session_ended }) tag reply new))
       (last_here fixed front replica conn inputs new held connection before told world request tag reply was
       (next_of inputs new (Asks request) connection before told world request was all refl) is alone is_end))
   request_kept inputs new request held connection before told world was sends last all follow (asked tag it name work is need form) =
-      let begun : Begun = begun_at fixed front replica conn connection name work in
-      sent_kept inputs new request held connection before told world (Waits tag begun.waiting) (to_node begun.sent.to begun.sent.message ∷ []) was tt
-      (form connection was.reading.session_is
-      ∙ ap (λ up. begins_if up conn connection tag begun) (first_is_up (home_at before) replica.records fixed.master fixed.first
-      (record { conn = conn; command = connection.answered + 1 }) connection.session (to_begin name (asked_for name work)) (fixed.ups front)
-      sends.may.up sends.may.knows sends.may.first))
-      (asked_kept fixed front replica conn inputs new held connection before told world request tag it name work was is need last sends.may
-      (next_numbered inputs new (Asks request) connection before told world request was all refl sends.numbers))
+      asked_if inputs new request held connection before told world was sends last all follow tag it name work is need form
+      (is_up ups (begun_at fixed front replica conn connection name work).sent.to) refl
   request_kept inputs new request held connection before told world was sends last all follow (listed tag it listing is need form) =
       sent_kept inputs new request held connection before told world (Lists tag listing)
       (lists_with fixed.master conn connection tag listing).outs was tt
-      (form connection was.reading.session_is ∙ ap (λ up. lists_if up fixed.master conn connection tag listing) sends.may.up.to_master)
+      (form connection was.reading.session_is ∙ ap (λ up. lists_if up fixed.master conn connection tag listing) sends.reaches.up)
       (listed_kept fixed front replica conn inputs new held connection before told world request tag it listing was is need last sends.may
       (next_numbered inputs new (Asks request) connection before told world request was all refl sends.numbers))
 
@@ -584,11 +606,11 @@ module _ (fixed : Fixed) (front : List ℕ) (replica : Replica) (conn : ℕ) whe
   inputs_kept (Asks request ∷ new) held before told sends last = λ inputs connection world all was.
       request_kept inputs new request held connection before told world was sends last all
       (inputs_kept new held before told sends last)
-      (request_taken fixed.setting (ways_for fixed front replica) conn (was.story.course.sessions conn) request was.reading.goes_on)
+      (request_taken fixed.setting (ways_for fixed ups replica) conn (was.story.course.sessions conn) request was.reading.goes_on)
   inputs_kept (GoesOn why ∷ new) held before told sends last = λ inputs connection world all was.
       read_on inputs new (GoesOn why) held connection before told world
       (record { connection = connection; outs = to_client conn (continuation_line why) ∷ [] })
-      (reads_input fixed.setting (ways_for fixed front replica) conn connection (GoesOn why) was.reading.stage_is) all
+      (reads_input fixed.setting (ways_for fixed ups replica) conn connection (GoesOn why) was.reading.stage_is) all
       (inputs_kept new held before told sends last)
       (awaited_here fixed front replica conn inputs connection before told world why was)
   inputs_kept (Faults fault ∷ new) held before told sends last = λ inputs connection world all was.

@@ -2,7 +2,7 @@
 use Rattle.std.proofs.Common.{◌≡◌, ℕ, true, false, List, [], ◌∷◌, ◌++◌, Option, None, Some, inl, inr, refl, sym, ◌∙◌, ap, subst, append_assoc}
 use Rattle.std.proofs.Math.Logic.{⊎_elim}
 use Rattle.cluster_core.specs.Heard.{hears}
-use Rattle.cluster_core.specs.World.{master_of, setting_of, carry_all, client_at, client_does, front_at, node_at}
+use Rattle.cluster_core.specs.World.{master_of, setting_of, carry_all, client_at, front_at, node_at}
 use Rattle.feed_core.specs.declared.replica.Replica.{Replica}
 use Rattle.feed_links.specs.Lines.{messages_to}
 use Rattle.feed_links.specs.OneFeed.{AreNoops}
@@ -20,8 +20,8 @@ use Rattle.front_core.proofs.FramesLaws.{HoldsBack}
 use Rattle.imap_reply.specs.Greeting.{greeting}
 use Rattle.imap_talk.specs.Heard.{Heard, client}
 use Rattle.imap_talk.specs.Inputs.{inputs_from}
-use Rattle.imap_talk.specs.Transcript.{ends, replies_to}
-use Rattle.imap_talk.specs.Transcript.Stop.{silent}
+use Rattle.imap_talk.specs.Transcript.{Stop, ends, replies_to}
+use Rattle.imap_talk.specs.Transcript.Stop.{is_lost, silent}
 use Rattle.imap_talk.specs.declared.inputs.Input.{Input}
 use Rattle.imap_talk.specs.declared.inputs.Input.TheVariants.{Asks}
 use Rattle.imap_talk.proofs.TranscriptGrows.{AreAnswered, end_told}
@@ -49,13 +49,15 @@ use Rattle.cluster_core.proofs.Connections.BytesCome.{Behind, after_data, asked_
 use Rattle.cluster_core.proofs.Connections.ConnectionLaw.{IsInPlaceOf, IsReading, IsStanding, says_same, says_then}
 use Rattle.cluster_core.proofs.Connections.KeepsFront.{front_keeps, is_at_after, standing_after, turned_so, with_connection, world_after}
 use Rattle.cluster_core.proofs.Connections.MayAskAt.{ways_same_by}
-use Rattle.cluster_core.proofs.Connections.KeepsLaw.{ConnectionIs, FeedsHold, IsAt, KeepsLaw, KeepsOn, fixed_of}
-use Rattle.cluster_core.proofs.Connections.KeepsLaw.ConnectionIs.{is_nobody, is_elsewhere, is_open, is_closed}
+use Rattle.cluster_core.proofs.Connections.KeepsLaw.{ConnectionIs, FeedsHold, IsAt, IsGone, IsUnanswered, KeepsLaw, KeepsOn, fixed_of}
+use Rattle.cluster_core.proofs.Connections.KeepsLaw.ConnectionIs.{is_nobody, is_elsewhere, is_open, is_cut_off, is_closed}
 use Rattle.cluster_core.proofs.Connections.KeepsStill.{MasterServes, elsewhere_kept, put_kept, same_kept}
 use Rattle.cluster_core.proofs.Connections.Stays.{ReplicasStay, fixed_places, is_not_closed, same_front, each_stays}
 use Rattle.cluster_core.proofs.Feeds.Beside.{front_client_feeds}
 use Rattle.cluster_core.proofs.Feeds.Many.{front_keeps_many}
-use Rattle.cluster_core.proofs.Nodes.Comes.{front_comes, with_front}
+use Rattle.cluster_core.proofs.Links.Stand.{LinksStand}
+use Rattle.cluster_core.proofs.Nodes.AllCome.{all_of_client, front_all_come}
+use Rattle.cluster_core.proofs.Nodes.Comes.{with_front}
 use Rattle.cluster_core.specs.Numbers.{NumbersFit}
 
 -- ---- what a frontend does with the bytes
@@ -115,12 +117,13 @@ standing_released fixed front replica conn inputs held connection world story is
   here = is.here;
   placed = is.placed;
   marked = is.marked;
+  dropped = is.dropped;
   stands = stands_released fixed front conn inputs held connection (story.told conn) (story.talk.answers conn) (story.course.sessions conn) is.here is.stands;
 }
 
 module _ (config : Config) (heard : ℕ → Heard) (world : World) (law : KeepsLaw config heard world) (conn : ℕ) (bytes more node : List ℕ) (front : Front)
     (connection : Connection) (e : heard conn ≡ client bytes false) (at : IsAt world conn node front connection)
-    (fits : NumbersFit (after_data config heard conn more)) where
+    (fits : NumbersFit (after_data config heard conn more)) (stop : Stop) (stop_is : law.stops conn ≡ stop) where
   abbrev fixed : Fixed
   fixed = fixed_of config
 
@@ -145,11 +148,11 @@ module _ (config : Config) (heard : ℕ → Heard) (world : World) (law : KeepsL
   kept = released its_turn.connection
 
   -- a connection that hasn't ended takes more bytes
-  taken_more : bytes_in front conn more ≡ with_turned front conn (read_turned front conn connection more)
+  taken_more : stop ≡ silent → bytes_in front conn more ≡ with_turned front conn (read_turned front conn connection more)
       → connection.reader ≡ reading_of (setting_of config) bytes → AreNoops (messages_to (master_of config) its_turn.outs)
       → Behind config heard world law conn bytes more node front connection e at fits
       → KeepsOn config law.story law.stops after (with_front world node (bytes_in front conn more))
-  taken_more does reader noops behind =
+  taken_more open_is does reader noops behind =
       let step : bytes_in front conn more ≡ turned_so front conn kept its_turn.outs = does ∙ ap (with_turned front conn) turned_same in
       let read : having_read (setting_of config) connection more ≡ having_read (setting_of config) connection more = refl in
       let reads_so : HasBegunSo its_turn.connection (reading_of (setting_of config) (bytes ++ more)) =
@@ -157,7 +160,7 @@ module _ (config : Config) (heard : ℕ → Heard) (world : World) (law : KeepsL
       (inputs_of_more (setting_of config) connection.reader more)
       ∙ sym (reading_with_more (setting_of config) bytes more connection.reader (sym reader))) in
       subst (λ s. KeepsOn config law.story law.stops after (with_front world node s)) (sym step)
-      (front_keeps config heard after world law world.links conn node front connection kept its_turn.outs told behind.story
+      (front_keeps config heard after world law world.links conn node front connection kept its_turn.outs told behind.story law.stops (λ other ne. refl)
       (λ other ne. record { in_place = λ f r c here is. is; in_none = λ is. is })
       at.at at.has
       (record {
@@ -172,7 +175,8 @@ module _ (config : Config) (heard : ℕ → Heard) (world : World) (law : KeepsL
       (subst (λ s. FeedsHold config (with_front world node s) law.master) step
       (front_client_feeds config world law.master law.nodes law.feeds node front (Piece conn more) at.at tt
       (subst (λ (s : Stepped). AreNoops (messages_to (master_of config) s.outs)) (sym step) noops)))
-      (subst (λ h. ConnectionIs fixed conn (world_after world node front conn kept its_turn.outs) behind.story h)
+      (subst (λ s. ConnectionIs fixed conn (world_after world node front conn kept its_turn.outs) behind.story s (after conn)) (sym (stop_is ∙ open_is))
+      (subst (λ h. ConnectionIs fixed conn (world_after world node front conn kept its_turn.outs) behind.story silent h)
       (sym (heard_more config conn bytes more (heard conn) e))
       (is_open (bytes ++ more) node (with_connection front conn kept) kept
       (is_at_after world node front conn connection kept its_turn.outs at.at at.has)
@@ -180,27 +184,31 @@ module _ (config : Config) (heard : ℕ → Heard) (world : World) (law : KeepsL
       (standing_after fixed world node front conn kept its_turn.outs (inputs_in (setting_of config) (bytes ++ more)) (begun (bytes ++ more)) front.replica
       behind.story at.at behind.made.others.nodes
       (standing_released fixed node front.replica conn (inputs_in (setting_of config) (bytes ++ more)) (begun (bytes ++ more)) its_turn.connection
-      (carry_all node world its_turn.outs) behind.story behind.standing)))))
+      (carry_all node world its_turn.outs) behind.story behind.standing))))))
 
   -- ---- one that has ended drops them
 
   -- its law, once they are heard
-  heard_on : connection.stage ≡ Ended
-      → IsStanding fixed node front.replica conn (inputs_in (setting_of config) (bytes ++ more)) (begun (bytes ++ more)) connection world told
-      → KeepsOn config law.story law.stops after world
-  heard_on stage standing = record {
+  asked_on : GoesOn law.story.talk.requests told.talk.requests
+  asked_on = asked_more config heard conn bytes more (reading_of (setting_of config) bytes) e refl law.story.talk.requests law.requests
+
+  same_replicas : ReplicasStay world world
+  same_replicas any was now before later = ap (λ (f : Front). f.replica) (same_Some _ _ (sym later ∙ before))
+
+  heard_on : ConnectionIs fixed conn world told stop (client (bytes ++ more) false) → KeepsOn config law.story law.stops after world
+  heard_on mine = record {
     law = record {
       master = law.master;
       nodes = law.nodes;
-      whole = law.whole;
       story = told;
+      stops = law.stops;
       given = law.given;
       many = law.many;
       feeds = law.feeds;
-      is_told = asks_more world.steps world.marks law.story _ (ended_asked stage standing) law.is_told;
+      is_told = asks_more world.steps world.marks law.story _ asked_on law.is_told;
       requests = λ other. refl;
-      connections = each_stays fixed world world law.story told heard after conn (client (bytes ++ more) false) law.connections
-          (λ other ne. other_heard config conn other more (heard other) ne)
+      connections = each_stays fixed world world law.story told law.stops law.stops heard after conn (client (bytes ++ more) false) law.connections
+          (λ other ne. other_heard config conn other more (heard other) ne) (λ other ne. refl)
           (λ other ne. record {
             fronts = λ any. same_front other (front_at world any) (front_at world any) refl;
             client = refl;
@@ -211,33 +219,26 @@ module _ (config : Config) (heard : ℕ → Heard) (world : World) (law : KeepsL
             said = refl;
             session = refl;
             moving = refl;
+            broken = refl;
           })
-          (heard_more config conn bytes more (heard conn) e) (is_open (bytes ++ more) node front connection at (inl stage) standing);
+          (heard_more config conn bytes more (heard conn) e)
+          (subst (λ s. ConnectionIs fixed conn world told s (client (bytes ++ more) false)) (sym stop_is) mine);
     };
     more = record {
-      requests = ended_asked stage standing;
+      requests = asked_on;
       answers = same_lists law.story.told;
       serials = same_lists law.story.talk.serials;
       moving = refl;
     };
     grows = says_same law.story;
-    closed = λ other shut. refl;
+    closed = λ other shut. (refl, refl);
   }
-    where
-      ended_asked : connection.stage ≡ Ended
-          → IsStanding fixed node front.replica conn (inputs_in (setting_of config) (bytes ++ more)) (begun (bytes ++ more)) connection world told
-          → GoesOn law.story.talk.requests told.talk.requests
-      ended_asked stage standing = asked_more config heard conn bytes more (reading_of (setting_of config) bytes) e refl law.story.talk.requests law.requests
 
-      same_replicas : ReplicasStay world world
-      same_replicas any was now before later = ap (λ (f : Front). f.replica) (same_Some _ _ (sym later ∙ before))
-
-  ended_more : connection.stage ≡ Ended
-      → IsStanding fixed node front.replica conn (inputs_in (setting_of config) (bytes ++ more)) (begun (bytes ++ more)) connection world told
+  ended_more : connection.stage ≡ Ended → ConnectionIs fixed conn world told stop (client (bytes ++ more) false)
       → KeepsOn config law.story law.stops after (with_front world node (bytes_in front conn more))
   unfolding carry_all
-  ended_more stage standing =
-      let on = heard_on stage standing in
+  ended_more stage mine =
+      let on = heard_on mine in
       let put = put_kept config after after world node (state.Front front) (front_is (node_at world node) front at.at) (λ other. refl) on.law in
       subst (λ s. KeepsOn config law.story law.stops after (with_front world node s))
       (sym (at_ended front conn more connection at.has stage))
@@ -245,8 +246,25 @@ module _ (config : Config) (heard : ℕ → Heard) (world : World) (law : KeepsL
         law = put.law;
         more = talks_follow (talk_told law.story) (talk_told on.law.story) (talk_told put.law.story) on.more put.more;
         grows = says_then law.story on.law.story put.law.story on.grows put.grows;
-        closed = λ other shut. put.closed other shut ∙ on.closed other shut;
+        closed = λ other shut. ((put.closed other shut).0 ∙ (on.closed other shut).0, (put.closed other shut).1 ∙ (on.closed other shut).1);
       })
+
+  -- one that was open, and stands so
+  over_more : stop ≡ silent → connection.stage ≡ Ended
+      → IsStanding fixed node front.replica conn (inputs_in (setting_of config) (bytes ++ more)) (begun (bytes ++ more)) connection world told
+      → KeepsOn config law.story law.stops after (with_front world node (bytes_in front conn more))
+  over_more open_is stage standing =
+      ended_more stage (subst (λ s. ConnectionIs fixed conn world told s (client (bytes ++ more) false)) (sym open_is)
+      (is_open (bytes ++ more) node front connection at (inl stage) standing))
+
+  -- one whose command was lost: what it is given stops at that
+  new_inputs : List Input
+  new_inputs = inputs_of_more (setting_of config) (reading_of (setting_of config) bytes) more
+
+  cut_more : stop ≡ is_lost → IsGone fixed node front.replica conn (inputs_in (setting_of config) bytes) is_lost connection world law.story
+      → IsUnanswered (inputs_in (setting_of config) bytes) (law.story.told conn)
+      → KeepsOn config law.story law.stops after (with_front world node (bytes_in front conn more))
+  cut_more lost_is gone next = ?
 
   -- no frame ends in what is sent behind a fault
   faulted_on : IsStanding fixed node front.replica conn (inputs_in (setting_of config) bytes) (begun bytes) connection world law.story → begun bytes ≡ None
@@ -261,6 +279,7 @@ module _ (config : Config) (heard : ℕ → Heard) (world : World) (law : KeepsL
         here = standing.here;
         placed = standing.placed;
         marked = standing.marked;
+        dropped = standing.dropped;
         stands = standing.stands;
       }))
 
@@ -286,26 +305,27 @@ module _ (config : Config) (heard : ℕ → Heard) (world : World) (law : KeepsL
         here = standing.here;
         placed = standing.placed;
         marked = standing.marked;
+        dropped = standing.dropped;
         stands = finished passed (rest ++ behind) asked before final stage now answered is_told is_end said none;
       }
 
   -- behind a command that waits they wait
-  held_more : HasBegunSo connection (reading_of (setting_of config) bytes) → HoldsBack connection.stage
+  held_more : stop ≡ silent → HasBegunSo connection (reading_of (setting_of config) bytes) → HoldsBack connection.stage
       → (connection.reader ≡ reading_of (setting_of config) bytes → Behind config heard world law conn bytes more node front connection e at fits)
       → KeepsOn config law.story law.stops after (with_front world node (bytes_in front conn more))
-  held_more reader holds behind =
+  held_more open_is reader holds behind =
       let has_reader = waiting_reader connection (reading_of (setting_of config) bytes) holds reader in
-      taken_more (at_waiting front conn more connection at.has holds) has_reader
+      taken_more open_is (at_waiting front conn more connection at.has holds) has_reader
       (held_noops config heard world law conn bytes more node front connection e at fits holds) (behind has_reader)
 
   -- ---- whatever it is at
 
-  stands_more : HasBegunSo connection (reading_of (setting_of config) bytes)
+  stands_more : LinksStand config world → stop ≡ silent → HasBegunSo connection (reading_of (setting_of config) bytes)
       → (standing : IsStanding fixed node front.replica conn (inputs_in (setting_of config) bytes) (begun bytes) connection world law.story)
       → Stands fixed node conn (inputs_in (setting_of config) bytes) (begun bytes) connection (law.story.told conn)
       (law.story.talk.answers conn) (law.story.course.sessions conn) standing.here
       → KeepsOn config law.story law.stops after (with_front world node (bytes_in front conn more))
-  stands_more reader standing (reads stage waiting session lasts all said none) =
+  stands_more links open_is reader standing (reads stage waiting session lasts all said none) =
       let has_reader = reading_reader connection (reading_of (setting_of config) bytes) stage reader in
       let reading : IsReading fixed node front.replica conn (inputs_in (setting_of config) bytes) connection world law.story = record {
         stage_is = stage;
@@ -318,52 +338,58 @@ module _ (config : Config) (heard : ℕ → Heard) (world : World) (law : KeepsL
         client = standing.client;
         nothing = subst (λ p. IsInPlaceOf fixed world node front.replica (next_id conn (law.story.told conn)) p) none standing.placed;
       } in
-      taken_more (at_reading front conn more connection at.has stage) has_reader
+      taken_more open_is (at_reading front conn more connection at.has stage) has_reader
       (reading_noops config heard world law conn bytes more node front connection e at fits reading)
-      (reading_behind config heard world law conn bytes more node front connection e at fits has_reader reading)
-  stands_more reader standing (waits waiting) =
-      held_more reader (subst HoldsBack (sym waiting.stage) tt) (λ has_reader.
+      (reading_behind config heard world law conn bytes more node front connection e at fits links has_reader reading)
+  stands_more links open_is reader standing (waits waiting) =
+      held_more open_is reader (subst HoldsBack (sym waiting.stage) tt) (λ has_reader.
       waiting_behind config heard world law conn bytes more node front connection e at fits has_reader standing waiting)
-  stands_more reader standing (lists waiting) =
-      held_more reader (subst HoldsBack (sym waiting.stage) tt) (λ has_reader.
+  stands_more links open_is reader standing (lists waiting) =
+      held_more open_is reader (subst HoldsBack (sym waiting.stage) tt) (λ has_reader.
       listing_behind config heard world law conn bytes more node front connection e at fits has_reader standing waiting)
-  stands_more reader standing (faulted stage none lengths said lasts at_none) = ended_more stage (faulted_on standing none)
-  stands_more reader standing (finished passed rest asked before final stage parts answered is_told is_end said none) =
-      ended_more stage (finished_on passed rest asked before final standing stage parts answered is_told is_end said none)
+  stands_more links open_is reader standing (faulted stage none lengths said lasts at_none) = over_more open_is stage (faulted_on standing none)
+  stands_more links open_is reader standing (finished passed rest asked before final stage parts answered is_told is_end said none) =
+      over_more open_is stage (finished_on passed rest asked before final standing stage parts answered is_told is_end said none)
 
 -- ---- the event
 
 at_front : (world : World) (conn : ℕ) (bytes node : List ℕ) (front : Front) (given : List ℕ)
-    → world.broken ≡ [] → client_at world conn ≡ Some (record { at = node; given = given }) → front_at world node ≡ Some front
-    → client_does world (Piece conn bytes) (client_at world conn) ≡ with_front world node (bytes_in front conn bytes)
-unfolding client_does
-at_front world conn bytes node front given whole at is =
-    ap (client_does world (Piece conn bytes)) at ∙ front_comes world node (Piece conn bytes) front whole is
+    → client_at world conn ≡ Some (record { at = node; given = given }) → front_at world node ≡ Some front
+    → all_of_client world (Piece conn bytes) (client_at world conn) ≡ with_front world node (bytes_in front conn bytes)
+unfolding all_of_client
+at_front world conn bytes node front given at is =
+    ap (all_of_client world (Piece conn bytes)) at ∙ front_all_come world node (Piece conn bytes) front is
 
-data_by : (config : Config) (heard : ℕ → Heard) (world : World) (conn : ℕ) (bytes : List ℕ) (law : KeepsLaw config heard world) (was : Heard) → heard conn ≡ was
-    → NumbersFit (after_data config heard conn bytes) → MasterServes config → ConnectionIs (fixed_of config) conn world law.story was
-    → KeepsOn config law.story law.stops (after_data config heard conn bytes) (client_does world (Piece conn bytes) (client_at world conn))
-unfolding client_does carry_all
-data_by config heard world conn bytes law was e fits serves (is_nobody none fronts untold) =
-    subst (λ c. KeepsOn config law.story law.stops (after_data config heard conn bytes) (client_does world (Piece conn bytes) c)) (sym none)
+data_by : (config : Config) (heard : ℕ → Heard) (world : World) (conn : ℕ) (bytes : List ℕ) (law : KeepsLaw config heard world) (stop : Stop) (was : Heard)
+    → LinksStand config world → law.stops conn ≡ stop → heard conn ≡ was
+    → NumbersFit (after_data config heard conn bytes) → MasterServes config → ConnectionIs (fixed_of config) conn world law.story stop was
+    → KeepsOn config law.story law.stops (after_data config heard conn bytes) (all_of_client world (Piece conn bytes) (client_at world conn))
+unfolding all_of_client carry_all
+data_by config heard world conn bytes law stop was links s e fits serves (is_nobody none fronts untold) =
+    subst (λ c. KeepsOn config law.story law.stops (after_data config heard conn bytes) (all_of_client world (Piece conn bytes) c)) (sym none)
     (same_kept config heard (after_data config heard conn bytes) world
     (still_heard config heard conn bytes (ap (λ h. hears config conn h (Data conn bytes)) e ∙ nothing_heard config conn bytes ∙ sym e)) law)
-data_by config heard world conn bytes law was e fits serves (is_elsewhere node given at none untold) =
-    subst (λ c. KeepsOn config law.story law.stops (after_data config heard conn bytes) (client_does world (Piece conn bytes) c)) (sym at)
+data_by config heard world conn bytes law stop was links s e fits serves (is_elsewhere node given at none untold) =
+    subst (λ c. KeepsOn config law.story law.stops (after_data config heard conn bytes) (all_of_client world (Piece conn bytes) c)) (sym at)
     (elsewhere_kept config heard (after_data config heard conn bytes) world node conn (Piece conn bytes) given refl serves at none law
     (still_heard config heard conn bytes (ap (λ h. hears config conn h (Data conn bytes)) e ∙ elsewhere_heard config conn bytes ∙ sym e)))
-data_by config heard world conn bytes law was e fits serves (is_open b node front connection at reader standing) =
+data_by config heard world conn bytes law stop was links s e fits serves (is_open b node front connection at reader standing) =
     subst (λ w. KeepsOn config law.story law.stops (after_data config heard conn bytes) w)
-    (sym (at_front world conn bytes node front _ law.whole standing.client at.at))
-    (stands_more config heard world law conn b bytes node front connection e at fits reader standing standing.stands)
-data_by config heard world conn bytes law was e fits serves (is_closed b node front connection at gone) =
+    (sym (at_front world conn bytes node front _ standing.client at.at))
+    (stands_more config heard world law conn b bytes node front connection e at fits stop s links refl reader standing standing.stands)
+data_by config heard world conn bytes law stop was links s e fits serves (is_cut_off b node front connection at gone next) =
     subst (λ w. KeepsOn config law.story law.stops (after_data config heard conn bytes) w)
-    (sym (at_front world conn bytes node front _ law.whole gone.client at.at
+    (sym (at_front world conn bytes node front _ gone.client at.at))
+    (cut_more config heard world law conn b bytes node front connection e at fits stop s refl gone next)
+data_by config heard world conn bytes law stop was links s e fits serves (is_closed shut b node front connection at gone) =
+    subst (λ w. KeepsOn config law.story law.stops (after_data config heard conn bytes) w)
+    (sym (at_front world conn bytes node front _ gone.client at.at
     ∙ ap (with_front world node) (at_ended front conn bytes connection at.has gone.stage_is)))
     (put_kept config heard (after_data config heard conn bytes) world node (state.Front front) (front_is (node_at world node) front at.at)
     (still_heard config heard conn bytes (ap (λ h. hears config conn h (Data conn bytes)) e ∙ closed_heard config conn b bytes ∙ sym e)) law)
 
-pub data_keeps : (config : Config) (heard : ℕ → Heard) (world : World) (conn : ℕ) (bytes : List ℕ) (law : KeepsLaw config heard world)
+pub data_keeps : (config : Config) (heard : ℕ → Heard) (world : World) (conn : ℕ) (bytes : List ℕ) (law : KeepsLaw config heard world) → LinksStand config world
     → NumbersFit (after_data config heard conn bytes) → MasterServes config
-    → KeepsOn config law.story law.stops (after_data config heard conn bytes) (client_does world (Piece conn bytes) (client_at world conn))
-data_keeps config heard world conn bytes law fits serves = data_by config heard world conn bytes law (heard conn) refl fits serves (law.connections conn)
+    → KeepsOn config law.story law.stops (after_data config heard conn bytes) (all_of_client world (Piece conn bytes) (client_at world conn))
+data_keeps config heard world conn bytes law links fits serves =
+    data_by config heard world conn bytes law (law.stops conn) (heard conn) links refl refl fits serves (law.connections conn)

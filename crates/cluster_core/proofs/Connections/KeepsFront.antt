@@ -11,11 +11,13 @@ use Rattle.front_core.specs.Front.{Stepped, connection_at}
 use Rattle.imap_talk.specs.Heard.{Heard, frames_heard, has_closed}
 use Rattle.imap_talk.specs.declared.inputs.Input.{Input}
 use Rattle.imap_talk.proofs.RequestsOf.{requests_of}
+use Rattle.imap_talk.specs.Transcript.{Stop}
 use Rattle.imap_types.specs.declared.request.Answer.{Answer}
 use Rattle.imap_types.specs.declared.request.Request.{Request}
 use Rattle.link_msg.specs.declared.message.LinkMsg.{LinkMsg}
 use Rattle.link_msg.specs.declared.out.Out.{Out}
 use Rattle.link_msg.specs.declared.out.Out.TheVariants.{Client as to_client, Close, Link as to_node, Mark as mark, Told as tell}
+use Rattle.link_queue.specs.Broken.{Broken}
 use Rattle.link_queue.specs.Links.{Links}
 use Rattle.many_links.specs.ManyHold.{ManyHold}
 use Rattle.mark_history.specs.Marked.{Tale, last_mark, talk_told}
@@ -36,9 +38,8 @@ use Rattle.cluster_core.proofs.Commands.AllReached.{AreMarkedSo}
 use Rattle.cluster_core.proofs.Commands.Standing.{Fixed, next_id}
 use Rattle.cluster_core.proofs.Connections.ConnectionLaw.{IsMade, IsStanding, MarksStay, PlacesStay, says_on}
 use Rattle.cluster_core.proofs.Connections.KeepsLaw.{ConnectionIs, FeedsHold, IsAt, IsGone, KeepsLaw, KeepsOn, fixed_of, murder_of}
-use Rattle.cluster_core.proofs.Connections.Stays.{ReplicasStay, SameFront, fixed_places, marked_stays, same_front, each_stays}
+use Rattle.cluster_core.proofs.Connections.Stays.{ReplicasStay, dropped_stays, SameFront, fixed_places, marked_stays, same_front, each_stays}
 use Rattle.cluster_core.proofs.Connections.Stays.SameFront.{both}
-use Rattle.cluster_core.proofs.Nodes.Carried.{is_made}
 use Rattle.cluster_core.proofs.Nodes.Comes.{FrontMoved, front_moved, with_front}
 use Rattle.cluster_core.proofs.Nodes.Stay.{front_cores}
 use Rattle.cluster_core.proofs.Places.FrontWorlds.{SameHomes, alike_stay, stays_on}
@@ -123,6 +124,9 @@ module _ (world : World) (node : List ℕ) (front : Front) (conn : ℕ) (connect
   pub same_marks : next.marks ≡ carried.marks
   same_marks = ap (λ (w : World). w.marks) after_is
 
+  pub same_broken : next.broken ≡ carried.broken
+  same_broken = ap (λ (w : World). w.broken) after_is
+
   pub same_steps : next.steps ≡ carried.steps
   same_steps = ap (λ (w : World). w.steps) after_is
 
@@ -138,20 +142,21 @@ module _ (world : World) (node : List ℕ) (front : Front) (conn : ℕ) (connect
 
 -- The outputs of a connection's step were carried out and made this story; the connection is so behind it. The step may have taken a message off its link.
 pub front_keeps : (config : Config) (heard after : ℕ → Heard) (origin : World) (law : KeepsLaw config heard origin) (links : Links LinkMsg) (conn : ℕ)
-    (node : List ℕ) (front : Front) (was connection : Connection) (outs : List Out) (told story : Tale)
+    (node : List ℕ) (front : Front) (was connection : Connection) (outs : List Out) (told story : Tale) (stops : ℕ → Stop)
+    → ((other : ℕ) → other ≢ conn → stops other ≡ law.stops other)
     → ((other : ℕ) → other ≢ conn → PlacesStay (fixed_of config) other origin (record origin { links = links }))
     → front_at origin node ≡ Some front → connection_at front conn ≡ Some was
     → TalkGoesOn (talk_told law.story) (talk_told told) → told.told ≡ law.story.told → told.talk.answers ≡ law.story.talk.answers
     → told.course ≡ law.story.course
     → ((other : ℕ) → told.talk.requests other ≡ requests_of (setting_of config) (frames_heard (after other)))
     → ((other : ℕ) → other ≢ conn → after other ≡ heard other)
-    → (has_closed (after conn) ≡ true → story.told conn ≡ law.story.told conn)
+    → (has_closed (after conn) ≡ true → (story.told conn ≡ law.story.told conn) × (stops conn ≡ law.stops conn))
     → IsMade (fixed_of config) conn (record origin { links = links }) told (carry_all node (record origin { links = links }) outs) story
     → ManyHold (murder_of (world_after (record origin { links = links }) node front conn connection outs) law.master) law.given law.story.course.store
     → FeedsHold config (world_after (record origin { links = links }) node front conn connection outs) law.master
-    → ConnectionIs (fixed_of config) conn (world_after (record origin { links = links }) node front conn connection outs) story (after conn)
+    → ConnectionIs (fixed_of config) conn (world_after (record origin { links = links }) node front conn connection outs) story (stops conn) (after conn)
     → KeepsOn config law.story law.stops after (world_after (record origin { links = links }) node front conn connection outs)
-front_keeps config heard after origin law links conn node front was connection outs told story places at has more same_told same_said same_course
+front_keeps config heard after origin law links conn node front was connection outs told story stops same_stops places at has more same_told same_said same_course
     requests others no_more made many feeds mine =
     let world : World = record origin { links = links } in
     let later : Front = with_connection front conn connection in
@@ -166,15 +171,17 @@ front_keeps config heard after origin law links conn node front was connection o
         master = law.master;
         nodes = front_cores config origin next law.master law.nodes node front later at
             (record { me = refl; master = refl; first = refl; setting = refl }) refl moved;
-        whole = (is_made world node (state.Front later) outs).broken ∙ law.whole;
         story = story;
+        stops = stops;
         given = law.given;
         many = subst (λ (s : Store). ManyHold (murder_of next law.master) law.given s) (sym same_store) many;
         feeds = feeds;
-        is_told = subst (λ m. AreMarkedSo (setting_of config) next.steps m story) (sym (same_marks world node front conn connection outs))
-            (subst (λ n. AreMarkedSo (setting_of config) n carried.marks story) (sym (same_steps world node front conn connection outs)) made.is_told);
+        is_told = subst (λ m. AreMarkedSo (setting_of config) next.broken next.steps m story) (sym (same_marks world node front conn connection outs))
+            (subst (λ n. AreMarkedSo (setting_of config) next.broken n carried.marks story) (sym (same_steps world node front conn connection outs))
+            (subst (λ (b : Broken). AreMarkedSo (setting_of config) b carried.steps carried.marks story)
+            (sym (same_broken world node front conn connection outs)) made.is_told));
         requests = λ other. ap (λ (r : ℕ → List Request). r other) made.goes_on.requests ∙ requests other;
-        connections = each_stays fixed origin next law.story story heard after conn (after conn) law.connections others (λ other ne.
+        connections = each_stays fixed origin next law.story story law.stops stops heard after conn (after conn) law.connections others same_stops (λ other ne.
             (let stay : PlacesStay fixed other origin next = stays_on fixed other origin carried next
             (stays_on fixed other origin world carried (places other ne) (made.others.places other ne))
             (alike_stay fixed other carried next (same_homes world node front conn connection outs at made.others.nodes)
@@ -190,14 +197,15 @@ front_keeps config heard after origin law links conn node front was connection o
               said = made.goes_on.said other ne ∙ ap (λ (t : ℕ → List Answer). t other) same_said;
               session = made.goes_on.sessions other ne ∙ ap (λ (c : Course). c.sessions other) same_course;
               moving = made.goes_on.more.moving ∙ more.moving;
+              broken = same_broken world node front conn connection outs ∙ made.others.broken;
             })) refl mine;
       };
       more = talks_follow (talk_told law.story) (talk_told told) (talk_told story) more made.goes_on.more;
       grows = subst (λ (a : ℕ → List Answer). (other : ℕ) → length (a other) ≤ length (story.talk.answers other)) same_said
           (says_on conn told story made.goes_on);
       closed = λ other shut. ⊎_elim
-          (λ (same : other ≡ conn). subst (λ c. story.told c ≡ law.story.told c) (sym same) (no_more (subst (λ c. has_closed (after c) ≡ true) same shut)))
-          (λ (ne : other ≢ conn). made.goes_on.told other ne ∙ ap (λ (t : ℕ → List Answer). t other) same_told)
+          (λ (same : other ≡ conn). subst (λ c. (story.told c ≡ law.story.told c) × (stops c ≡ law.stops c)) (sym same) (no_more (subst (λ c. has_closed (after c) ≡ true) same shut)))
+          (λ (ne : other ≢ conn). (made.goes_on.told other ne ∙ ap (λ (t : ℕ → List Answer). t other) same_told, same_stops other ne))
           (cases_eq other conn);
     }
 
@@ -229,15 +237,16 @@ standing_after fixed world node front conn connection outs all held replica stor
           (same_links world node front conn connection outs)).in_place node replica _ is.here is.placed;
       marked = marked_stays story.talk.moving (next_id conn (story.told conn)) carried.marks next.marks
           (ap (λ (m : List Mark). last_mark (next_id conn (story.told conn)) m) (same_marks world node front conn connection outs)) is.here is.marked;
+      dropped = dropped_stays carried next node (same_broken world node front conn connection outs) is.here is.dropped;
       stands = is.stands;
     }
 
-pub gone_after : (fixed : Fixed) (world : World) (node : List ℕ) (front : Front) (conn : ℕ) (connection : Connection) (all : List Input) (replica : Replica)
-    (story : Tale) → front_at world node ≡ Some front
-    → IsGone fixed node replica conn all connection world story
-    → IsGone fixed node replica conn all connection (world_after world node front conn connection []) story
+pub gone_after : (fixed : Fixed) (world : World) (node : List ℕ) (front : Front) (conn : ℕ) (connection : Connection) (all : List Input) (stop : Stop)
+    (replica : Replica) (story : Tale) → front_at world node ≡ Some front
+    → IsGone fixed node replica conn all stop connection world story
+    → IsGone fixed node replica conn all stop connection (world_after world node front conn connection []) story
 unfolding carry_all
-gone_after fixed world node front conn connection all replica story at is =
+gone_after fixed world node front conn connection all stop replica story at is =
     let next : World = world_after world node front conn connection [] in
     record {
       stage_is = is.stage_is;
@@ -248,4 +257,5 @@ gone_after fixed world node front conn connection all replica story at is =
       placed = (alike_stay fixed conn world next (same_homes world node front conn connection [] at refl) refl).in_place node replica _ is.here is.placed;
       marked = is.marked;
       left = is.left;
+      cut = is.cut;
     }

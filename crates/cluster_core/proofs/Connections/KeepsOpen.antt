@@ -8,7 +8,7 @@ use Rattle.std.proofs.lemmas.Bool.{cases_eq}
 use Rattle.std.proofs.lemmas.Bool.Decides.{nat_tests}
 use Rattle.std.proofs.lemmas.List.{append-nil}
 use Rattle.cluster_core.specs.Heard.{hears, is_frontend, opened_at}
-use Rattle.cluster_core.specs.World.{setting_of, carry, carry_all, client_at, comes, front_at, given_more, home_at, opens, with_client, with_state}
+use Rattle.cluster_core.specs.World.{setting_of, carry, carry_all, client_at, front_at, given_more, home_at, with_client, with_state}
 use Rattle.cluster_core.specs.declared.world.Client.{Client}
 use Rattle.front_core.specs.Reading.{first_reading}
 use Rattle.front_core.proofs.OneConnection.Readings.{inputs_in, reading_of}
@@ -19,7 +19,8 @@ use Rattle.imap_reply.specs.Greeting.{greeting}
 use Rattle.imap_talk.specs.Heard.{Heard, nobody, elsewhere, client, frames_heard}
 use Rattle.imap_talk.specs.Inputs.{at_first, before_next, inputs_of}
 use Rattle.imap_talk.specs.SessionEnds.{has_ended}
-use Rattle.imap_talk.specs.Transcript.{replies_to, told_till}
+use Rattle.imap_talk.specs.Transcript.{Stop, replies_to, told_till}
+use Rattle.imap_talk.specs.Transcript.Stop.{silent}
 use Rattle.imap_talk.proofs.RequestsOf.{requests_of}
 use Rattle.imap_talk.proofs.TranscriptGrows.{AreAnswered, none_answered}
 use Rattle.imap_types.specs.declared.request.Answer.{Answer}
@@ -44,13 +45,14 @@ use Rattle.cluster_core.proofs.Commands.Standing.Stands.{reads}
 use Rattle.cluster_core.proofs.Connections.ConnectionLaw.{PlacesStay, says_same, says_then}
 use Rattle.cluster_core.proofs.Connections.KeepsFront.{fronts_at_other, replicas_stay}
 use Rattle.cluster_core.proofs.Connections.KeepsLaw.{AreNodesOf, ConnectionIs, IsUntold, KeepsLaw, KeepsOn, fixed_of, murder_of}
-use Rattle.cluster_core.proofs.Connections.KeepsLaw.ConnectionIs.{is_nobody, is_elsewhere, is_open, is_closed}
+use Rattle.cluster_core.proofs.Connections.KeepsLaw.ConnectionIs.{is_nobody, is_elsewhere, is_open, is_cut_off, is_closed}
 use Rattle.cluster_core.proofs.Connections.KeepsStill.{MasterServes, elsewhere_kept, same_kept}
 use Rattle.cluster_core.proofs.Connections.Nowhere.{in_nowhere}
 use Rattle.cluster_core.proofs.Connections.Stays.{ReplicasStay, fixed_places, same_front, each_stays}
 use Rattle.cluster_core.proofs.Connections.StillFed.{feeds_alike, fronts_were}
 use Rattle.cluster_core.proofs.Feeds.Many.{front_keeps_many, same_murder}
-use Rattle.cluster_core.proofs.Nodes.Comes.{FrontMoved, front_comes, front_moved, with_front}
+use Rattle.cluster_core.proofs.Nodes.AllCome.{all_come, all_open, front_all_come}
+use Rattle.cluster_core.proofs.Nodes.Comes.{FrontMoved, front_moved, with_front}
 use Rattle.cluster_core.proofs.Nodes.Stay.{front_cores, same_nodes}
 use Rattle.cluster_core.proofs.Places.FrontWorlds.{alike_stay}
 
@@ -68,25 +70,28 @@ heard_before config conn elsewhere node other ne = refl
 heard_before config conn (client bytes true) node other ne = refl
 heard_before config conn (client bytes false) node other ne = refl
 
-has_client : (fixed : Fixed) (conn : ℕ) (world : World) (story : Tale) (heard : Heard) (there : Client) → client_at world conn ≡ Some there
-    → ConnectionIs fixed conn world story heard → heard ≡ nobody → ⊥
-has_client fixed conn world story heard there at (is_nobody none fronts untold) e = cc
-has_client fixed conn world story heard there at (is_elsewhere node given is none untold) e = cc
-has_client fixed conn world story heard there at (is_open bytes node front connection is reader standing) e = cc
-has_client fixed conn world story heard there at (is_closed bytes node front connection is gone) e = cc
+has_client : (fixed : Fixed) (conn : ℕ) (world : World) (story : Tale) (stop : Stop) (heard : Heard) (there : Client)
+    → client_at world conn ≡ Some there → ConnectionIs fixed conn world story stop heard → heard ≡ nobody → ⊥
+has_client fixed conn world story stop heard there at (is_nobody none fronts untold) e = cc
+has_client fixed conn world story stop heard there at (is_elsewhere node given is none untold) e = cc
+has_client fixed conn world story stop heard there at (is_open bytes node front connection is reader standing) e = cc
+has_client fixed conn world story stop heard there at (is_cut_off bytes node front connection is gone next) e = cc
+has_client fixed conn world story stop heard there at (is_closed shut bytes node front connection is gone) e = cc
 
 -- a connection without a client was never heard of
-record IsNew (fixed : Fixed) (conn : ℕ) (world : World) (story : Tale) (heard : Heard) : Type 0 where
+record IsNew (fixed : Fixed) (conn : ℕ) (world : World) (story : Tale) (stop : Stop) (heard : Heard) : Type 0 where
   nobody_is : heard ≡ nobody
+  is_silent : stop ≡ silent
   fronts : (node : List ℕ) (front : Front) → front_at world node ≡ Some front → connection_at front conn ≡ None
   untold : IsUntold fixed conn world story
 
-is_new : (fixed : Fixed) (conn : ℕ) (world : World) (story : Tale) (heard : Heard) → client_at world conn ≡ None
-    → ConnectionIs fixed conn world story heard → IsNew fixed conn world story heard
-is_new fixed conn world story heard at (is_nobody none fronts untold) = record { nobody_is = refl; fronts = fronts; untold = untold }
-is_new fixed conn world story heard at (is_elsewhere node given is none untold) = cc
-is_new fixed conn world story heard at (is_open bytes node front connection is reader standing) = (let k = standing.client in cc)
-is_new fixed conn world story heard at (is_closed bytes node front connection is gone) = (let k = gone.client in cc)
+is_new : (fixed : Fixed) (conn : ℕ) (world : World) (story : Tale) (stop : Stop) (heard : Heard) → client_at world conn ≡ None
+    → ConnectionIs fixed conn world story stop heard → IsNew fixed conn world story stop heard
+is_new fixed conn world story stop heard at (is_nobody none fronts untold) = record { nobody_is = refl; is_silent = refl; fronts = fronts; untold = untold }
+is_new fixed conn world story stop heard at (is_elsewhere node given is none untold) = cc
+is_new fixed conn world story stop heard at (is_open bytes node front connection is reader standing) = (let k = standing.client in cc)
+is_new fixed conn world story stop heard at (is_cut_off bytes node front connection is gone next) = (let k = gone.client in cc)
+is_new fixed conn world story stop heard at (is_closed shut bytes node front connection is gone) = (let k = gone.client in cc)
 
 hears_first : (config : Config) (conn : ℕ) (heard : Heard) (node : List ℕ) (frontend : Bool) → heard ≡ nobody → is_frontend config node ≡ frontend
     → hears config conn heard (Open node conn) ≡ opened_at frontend
@@ -125,7 +130,7 @@ requests_first config story heard conn node e all other = ⊎_elim
 -- ---- at a node that is no frontend
 
 joined_keeps : (config : Config) (heard : ℕ → Heard) (world : World) (node : List ℕ) (conn : ℕ) (law : KeepsLaw config heard world)
-    → front_at world node ≡ None → IsNew (fixed_of config) conn world law.story (heard conn)
+    → front_at world node ≡ None → IsNew (fixed_of config) conn world law.story (law.stops conn) (heard conn)
     → KeepsOn config law.story law.stops (after_open config heard node conn) (with_client world node conn)
 joined_keeps config heard world node conn law none first =
     let fixed : Fixed = fixed_of config in
@@ -137,15 +142,15 @@ joined_keeps config heard world node conn law none first =
       law = record {
         master = law.master;
         nodes = same_nodes config world next law.master refl law.nodes;
-        whole = law.whole;
         story = law.story;
+        stops = law.stops;
         given = law.given;
         many = same_murder (murder_of world law.master) (murder_of next law.master) law.given law.story.course.store refl (λ any. refl) refl law.many;
         feeds = feeds_alike config world next law.master (λ any. refl) refl (λ any now there. record { was = now; at = there; same = refl }) law.feeds;
         is_told = law.is_told;
         requests = requests_first config law.story heard conn node first.nobody_is law.requests;
-        connections = each_stays fixed world next law.story law.story heard (after_open config heard node conn) conn (opened_at false) law.connections
-            (λ other ne. other_after config heard node conn other ne)
+        connections = each_stays fixed world next law.story law.story law.stops law.stops heard (after_open config heard node conn) conn (opened_at false) law.connections
+            (λ other ne. other_after config heard node conn other ne) (λ other ne. refl)
             (λ other ne. record {
               fronts = λ any. same_front other (front_at world any) (front_at next any) refl;
               client = clients_other world node conn other ne;
@@ -156,24 +161,25 @@ joined_keeps config heard world node conn law none first =
               said = refl;
               session = refl;
               moving = refl;
+              broken = refl;
             })
             (hears_first config conn (heard conn) node false first.nobody_is off)
-            (is_elsewhere node [] (value_at-with_entry nat_cmp numbers_apart world.clients conn (record { at = node; given = [] })) none
+            (subst (λ s. ConnectionIs fixed conn next law.story s elsewhere) (sym first.is_silent) (is_elsewhere node [] (value_at-with_entry nat_cmp numbers_apart world.clients conn (record { at = node; given = [] })) none
             (record {
               told = (first.untold).told;
               said = (first.untold).said;
               session = (first.untold).session;
               nothing = (stay conn).in_none (first.untold).nothing;
-            }));
+            })));
       };
       more = same_talk (talk_told law.story);
       grows = says_same law.story;
-      closed = λ other shut. refl;
+      closed = λ other shut. (refl, refl);
     }
 
 elsewhere_keeps : (config : Config) (heard : ℕ → Heard) (world : World) (node : List ℕ) (conn : ℕ) (law : KeepsLaw config heard world) → MasterServes config
-    → front_at world node ≡ None → IsNew (fixed_of config) conn world law.story (heard conn)
-    → KeepsOn config law.story law.stops (after_open config heard node conn) (comes (with_client world node conn) node (Opened conn))
+    → front_at world node ≡ None → IsNew (fixed_of config) conn world law.story (law.stops conn) (heard conn)
+    → KeepsOn config law.story law.stops (after_open config heard node conn) (all_come (with_client world node conn) node (Opened conn))
 elsewhere_keeps config heard world node conn law serves none first =
     let joined = joined_keeps config heard world node conn law none first in
     let after = after_open config heard node conn in
@@ -183,7 +189,7 @@ elsewhere_keeps config heard world node conn law serves none first =
       law = then.law;
       more = talks_follow (talk_told law.story) (talk_told joined.law.story) (talk_told then.law.story) joined.more then.more;
       grows = says_then law.story joined.law.story then.law.story joined.grows then.grows;
-      closed = λ other shut. then.closed other shut ∙ joined.closed other shut;
+      closed = λ other shut. ((then.closed other shut).0 ∙ (joined.closed other shut).0, (then.closed other shut).1 ∙ (joined.closed other shut).1);
     }
 
 -- ---- at a frontend
@@ -224,7 +230,7 @@ unfolding before_next
 first_reader setting = ap (λ f. record { held = begun []; before = before_next setting at_first f }) frames-nil
 
 front_keeps_open : (config : Config) (heard : ℕ → Heard) (world : World) (node : List ℕ) (conn : ℕ) (front : Front) (law : KeepsLaw config heard world)
-    → front_at world node ≡ Some front → IsNew (fixed_of config) conn world law.story (heard conn)
+    → front_at world node ≡ Some front → IsNew (fixed_of config) conn world law.story (law.stops conn) (heard conn)
     → KeepsOn config law.story law.stops (after_open config heard node conn) (greeted world node conn front)
 unfolding new_connection
 front_keeps_open config heard world node conn front law at first =
@@ -246,16 +252,16 @@ front_keeps_open config heard world node conn front law at first =
         master = law.master;
         nodes = front_cores config world next law.master law.nodes node front later at
             (record { me = refl; master = refl; first = refl; setting = refl }) refl moved;
-        whole = law.whole;
         story = law.story;
+        stops = law.stops;
         given = law.given;
         many = subst (λ w. ManyHold (murder_of w law.master) law.given law.story.course.store) (greets world node conn front)
             (front_keeps_many config joined law.master law.given law.story.course.store nodes_then many_then node front (greets_it front conn) at);
         feeds = feeds_alike config world next law.master moved.homes refl (fronts_were world next node front later at moved refl) law.feeds;
         is_told = law.is_told;
         requests = requests_first config law.story heard conn node first.nobody_is law.requests;
-        connections = each_stays fixed world next law.story law.story heard (after_open config heard node conn) conn (opened_at true) law.connections
-            (λ other ne. other_after config heard node conn other ne)
+        connections = each_stays fixed world next law.story law.story law.stops law.stops heard (after_open config heard node conn) conn (opened_at true) law.connections
+            (λ other ne. other_after config heard node conn other ne) (λ other ne. refl)
             (λ other ne. record {
               fronts = fronts_at_other world next node front later other at moved
                   (value_at-with_entry-other nat_cmp numbers_apart front.connections conn other new_connection ne);
@@ -269,9 +275,10 @@ front_keeps_open config heard world node conn front law at first =
               said = refl;
               session = refl;
               moving = refl;
+              broken = refl;
             })
             (hears_first config conn (heard conn) node true first.nobody_is on)
-            (is_open [] node later new_connection
+            (subst (λ s. ConnectionIs fixed conn next law.story s (client [] false)) (sym first.is_silent) (is_open [] node later new_connection
             (record { at = moved.own; has = value_at-with_entry nat_cmp numbers_apart front.connections conn new_connection })
             (inr (first_reader (setting_of config)))
             (record {
@@ -284,38 +291,39 @@ front_keeps_open config heard world node conn front law at first =
               placed = in_nowhere fixed.master (home_at next) next.links node later.replica conn (length (law.story.told conn) + 1)
                   ((stay conn).in_none (first.untold).nothing);
               marked = tt;
+              dropped = tt;
               stands = reads refl refl (sym (first.untold).session) (ap has_ended (first.untold).session) (all_answered (setting_of config)
                   (law.story.told conn) (first.untold).told)
                   ((first.untold).said ∙ sym (first.untold).told) refl;
-            }));
+            })));
       };
       more = same_talk (talk_told law.story);
       grows = says_same law.story;
-      closed = λ other shut. refl;
+      closed = λ other shut. (refl, refl);
     }
 
 -- ---- the event
 
 open_by : (config : Config) (heard : ℕ → Heard) (world : World) (node : List ℕ) (conn : ℕ) (found : Option Front) → front_at world node ≡ found
-    → (law : KeepsLaw config heard world) → MasterServes config → IsNew (fixed_of config) conn world law.story (heard conn)
-    → KeepsOn config law.story law.stops (after_open config heard node conn) (comes (with_client world node conn) node (Opened conn))
+    → (law : KeepsLaw config heard world) → MasterServes config → IsNew (fixed_of config) conn world law.story (law.stops conn) (heard conn)
+    → KeepsOn config law.story law.stops (after_open config heard node conn) (all_come (with_client world node conn) node (Opened conn))
 open_by config heard world node conn None at law serves first = elsewhere_keeps config heard world node conn law serves at first
 open_by config heard world node conn (Some front) at law serves first =
     subst (λ w. KeepsOn config law.story law.stops (after_open config heard node conn) w)
-    (sym (front_comes (with_client world node conn) node (Opened conn) front law.whole at
+    (sym (front_all_come (with_client world node conn) node (Opened conn) front at
     ∙ ap (with_front (with_client world node conn) node) (connects front conn (first.fronts node front at))
     ∙ greets world node conn front))
     (front_keeps_open config heard world node conn front law at first)
 
 pub open_keeps : (config : Config) (heard : ℕ → Heard) (world : World) (node : List ℕ) (conn : ℕ) (there : Option Client) → client_at world conn ≡ there
     → (law : KeepsLaw config heard world) → MasterServes config
-    → KeepsOn config law.story law.stops (after_open config heard node conn) (opens world node conn there)
-unfolding opens
+    → KeepsOn config law.story law.stops (after_open config heard node conn) (all_open world node conn there)
+unfolding all_open
 open_keeps config heard world node conn None at law serves =
     open_by config heard world node conn (front_at world node) refl law serves
-    (is_new (fixed_of config) conn world law.story (heard conn) at (law.connections conn))
+    (is_new (fixed_of config) conn world law.story (law.stops conn) (heard conn) at (law.connections conn))
 open_keeps config heard world node conn (Some there) at law serves =
     same_kept config heard (after_open config heard node conn) world
     (λ other. heard_before config other (heard other) node conn
-    (λ e. λ same. has_client (fixed_of config) conn world law.story (heard conn) there at (law.connections conn)
+    (λ e. λ same. has_client (fixed_of config) conn world law.story (law.stops conn) (heard conn) there at (law.connections conn)
     (sym (ap heard same) ∙ e))) law

@@ -5,11 +5,13 @@ use Rattle.std.specs.Ordering.{nat_cmp}
 use Rattle.std.specs.Cmp.Lexicographic.{slice_cmp}
 use Rattle.std.proofs.lemmas.Map.Steps.{set_value_same}
 use Rattle.back_node.specs.declared.node.BackNode.{BackNode}
-use Rattle.cluster_core.specs.World.{master_of, setting_of, carry_all, client_at, comes, front_at, home_at, node_at, stepped, with_state, Disks}
+use Rattle.cluster_core.specs.World.{master_of, setting_of, carry_all, client_at, front_at, home_at, node_at, stepped, with_state, Disks}
 use Rattle.cluster_core.specs.declared.world.Client.{Client}
 use Rattle.front_core.specs.declared.front.Front.{Front}
 use Rattle.imap_talk.specs.Heard.{Heard, frames_heard}
+use Rattle.imap_talk.specs.Transcript.{Stop}
 use Rattle.imap_talk.proofs.RequestsOf.{requests_of}
+use Rattle.link_queue.specs.Broken.{Broken}
 use Rattle.many_links.specs.ManyHold.{ManyHold}
 use Rattle.mark_history.specs.Marked.{Tale, talk_told}
 use Rattle.master_core.specs.declared.master.Master.{Master}
@@ -29,11 +31,12 @@ use Rattle.cluster_core.proofs.Commands.Place.{Place}
 use Rattle.cluster_core.proofs.Commands.Standing.{Fixed}
 use Rattle.cluster_core.proofs.Connections.ConnectionLaw.{IsInNoneOf, IsInPlaceOf, MarksStay, PlacesStay, says_same}
 use Rattle.cluster_core.proofs.Connections.KeepsLaw.{AreNodesOf, ConnectionIs, FeedsHold, KeepsLaw, KeepsOn, fixed_of, murder_of}
-use Rattle.cluster_core.proofs.Connections.KeepsLaw.ConnectionIs.{is_nobody, is_elsewhere, is_open, is_closed}
+use Rattle.cluster_core.proofs.Connections.KeepsLaw.ConnectionIs.{is_nobody, is_elsewhere, is_open, is_cut_off, is_closed}
 use Rattle.cluster_core.proofs.Connections.Stays.{SameFront, StaysInPlace, connection_stays, same_front, no_front as no_front_now}
 use Rattle.cluster_core.proofs.Connections.StillFed.{feeds_alike}
 use Rattle.cluster_core.proofs.Feeds.Many.{same_murder}
-use Rattle.cluster_core.proofs.Nodes.Comes.{home_comes, home_does, none_comes, with_home, IsOfClient, client_writes}
+use Rattle.cluster_core.proofs.Nodes.AllCome.{all_come, home_all_come, none_all_come}
+use Rattle.cluster_core.proofs.Nodes.Comes.{home_does, with_home, IsOfClient, client_writes}
 use Rattle.cluster_core.proofs.Nodes.Stay.{same_nodes}
 use Rattle.cluster_core.proofs.Places.FrontWorlds.{SameHomes, alike_stay}
 
@@ -61,10 +64,11 @@ not_at_both world conn node other front client known is none one two at known_at
     let no : Some front ≡ None = sym is ∙ ap (front_at world) nodes ∙ none in
     cc
 
-pub alike_stays : (fixed : Fixed) (conn : ℕ) (world next : World) (story : Tale) (heard : Heard) → SeesAlike fixed world next
-    → ClientStays conn world next → ConnectionIs fixed conn world story heard → ConnectionIs fixed conn next story heard
-alike_stays fixed conn world next story heard alike (same_client same) is =
-    connection_stays fixed conn world next story story heard
+pub alike_stays : (fixed : Fixed) (conn : ℕ) (world next : World) (story : Tale) (stop : Stop) (heard : Heard)
+    → SeesAlike fixed world next → ClientStays conn world next → ConnectionIs fixed conn world story stop heard
+    → ConnectionIs fixed conn next story stop heard
+alike_stays fixed conn world next story stop heard alike (same_client same) is =
+    connection_stays fixed conn world next story story stop heard
     (record {
       fronts = alike.fronts conn;
       client = same;
@@ -75,16 +79,20 @@ alike_stays fixed conn world next story heard alike (same_client same) is =
       said = refl;
       session = refl;
       moving = refl;
+      broken = alike.broken;
     }) is
-alike_stays fixed conn world next story heard alike (given_elsewhere node was now none before after) (is_nobody nothing fronts untold) =
+alike_stays fixed conn world next story stop heard alike (given_elsewhere node was now none before after) (is_nobody nothing fronts untold) =
     absurd (let no : Some (record { at = node; given = was }) ≡ None = sym before ∙ nothing in cc)
-alike_stays fixed conn world next story heard alike (given_elsewhere node was now none before after) (is_elsewhere there given at no_front untold) =
+alike_stays fixed conn world next story stop heard alike (given_elsewhere node was now none before after) (is_elsewhere there given at no_front untold) =
     is_elsewhere node now after (no_front_now conn (front_at world node) (front_at next node) (alike.fronts conn node) none)
     (record { told = untold.told; said = untold.said; session = untold.session; nothing = alike.in_none conn untold.nothing })
-alike_stays fixed conn world next story heard alike (given_elsewhere node was now none before after)
+alike_stays fixed conn world next story stop heard alike (given_elsewhere node was now none before after)
     (is_open bytes there front connection at reader standing) =
     absurd (not_at_both world conn there node front _ _ at.at none standing.client before refl refl)
-alike_stays fixed conn world next story heard alike (given_elsewhere node was now none before after) (is_closed bytes there front connection at gone) =
+alike_stays fixed conn world next story stop heard alike (given_elsewhere node was now none before after)
+    (is_cut_off bytes there front connection at gone next_is) =
+    absurd (not_at_both world conn there node front _ _ at.at none gone.client before refl refl)
+alike_stays fixed conn world next story stop heard alike (given_elsewhere node was now none before after) (is_closed shut bytes there front connection at gone) =
     absurd (not_at_both world conn there node front _ _ at.at none gone.client before refl refl)
 
 -- the nodes, the names and the feeds in the next world are as they are told here
@@ -96,20 +104,21 @@ still_kept config heard after world next master alike same law nodes many feeds 
   law = record {
     master = master;
     nodes = nodes;
-    whole = alike.broken ∙ law.whole;
     story = law.story;
+    stops = law.stops;
     given = law.given;
     many = many;
     feeds = feeds;
-    is_told = subst (λ m. AreMarkedSo (setting_of config) next.steps m law.story) (sym alike.marks)
-        (a_step world.steps next.steps world.marks law.story alike.steps law.is_told);
+    is_told = subst (λ (b : Broken). AreMarkedSo (setting_of config) b next.steps next.marks law.story) (sym alike.broken)
+        (subst (λ m. AreMarkedSo (setting_of config) world.broken next.steps m law.story) (sym alike.marks)
+        (a_step world.steps next.steps world.marks law.story alike.steps law.is_told));
     requests = λ conn. law.requests conn ∙ ap (λ h. requests_of (setting_of config) (frames_heard h)) (sym (same conn));
-    connections = λ conn. subst (λ h. ConnectionIs (fixed_of config) conn next law.story h) (sym (same conn))
-        (alike_stays (fixed_of config) conn world next law.story (heard conn) alike (alike.clients conn) (law.connections conn));
+    connections = λ conn. subst (λ h. ConnectionIs (fixed_of config) conn next law.story (law.stops conn) h) (sym (same conn))
+        (alike_stays (fixed_of config) conn world next law.story (law.stops conn) (heard conn) alike (alike.clients conn) (law.connections conn));
   };
   more = same_talk (talk_told law.story);
   grows = says_same law.story;
-  closed = λ conn shut. refl;
+  closed = λ conn shut. (refl, refl);
 }
 
 -- ---- a world in which nothing changed but perhaps the number of its last step
@@ -157,10 +166,11 @@ stepped_kept config heard world law =
 pub record IsStepped (config : Config) (heard : ℕ → Heard) (world : World) (law : KeepsLaw config heard world) : Type 0 where
   pub then : KeepsLaw config heard (stepped world)
   pub same : then.story ≡ law.story
+  pub same_stops : then.stops ≡ law.stops
 
 pub stepped_law : (config : Config) (heard : ℕ → Heard) (world : World) (law : KeepsLaw config heard world) → IsStepped config heard world law
 unfolding still_kept quiet_kept stepped_kept
-stepped_law config heard world law = record { then = (stepped_kept config heard world law).law; same = refl }
+stepped_law config heard world law = record { then = (stepped_kept config heard world law).law; same = refl; same_stops = refl }
 
 -- what stands on the disks is nothing of the law
 module _ (config : Config) (heard : ℕ → Heard) (world : World) (disks : Disks) (law : KeepsLaw config heard world) where
@@ -170,17 +180,17 @@ module _ (config : Config) (heard : ℕ → Heard) (world : World) (disks : Disk
   pub disks_feeds : FeedsHold config other_disks law.master
   disks_feeds = feeds_alike config world other_disks law.master (λ node. refl) refl (λ node now there. record { was = now; at = there; same = refl }) law.feeds
 
-  pub disks_connections : (conn : ℕ) → ConnectionIs (fixed_of config) conn other_disks law.story (heard conn)
+  pub disks_connections : (conn : ℕ) → ConnectionIs (fixed_of config) conn other_disks law.story (law.stops conn) (heard conn)
   disks_connections conn =
       let alike = alike_but_steps (fixed_of config) world other_disks refl refl refl refl refl (omega arith) in
-      alike_stays (fixed_of config) conn world other_disks law.story (heard conn) alike (same_client refl) (law.connections conn)
+      alike_stays (fixed_of config) conn world other_disks law.story (law.stops conn) (heard conn) alike (same_client refl) (law.connections conn)
 
   abbrev pub disks_law : KeepsLaw config heard other_disks
   disks_law = record {
     master = law.master;
     nodes = same_nodes config world other_disks law.master refl law.nodes;
-    whole = law.whole;
     story = law.story;
+    stops = law.stops;
     given = law.given;
     many = law.many;
     feeds = disks_feeds;
@@ -207,7 +217,7 @@ IsOfConnection conn (From name message) = ⊥
 abbrev pub MasterServes : Config → Type 0
 MasterServes config = (heard after : ℕ → Heard) (world : World) (conn : ℕ) (input : NodeInput) (given : List ℕ) → IsOfConnection conn input
     → client_at world conn ≡ Some (record { at = master_of config; given = given }) → (law : KeepsLaw config heard world)
-    → ((other : ℕ) → after other ≡ heard other) → KeepsOn config law.story law.stops after (comes world (master_of config) input)
+    → ((other : ℕ) → after other ≡ heard other) → KeepsOn config law.story law.stops after (all_come world (master_of config) input)
 
 pub of_client : (conn : ℕ) (input : NodeInput) → IsOfConnection conn input → IsOfClient input
 of_client conn (Opened other) is = tt
@@ -229,11 +239,11 @@ put_kept config heard after world node it there same law =
     quiet_kept config heard after world (with_state world node it) (set_value_same (is_at (slice_cmp nat_cmp node)) world.nodes it there)
     refl refl refl refl (omega arith) same law
 
-home_put : (world : World) (node : List ℕ) (home : BackNode) (input : NodeInput) (conn : ℕ) → world.broken ≡ [] → home_at world node ≡ Some home
-    → IsOfConnection conn input → comes world node input ≡ with_state world node (state.Back home)
+home_put : (world : World) (node : List ℕ) (home : BackNode) (input : NodeInput) (conn : ℕ) → home_at world node ≡ Some home
+    → IsOfConnection conn input → all_come world node input ≡ with_state world node (state.Back home)
 unfolding carry_all
-home_put world node home input conn whole at is =
-    home_comes world node input home whole at
+home_put world node home input conn at is =
+    home_all_come world node input home at
     ∙ ap (λ w. with_home w node (home_does home input)) (client_writes world node (state.Back home) input (of_client conn input is))
     ∙ ap (with_home world node) (home_idle home conn input is)
 
@@ -241,23 +251,23 @@ home_put world node home input conn whole at is =
 elsewhere_by : (config : Config) (heard after : ℕ → Heard) (world : World) (node : List ℕ) (conn : ℕ) (input : NodeInput) (given : List ℕ)
     (found : Option NodeState) → node_at world node ≡ found → IsOfConnection conn input → MasterServes config
     → client_at world conn ≡ Some (record { at = node; given = given }) → front_at world node ≡ None → (law : KeepsLaw config heard world)
-    → ((other : ℕ) → after other ≡ heard other) → KeepsOn config law.story law.stops after (comes world node input)
+    → ((other : ℕ) → after other ≡ heard other) → KeepsOn config law.story law.stops after (all_come world node input)
 unfolding as_front as_back as_master
 elsewhere_by config heard after world node conn input given None e is serves at none law same =
-    subst (λ w. KeepsOn config law.story law.stops after w) (sym (none_comes world node input e)) (same_kept config heard after world same law)
+    subst (λ w. KeepsOn config law.story law.stops after w) (sym (none_all_come world node input e)) (same_kept config heard after world same law)
 elsewhere_by config heard after world node conn input given (Some (state.Front front)) e is serves at none law same =
     absurd (let no : Some front ≡ None = sym (ap as_front e) ∙ none in cc)
 elsewhere_by config heard after world node conn input given (Some (state.Back home)) e is serves at none law same =
-    subst (λ w. KeepsOn config law.story law.stops after w) (sym (home_put world node home input conn law.whole (ap as_back e) is))
+    subst (λ w. KeepsOn config law.story law.stops after w) (sym (home_put world node home input conn (ap as_back e) is))
     (put_kept config heard after world node (state.Back home) e same law)
 elsewhere_by config heard after world node conn input given (Some (state.Master master)) e is serves at none law same =
     let its : node ≡ master_of config = law.nodes.only node master (ap as_master e) in
-    subst (λ n. KeepsOn config law.story law.stops after (comes world n input)) (sym its)
+    subst (λ n. KeepsOn config law.story law.stops after (all_come world n input)) (sym its)
     (serves heard after world conn input given is (at ∙ ap (λ n. Some (record { at = n; given = given })) its) law same)
 
 pub elsewhere_kept : (config : Config) (heard after : ℕ → Heard) (world : World) (node : List ℕ) (conn : ℕ) (input : NodeInput) (given : List ℕ)
     → IsOfConnection conn input → MasterServes config
     → client_at world conn ≡ Some (record { at = node; given = given }) → front_at world node ≡ None → (law : KeepsLaw config heard world)
-    → ((other : ℕ) → after other ≡ heard other) → KeepsOn config law.story law.stops after (comes world node input)
+    → ((other : ℕ) → after other ≡ heard other) → KeepsOn config law.story law.stops after (all_come world node input)
 elsewhere_kept config heard after world node conn input given is serves at none law same =
     elsewhere_by config heard after world node conn input given (node_at world node) refl is serves at none law same

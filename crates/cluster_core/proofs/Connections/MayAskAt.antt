@@ -10,18 +10,19 @@ use Rattle.imap_talk.specs.Heard.{Heard}
 use Rattle.master_core.specs.declared.master.Master.{Master}
 use Rattle.mur_config.specs.declared.config.Config.{Config}
 use Rattle.cluster_core.specs.declared.world.World.{World}
+use Rattle.cluster_core.proofs.Connections.AsksFirst.{Reaches}
 use Rattle.cluster_core.proofs.Connections.FrameLaw.{ways_for}
 use Rattle.cluster_core.proofs.Connections.KeepsLaw.{IsFrontOf, KeepsLaw, fixed_of}
 use Rattle.cluster_core.proofs.Connections.Sends.{MayAsk}
+use Rattle.cluster_core.proofs.Links.Stand.{LinksStand}
 use Rattle.cluster_core.proofs.Nodes.Comes.{master_no_home_at}
 
 -- its ways are those of its node
 pub ways_same_by : (config : Config) (world : World) (master : Master) (node : List ℕ) (front : Front) → IsFrontOf config world master node front
-    → ways_of front ≡ ways_for (fixed_of config) node front.replica
+    → ways_of front ≡ ways_for (fixed_of config) front.ups front.replica
 ways_same_by config world master node front is =
     ap (λ m. ways_by front.replica.records m front.first front.ups) is.master_is
     ∙ ap (λ f. ways_by front.replica.records (master_of config) f front.ups) is.first_is
-    ∙ ap (λ u. ways_by front.replica.records (master_of config) (home_of config) u) is.ups_are
 
 pub may_ask : (config : Config) (heard : ℕ → Heard) (world : World) (node : List ℕ) (front : Front) → KeepsLaw config heard world
     → front_at world node ≡ Some front → MayAsk (fixed_of config) (home_at world) node front.replica
@@ -35,9 +36,12 @@ may_ask config heard world node front law at =
       };
       knows = (((law.feeds).each node front at).knows).has;
       first = (law.nodes).homes (home_of config) ∙ (law.nodes).first_there;
-      up = record {
-        to_master = is.linked.to_master;
-        to_backend = λ server there. is.linked.to_backend server (ap (list_any (pointwise nat_eq server)) (sym (law.nodes).backends)
-            ∙ sym ((law.nodes).homes server) ∙ there);
-      };
     }
+
+-- the servers to which its links are up
+pub reaches : (config : Config) (heard : ℕ → Heard) (world : World) (node : List ℕ) (front : Front) → KeepsLaw config heard world → LinksStand config world
+    → front_at world node ≡ Some front → Reaches (master_of config) (home_at world) world.broken front.ups
+reaches config heard world node front law links at = record {
+  up = links.master_up node front at;
+  cut = ?;
+}

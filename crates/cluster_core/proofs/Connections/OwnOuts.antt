@@ -16,7 +16,7 @@ use Rattle.front_core.specs.declared.connection.Connection.{Connection}
 use Rattle.front_core.specs.declared.connection.Stage.{Stage}
 use Rattle.front_core.specs.declared.connection.Stage.TheVariants.{Reading, Waits, Lists, Ended}
 use Rattle.front_core.specs.Taken.{Turned, answers_last, begins_if, comes_at, input_comes, input_in, inputs_come, lists_if, request_in, to_begin, told_now, turned_by_need}
-use Rattle.front_core.specs.Ups.{is_up}
+use Rattle.front_core.specs.Ups.{Ups, is_up}
 use Rattle.imap_talk.specs.declared.inputs.Input.{Input}
 use Rattle.imap_talk.specs.declared.inputs.Input.TheVariants.{GoesOn, Asks, Faults}
 use Rattle.imap_types.specs.declared.command.Tag.{Tag}
@@ -116,7 +116,7 @@ own_more master nodes conn most more (out ∷ outs) le are =
 
 -- ---- what inputs bring
 
-module _ (fixed : Fixed) (nodes : Nodes) (front : List ℕ) (replica : Replica) (conn : ℕ) (knows : NamesBackends nodes replica.records) (first : IsSome (nodes fixed.first)) where
+module _ (fixed : Fixed) (nodes : Nodes) (ups : Ups) (replica : Replica) (conn : ℕ) (knows : NamesBackends nodes replica.records) (first : IsSome (nodes fixed.first)) where
   -- the outputs are of the next command, and that is then answered at most
   pub record TurnsOwn (connection : Connection) (turned : Turned) : Type 0 where
     pub own : AreOwn fixed.master nodes conn (connection.answered + 1) turned.outs
@@ -142,7 +142,7 @@ module _ (fixed : Fixed) (nodes : Nodes) (front : List ℕ) (replica : Replica) 
   lists_own false connection tag it = record { own = (refl, (tt, tt)); count = omega arith }
 
   need_own : (connection : Connection) (tag : Tag) (need : Need)
-      → TurnsOwn connection (turned_by_need (ways_for fixed front replica) conn connection tag need)
+      → TurnsOwn connection (turned_by_need (ways_for fixed ups replica) conn connection tag need)
   unfolding turned_by_need told_now answers_last
   need_own connection tag (needs.Reply reply) = record { own = (refl, (tt, tt)); count = omega arith }
   need_own connection tag (needs.Leave reply) = record { own = (refl, (tt, (tt, tt))); count = omega arith }
@@ -150,12 +150,12 @@ module _ (fixed : Fixed) (nodes : Nodes) (front : List ℕ) (replica : Replica) 
       let id : AskId = record { conn = conn; command = connection.answered + 1 } in
       let it : Waiting = to_begin name asking in
       let begun : Begun = first_sent replica.records fixed.master fixed.first id connection.session it in
-      begins_own (is_up (fixed.ups front) begun.sent.to) connection tag begun
+      begins_own (is_up ups begun.sent.to) connection tag begun
       (begun_own id connection.session it begun refl (first_way nodes replica.records fixed.master fixed.first id connection.session it knows first))
-  need_own connection tag (needs.Names it) = lists_own (is_up (fixed.ups front) fixed.master) connection tag it
+  need_own connection tag (needs.Names it) = lists_own (is_up ups fixed.master) connection tag it
 
   request_own : (connection : Connection) (request : Request)
-      → TurnsOwn connection (request_in fixed.setting (ways_for fixed front replica) conn connection request)
+      → TurnsOwn connection (request_in fixed.setting (ways_for fixed ups replica) conn connection request)
   unfolding request_in told_now
   request_own connection (a_command tag it) =
       let is = need_own (record connection { session = (begin fixed.setting connection.session it).session }) tag
@@ -165,14 +165,14 @@ module _ (fixed : Fixed) (nodes : Nodes) (front : List ℕ) (replica : Replica) 
   request_own connection (too_big tag) = record { own = (refl, (tt, tt)); count = omega arith }
 
   input_own : (connection : Connection) (input : Input)
-      → TurnsOwn connection (input_in fixed.setting (ways_for fixed front replica) conn connection input)
+      → TurnsOwn connection (input_in fixed.setting (ways_for fixed ups replica) conn connection input)
   unfolding input_in
   input_own connection (Asks request) = request_own connection request
   input_own connection (GoesOn why) = record { own = (refl, tt); count = omega arith }
   input_own connection (Faults fault) = record { own = (refl, (tt, tt)); count = omega arith }
 
   comes_own : (connection : Connection) (input : Input) (stage : Stage)
-      → TurnsOwn connection (comes_at fixed.setting (ways_for fixed front replica) conn connection input stage)
+      → TurnsOwn connection (comes_at fixed.setting (ways_for fixed ups replica) conn connection input stage)
   unfolding comes_at
   comes_own connection input Reading = input_own connection input
   comes_own connection input (Waits tag it) = record { own = tt; count = omega arith }
@@ -181,15 +181,15 @@ module _ (fixed : Fixed) (nodes : Nodes) (front : List ℕ) (replica : Replica) 
 
   pub inputs_own : (connection : Connection) (inputs : List Input)
       → AreOwn fixed.master nodes conn (connection.answered + length inputs)
-      (inputs_come fixed.setting (ways_for fixed front replica) conn connection inputs).outs
+      (inputs_come fixed.setting (ways_for fixed ups replica) conn connection inputs).outs
   unfolding inputs_come input_comes
   inputs_own connection [] = tt
   inputs_own connection (input ∷ inputs) =
-      let turned : Turned = comes_at fixed.setting (ways_for fixed front replica) conn connection input connection.stage in
+      let turned : Turned = comes_at fixed.setting (ways_for fixed ups replica) conn connection input connection.stage in
       let one = comes_own connection input connection.stage in
       let most : ℕ = connection.answered + length (input ∷ inputs) in
-      both_own fixed.master nodes conn most turned.outs (inputs_come fixed.setting (ways_for fixed front replica) conn turned.connection inputs).outs
+      both_own fixed.master nodes conn most turned.outs (inputs_come fixed.setting (ways_for fixed ups replica) conn turned.connection inputs).outs
       (own_more fixed.master nodes conn (connection.answered + 1) most turned.outs (omega arith) one.own)
       (own_more fixed.master nodes conn ((turned.connection).answered + length inputs) most
-      (inputs_come fixed.setting (ways_for fixed front replica) conn turned.connection inputs).outs (omega (arith, one.count))
+      (inputs_come fixed.setting (ways_for fixed ups replica) conn turned.connection inputs).outs (omega (arith, one.count))
       (inputs_own turned.connection inputs))

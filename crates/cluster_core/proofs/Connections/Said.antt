@@ -180,7 +180,7 @@ said_made fixed front replica conn inputs connection before told world request t
           (keeps_on fixed conn world given after_world (given_keeps fixed world conn client text) (marked_keeps fixed conn given ask Here refl));
       goes_on = stories_follow conn told story now was.made.goes_on (said_goes_on fixed.setting story conn request was.reading.said);
       store = ap (λ (a : Answered). a.store) (is story.course.store) ∙ was.made.store;
-      is_told = subst (λ n. AreMarkedSo fixed.setting world.steps
+      is_told = subst (λ n. AreMarkedSo fixed.setting world.broken world.steps
           (world.marks ++ (record { step = world.steps; ask = record { conn = conn; command = n + 1 }; kind = Told Here }) ∷ []) now)
           (sym was.reading.count)
           (tells_at_once world.steps world.marks story conn request 0 can alone was.made.is_told);

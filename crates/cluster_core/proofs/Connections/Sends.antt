@@ -1,12 +1,14 @@
 -- What a frontend's sending of an ask, or of a NOOP, makes of the place of its command, and of those of others; and whom it may ask.
-use Rattle.std.proofs.Common.{◌≡◌, ◌≢◌, ℕ, is_some, List, Option, None, Some, refl, sym, ap, subst}
+use Rattle.std.proofs.Common.{◌≡◌, ◌≢◌, ℕ, List, Option, None, Some, refl, sym, ap, subst}
 use Rattle.std.specs.Ordering.{nat_cmp}
 use Rattle.std.specs.Cmp.Lexicographic.{slice_cmp}
 use Rattle.std.specs.Option.{IsSome}
 use Rattle.back_node.specs.declared.node.BackNode.{BackNode}
 use Rattle.feed_core.specs.declared.replica.Replica.{Replica}
+use Rattle.front_core.specs.Ups.{Ups}
 use Rattle.link_msg.specs.declared.ask.FrontAsk.{FrontAsk}
 use Rattle.link_msg.specs.declared.message.LinkMsg.TheVariants.{Ask}
+use Rattle.link_queue.specs.Broken.{Broken}
 use Rattle.many_links.specs.Murder.{Nodes}
 use Rattle.mur_base.specs.Map.{value_at}
 use Rattle.mur_base.specs.declared.point.AskId.{AskId}
@@ -17,18 +19,18 @@ use Rattle.cluster_core.specs.declared.world.World.{World}
 use Rattle.cluster_core.specs.World.{home_at}
 use Rattle.cluster_core.proofs.Commands.Place.{Place, Place as place}
 use Rattle.cluster_core.proofs.Commands.Standing.{Fixed}
+use Rattle.cluster_core.proofs.Connections.AsksFirst.{Reaches}
 use Rattle.cluster_core.proofs.Connections.ConnectionLaw.{IsInPlaceOf, PlacesStay}
-use Rattle.cluster_core.proofs.Connections.KeepsLaw.{IsLinked, NamesBackends}
+use Rattle.cluster_core.proofs.Connections.KeepsLaw.{NamesBackends}
 use Rattle.cluster_core.proofs.Places.FrontSends.{sends_ask, sends_noop}
 use Rattle.cluster_core.proofs.Places.FrontWorlds.{ask_stays, noop_stays, with_sent}
 use Rattle.cluster_core.proofs.Places.Stays.{IsFrontend}
 
--- a frontend with this replica: each record names a backend, and so does what it asks without one; its links to the master and to the backends are up
+-- a frontend with this replica: each record names a backend, and so does what it asks without one
 pub record MayAsk (fixed : Fixed) (nodes : Nodes) (front : List ℕ) (replica : Replica) : Type 0 where
   pub frontend : IsFrontend fixed.master nodes front
   pub knows : NamesBackends nodes replica.records
   pub first : IsSome (nodes fixed.first)
-  pub up : IsLinked (fixed.ups front) fixed.master (λ server. is_some (nodes server))
 
 -- the command that was nowhere is here then, and those of every other connection are where they were
 pub record SendsSo (fixed : Fixed) (world next : World) (front : List ℕ) (replica : Replica) (id : AskId) (here : Place) : Type 0 where
@@ -66,3 +68,9 @@ pub may_ask_later : (fixed : Fixed) (world next : World) (front : List ℕ) (rep
     → MayAsk fixed (home_at world) front replica → MayAsk fixed (home_at next) front replica
 may_ask_later fixed world next front replica e may =
     subst (λ nodes. MayAsk fixed nodes front replica) (sym (homes_alike world next e)) may
+
+pub reaches_later : (fixed : Fixed) (world next : World) (ups : Ups) → next.nodes ≡ world.nodes → next.broken ≡ world.broken
+    → Reaches fixed.master (home_at world) world.broken ups → Reaches fixed.master (home_at next) next.broken ups
+reaches_later fixed world next ups e same reaches =
+    subst (λ nodes. Reaches fixed.master nodes next.broken ups) (sym (homes_alike world next e))
+    (subst (λ (b : Broken). Reaches fixed.master (home_at world) b ups) (sym same) reaches)

@@ -11,7 +11,13 @@ use Rattle.front_core.specs.declared.front.Front.{Front}
 use Rattle.front_core.specs.Front.{connection_at}
 use Rattle.imap_talk.specs.Heard.{Heard, client, has_closed}
 use Rattle.imap_talk.specs.Inputs.{requests_in}
+use Rattle.imap_talk.specs.Transcript.{Stop}
+use Rattle.imap_talk.specs.Transcript.Stop.{is_lost}
+use Rattle.imap_talk.proofs.TranscriptGrows.{AreAnswered}
+use Rattle.imap_talk.specs.declared.inputs.Input.{Input}
 use Rattle.imap_types.specs.declared.request.Answer.{Answer}
+use Rattle.front_core.specs.declared.connection.Connection.{Connection}
+use Rattle.link_queue.specs.Broken.{Broken, is_broken}
 use Rattle.imap_wire.specs.Frames.{begun}
 use Rattle.mark_history.specs.Marked.{Tale, last_mark}
 use Rattle.mark_history.specs.declared.mark.Mark.{Mark}
@@ -21,9 +27,9 @@ use Rattle.cluster_core.specs.declared.world.World.{World}
 use Rattle.cluster_core.specs.World.{client_at, front_at}
 use Rattle.cluster_core.proofs.Commands.Place.{Place, Place as place}
 use Rattle.cluster_core.proofs.Commands.Standing.{Fixed, IsLeft, Stands, next_id}
-use Rattle.cluster_core.proofs.Connections.ConnectionLaw.{IsInNoneOf, IsInPlaceOf, IsMarkedAt, MarksStay, PlacesStay, client_with, marked_at}
-use Rattle.cluster_core.proofs.Connections.KeepsLaw.{ConnectionIs, IsUntold}
-use Rattle.cluster_core.proofs.Connections.KeepsLaw.ConnectionIs.{is_nobody, is_elsewhere, is_open, is_closed}
+use Rattle.cluster_core.proofs.Connections.ConnectionLaw.{IsDroppedAt, IsInNoneOf, IsInPlaceOf, IsMarkedAt, MarksStay, PlacesStay, client_till, client_with, marked_at}
+use Rattle.cluster_core.proofs.Connections.KeepsLaw.{ConnectionIs, IsGone, IsUntold}
+use Rattle.cluster_core.proofs.Connections.KeepsLaw.ConnectionIs.{is_nobody, is_elsewhere, is_open, is_cut_off, is_closed}
 
 -- a frontend, as far as one connection goes
 pub data SameFront (conn : ℕ) : Option Front → Option Front → Type 0 where
@@ -47,6 +53,7 @@ pub record StaysAt (fixed : Fixed) (conn : ℕ) (world next : World) (story late
   pub said : later.talk.answers conn ≡ story.talk.answers conn
   pub session : later.course.sessions conn ≡ story.course.sessions conn
   pub moving : later.talk.moving ≡ story.talk.moving
+  pub broken : next.broken ≡ world.broken
 
 abbrev pub ReplicasStay : World → World → Type 0
 ReplicasStay world next = (node : List ℕ) (was now : Front) → front_at world node ≡ Some was → front_at next node ≡ Some now → now.replica ≡ was.replica
@@ -67,8 +74,19 @@ module _ (moving : ℕ → List ℕ → Bool) (id : AskId) (before after : List 
   marked_stays place.nowhere is = tt
   marked_stays (place.is_asked server ask) is = tt
   marked_stays (place.is_answered server answer) is = tt
+  marked_stays (place.is_dropped server) is = tt
   marked_stays (place.is_at me at) is = tt
   marked_stays (place.is_barred at) is = barrier_marked at is
+
+-- a link that is broken stays so
+pub dropped_stays : (world next : World) (node : List ℕ) → next.broken ≡ world.broken → (here : Place) → IsDroppedAt world node here
+    → IsDroppedAt next node here
+dropped_stays world next node same place.nowhere is = tt
+dropped_stays world next node same (place.is_asked server ask) is = tt
+dropped_stays world next node same (place.is_answered server answer) is = tt
+dropped_stays world next node same (place.is_dropped server) is = ap (λ (b : Broken). is_broken b server node) same ∙ is
+dropped_stays world next node same (place.is_at me at) is = tt
+dropped_stays world next node same (place.is_barred at) is = tt
 
 pub record FrontNow (conn : ℕ) (now : Option Front) (was : Front) : Type 0 where
   pub front : Front
@@ -114,18 +132,38 @@ there_stays fixed conn world next story later node was now here stays at after p
       marked_stays story.talk.moving (next_id conn (story.told conn)) world.marks next.marks (stays.marks (length (story.told conn) + 1)) here marked,
     ))
 
-pub connection_stays : (fixed : Fixed) (conn : ℕ) (world next : World) (story later : Tale) (heard : Heard)
+gone_stays : (fixed : Fixed) (conn : ℕ) (world next : World) (story later : Tale) → StaysAt fixed conn world next story later
+    → (node : List ℕ) (front now : Front) (inputs : List Input) (stop : Stop) (connection : Connection) → front_at world node ≡ Some front
+    → front_at next node ≡ Some now → IsGone fixed node front.replica conn inputs stop connection world story
+    → IsGone fixed node now.replica conn inputs stop connection next later
+gone_stays fixed conn world next story later stays node front now inputs stop connection at is gone =
+    let there = there_stays fixed conn world next story later node front now gone.here stays at is gone.placed gone.marked in
+    record {
+      stage_is = gone.stage_is;
+      count = gone.count ∙ ap length (sym stays.told);
+      lasts = subst EndsOnlyLast (sym stays.told) gone.lasts;
+      client = stays.client ∙ gone.client ∙ ap (λ t. Some (client_till stop node inputs t)) (sym stays.told);
+      here = gone.here;
+      placed = there.0;
+      marked = there.1;
+      left = subst (λ t. IsLeft fixed node conn (requests_in inputs) t (later.talk.answers conn) (later.course.sessions conn) gone.here) (sym stays.told)
+          (subst (λ s. IsLeft fixed node conn (requests_in inputs) (story.told conn) s (later.course.sessions conn) gone.here) (sym stays.said)
+          (subst (λ s. IsLeft fixed node conn (requests_in inputs) (story.told conn) (story.talk.answers conn) s gone.here) (sym stays.session) gone.left));
+      cut = λ lost none. gone.cut lost (sym stays.broken ∙ none);
+    }
+
+pub connection_stays : (fixed : Fixed) (conn : ℕ) (world next : World) (story later : Tale) (stop : Stop) (heard : Heard)
     → StaysAt fixed conn world next story later
-    → ConnectionIs fixed conn world story heard → ConnectionIs fixed conn next later heard
-connection_stays fixed conn world next story later heard stays (is_nobody none fronts untold) =
+    → ConnectionIs fixed conn world story stop heard → ConnectionIs fixed conn next later stop heard
+connection_stays fixed conn world next story later stop heard stays (is_nobody none fronts untold) =
     is_nobody (stays.client ∙ none)
     (λ node front at. let was = front_was conn (front_at world node) (front_at next node) front (stays.fronts node) at in sym was.same
     ∙ fronts node was.front was.is)
     (untold_stays fixed conn world next story later stays untold)
-connection_stays fixed conn world next story later heard stays (is_elsewhere node given at none untold) =
+connection_stays fixed conn world next story later stop heard stays (is_elsewhere node given at none untold) =
     is_elsewhere node given (stays.client ∙ at) (no_front conn (front_at world node) (front_at next node) (stays.fronts node) none)
     (untold_stays fixed conn world next story later stays untold)
-connection_stays fixed conn world next story later heard stays (is_open bytes node front connection at reader standing) =
+connection_stays fixed conn world next story later stop heard stays (is_open bytes node front connection at reader standing) =
     let now = front_now conn (front_at world node) (front_at next node) front (stays.fronts node) at.at in
     let there = there_stays fixed conn world next story later node front now.front standing.here stays at.at now.is standing.placed standing.marked in
     is_open bytes node now.front connection (record { at = now.is; has = now.same ∙ at.has }) reader
@@ -135,6 +173,7 @@ connection_stays fixed conn world next story later heard stays (is_open bytes no
       here = standing.here;
       placed = there.0;
       marked = there.1;
+      dropped = dropped_stays world next node stays.broken standing.here standing.dropped;
       stands = subst (λ t. Stands fixed node conn (inputs_in fixed.setting bytes) (begun bytes) connection t (later.talk.answers conn)
           (later.course.sessions conn) standing.here) (sym stays.told)
           (subst (λ s. Stands fixed node conn (inputs_in fixed.setting bytes) (begun bytes) connection (story.told conn) s (later.course.sessions conn)
@@ -142,36 +181,34 @@ connection_stays fixed conn world next story later heard stays (is_open bytes no
           (subst (λ s. Stands fixed node conn (inputs_in fixed.setting bytes) (begun bytes) connection (story.told conn) (story.talk.answers conn) s
           standing.here) (sym stays.session) standing.stands));
     })
-connection_stays fixed conn world next story later heard stays (is_closed bytes node front connection at gone) =
+connection_stays fixed conn world next story later stop heard stays (is_cut_off bytes node front connection at gone next_is) =
     let now = front_now conn (front_at world node) (front_at next node) front (stays.fronts node) at.at in
-    let there = there_stays fixed conn world next story later node front now.front gone.here stays at.at now.is gone.placed gone.marked in
-    is_closed bytes node now.front connection (record { at = now.is; has = now.same ∙ at.has })
+    is_cut_off bytes node now.front connection (record { at = now.is; has = now.same ∙ at.has })
+    (gone_stays fixed conn world next story later stays node front now.front (inputs_in fixed.setting bytes) is_lost connection at.at now.is gone)
     (record {
-      stage_is = gone.stage_is;
-      count = gone.count ∙ ap length (sym stays.told);
-      lasts = subst EndsOnlyLast (sym stays.told) gone.lasts;
-      client = stays.client ∙ gone.client ∙ ap (λ t. Some (client_with node (inputs_in fixed.setting bytes) t)) (sym stays.told);
-      here = gone.here;
-      placed = there.0;
-      marked = there.1;
-      left = subst (λ t. IsLeft fixed node conn (requests_in (inputs_in fixed.setting bytes)) t (later.talk.answers conn) (later.course.sessions conn)
-          gone.here) (sym stays.told)
-          (subst (λ s. IsLeft fixed node conn (requests_in (inputs_in fixed.setting bytes)) (story.told conn) s (later.course.sessions conn) gone.here)
-          (sym stays.said)
-          (subst (λ s. IsLeft fixed node conn (requests_in (inputs_in fixed.setting bytes)) (story.told conn) (story.talk.answers conn) s gone.here)
-          (sym stays.session) gone.left));
+      passed = next_is.passed;
+      request = next_is.request;
+      more = next_is.more;
+      parts = next_is.parts;
+      answered = subst (AreAnswered next_is.passed) (sym stays.told) next_is.answered;
     })
+connection_stays fixed conn world next story later stop heard stays (is_closed shut bytes node front connection at gone) =
+    let now = front_now conn (front_at world node) (front_at next node) front (stays.fronts node) at.at in
+    is_closed shut bytes node now.front connection (record { at = now.is; has = now.same ∙ at.has })
+    (gone_stays fixed conn world next story later stays node front now.front (inputs_in fixed.setting bytes) shut connection at.at now.is gone)
 
 -- each connection, where just one does anything
-pub each_stays : (fixed : Fixed) (world next : World) (story later : Tale) (heard after : ℕ → Heard) (conn : ℕ) (own : Heard)
-    → ((other : ℕ) → ConnectionIs fixed other world story (heard other)) → ((other : ℕ) → other ≢ conn → after other ≡ heard other)
-    → ((other : ℕ) → other ≢ conn → StaysAt fixed other world next story later) → after conn ≡ own → ConnectionIs fixed conn next later own
-    → (other : ℕ) → ConnectionIs fixed other next later (after other)
-each_stays fixed world next story later heard after conn own were others stays is mine other = ⊎_elim
-    (λ (same : other ≡ conn). subst (λ c. ConnectionIs fixed c next later (after c)) (sym same)
-    (subst (λ h. ConnectionIs fixed conn next later h) (sym is) mine))
-    (λ (ne : other ≢ conn). subst (λ h. ConnectionIs fixed other next later h) (sym (others other ne))
-    (connection_stays fixed other world next story later (heard other) (stays other ne) (were other)))
+pub each_stays : (fixed : Fixed) (world next : World) (story later : Tale) (stops now : ℕ → Stop) (heard after : ℕ → Heard) (conn : ℕ) (own : Heard)
+    → ((other : ℕ) → ConnectionIs fixed other world story (stops other) (heard other)) → ((other : ℕ) → other ≢ conn → after other ≡ heard other)
+    → ((other : ℕ) → other ≢ conn → now other ≡ stops other)
+    → ((other : ℕ) → other ≢ conn → StaysAt fixed other world next story later) → after conn ≡ own → ConnectionIs fixed conn next later (now conn) own
+    → (other : ℕ) → ConnectionIs fixed other next later (now other) (after other)
+each_stays fixed world next story later stops now heard after conn own were others same_stops stays is mine other = ⊎_elim
+    (λ (same : other ≡ conn). subst (λ c. ConnectionIs fixed c next later (now c) (after c)) (sym same)
+    (subst (λ h. ConnectionIs fixed conn next later (now conn) h) (sym is) mine))
+    (λ (ne : other ≢ conn). subst (λ h. ConnectionIs fixed other next later (now other) h) (sym (others other ne))
+    (subst (λ s. ConnectionIs fixed other next later s (heard other)) (sym (same_stops other ne))
+    (connection_stays fixed other world next story later (stops other) (heard other) (stays other ne) (were other))))
     (cases_eq other conn)
 
 pub same_front : (conn : ℕ) (one now : Option Front) → now ≡ one → SameFront conn one now

@@ -106,6 +106,7 @@ module _ (master : List ℕ) (nodes : Nodes) (from to : List ℕ) (message : Lin
   by_place (place.is_answered server answer) e there =
       let parts = carried_parts server front (Answer answer) from to message e in
       its_answer answer (sym parts.message_is) parts.to_is (ap (λ s. place.is_answered s answer) parts.from_is)
+  by_place (place.is_dropped server) e there = cc
   by_place (place.is_at me name_at.nowhere) e there = cc
   by_place (place.is_at me (name_at.waits ask)) e there = cc
   by_place (place.is_at me (name_at.sends name flow)) e there =

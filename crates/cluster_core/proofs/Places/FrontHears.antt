@@ -77,6 +77,7 @@ numbered_there : (master front : List ℕ) (links : Links LinkMsg) (id : AskId) 
 numbered_there master front links id place.nowhere placed = inl refl
 numbered_there master front links id (place.is_asked server ask) placed = inl refl
 numbered_there master front links id (place.is_answered server answer) placed = inl refl
+numbered_there master front links id (place.is_dropped server) placed = inl refl
 numbered_there master front links id (place.is_at me at) placed = inl refl
 numbered_there master front links id (place.is_barred barrier.nowhere) placed = inl refl
 numbered_there master front links id (place.is_barred barrier.asked) placed =

@@ -73,6 +73,7 @@ module _ (nodes later : Nodes) (alike : (name : List ℕ) → later name ≡ nod
   there_alike place.nowhere there = tt
   there_alike (place.is_asked server ask) there = (there.0, alike server ∙ there.1)
   there_alike (place.is_answered server answer) there = (there.0, alike server ∙ there.1)
+  there_alike (place.is_dropped server) there = (there.0, alike server ∙ there.1)
   there_alike (place.is_at me at) there = (there.0, alike me.server ∙ there.1, there.2)
   there_alike (place.is_barred at) there = tt
 
