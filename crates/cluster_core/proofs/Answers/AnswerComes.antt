@@ -11,6 +11,7 @@ use Rattle.front_core.specs.declared.connection.Connection.{Connection}
 use Rattle.front_core.specs.declared.connection.Stage.TheVariants.{Waits}
 use Rattle.front_core.specs.Answered.{answer_by, answer_comes, goes_on_by}
 use Rattle.front_core.specs.Taken.{Turned, Ways, next_of}
+use Rattle.imap_talk.specs.Inputs.{requests_in}
 use Rattle.imap_talk.specs.declared.inputs.Input.{Input}
 use Rattle.imap_types.specs.declared.command.Tag.{Tag}
 use Rattle.link_msg.specs.declared.answer.AnswerBody.{AnswerBody}

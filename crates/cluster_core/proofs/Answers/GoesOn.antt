@@ -1,5 +1,5 @@
 -- What came of a command that waited makes its connection stand so: its client is told the store's reply or a refusal, or it waits on.
-use Rattle.std.proofs.Common.{◌≡◌, ℕ, ◌+◌, true, false, is_some, List, [], ◌∷◌, ◌++◌, length, Option, Some, refl, sym, ◌∙◌, ap, subst}
+use Rattle.std.proofs.Common.{◌≡◌, ◌≢◌, ℕ, ◌+◌, Bool, true, false, is_some, List, [], ◌∷◌, ◌++◌, length, Option, Some, refl, sym, ◌∙◌, ap, subst}
 use Rattle.asking_core.specs.Answered.{WentOn}
 use Rattle.asking_core.specs.Laws.{FitsAt}
 use Rattle.asking_core.specs.declared.then.Then.{Then}
@@ -12,6 +12,7 @@ use Rattle.front_core.specs.declared.connection.Connection.{Connection}
 use Rattle.front_core.specs.Answered.{by_then, goes_on_by, need_behind, sends_if}
 use Rattle.front_core.specs.Taken.{Turned}
 use Rattle.front_core.specs.Ups.{Ups, is_up}
+use Rattle.link_queue.specs.Broken.{Broken}
 use Rattle.imap_talk.specs.Inputs.{requests_in}
 use Rattle.imap_talk.specs.SessionEnds.{TurnEnds, has_ended}
 use Rattle.imap_talk.specs.Transcript.{ends, is_bye}

@@ -64,7 +64,7 @@ module _ (config : Config) (heard : ℕ → Heard) (world : World) (law : KeepsL
         law = record {
           master = law.master;
           nodes = front_cores config world next law.master law.nodes to front later there (record { me = refl; master = refl; first = refl; setting = refl })
-              refl (moved_so replica);
+              (moved_so replica);
           story = law.story;
           stops = law.stops;
           given = law.given;

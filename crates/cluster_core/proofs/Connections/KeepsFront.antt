@@ -170,7 +170,7 @@ front_keeps config heard after origin law links conn node front was connection o
       law = record {
         master = law.master;
         nodes = front_cores config origin next law.master law.nodes node front later at
-            (record { me = refl; master = refl; first = refl; setting = refl }) refl moved;
+            (record { me = refl; master = refl; first = refl; setting = refl }) moved;
         story = story;
         stops = stops;
         given = law.given;

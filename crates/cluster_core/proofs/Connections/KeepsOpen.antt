@@ -251,7 +251,7 @@ front_keeps_open config heard world node conn front law at first =
       law = record {
         master = law.master;
         nodes = front_cores config world next law.master law.nodes node front later at
-            (record { me = refl; master = refl; first = refl; setting = refl }) refl moved;
+            (record { me = refl; master = refl; first = refl; setting = refl }) moved;
         story = law.story;
         stops = law.stops;
         given = law.given;
