@@ -23,14 +23,14 @@ class Step:
 
 
 class Cluster:
-    """Steps are counted, what they say of commands is noted. `watch` is called behind each step. Where names of closed mailboxes may be made again, a rule of
-    backends is left out."""
+    """Steps are counted, what they say of commands is noted. `watch` is called behind each step. Without faults, as in the program, the links of the master don't
+    break: a cut of one is a step that changes nothing. Where names of closed mailboxes may be made again, a rule of backends is left out."""
 
-    def __init__(self, config, watch=None, makes_closed_names=False):
+    def __init__(self, config, watch=None, has_faults=False, makes_closed_names=False):
         self.config = {node['name']: node for node in config['nodes']}
         self.kinds = {name: node['kind'] for name, node in self.config.items()}
         self.pairs = [(a, b) for a in self.kinds for b in self.kinds if a != b and self.linked(a, b)]
-        self.setting, self.watch, self.makes_closed_names = Setting(config), watch, makes_closed_names
+        self.setting, self.watch, self.has_faults, self.makes_closed_names = Setting(config), watch, has_faults, makes_closed_names
         self.links, self.reach = Links(self.pairs), Reach(self.pairs)
         self.disks = {name: NodeDisk() for name, kind in self.kinds.items() if kind != 'frontend'}
         self.nodes, self.homes, self.given, self.over_at = {}, {}, {}, {}
@@ -167,9 +167,13 @@ class Cluster:
             if count == before:
                 break
 
+    def may_cut(self, a, b):
+        return self.has_faults or 'master' not in (self.kinds[a], self.kinds[b])
+
     def cut(self, a, b, kept, kept_back):
         self.steps += 1
-        self.links.cut(a, b, kept, kept_back)
+        if self.may_cut(a, b):
+            self.links.cut(a, b, kept, kept_back)
         self.ends()
 
     def may_join(self, a, b):
@@ -182,6 +186,7 @@ class Cluster:
         self.ends()
 
     def heal(self):
+        """Joins what may be joined, each a step."""
         places = list(self.kinds)
         for a, b in self.pairs:
             if places.index(a) < places.index(b) and self.may_join(a, b):

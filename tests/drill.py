@@ -5,7 +5,7 @@
     tests/drill.py [--faults] NUMBER SIZE                  prints the line of a drill
     tests/drill.py [--faults] NUMBER SIZE CONFIG SCHEDULE  and writes its cluster, and those of its events that have a word, to these files
 
-Without `--faults` a crash, a start and a heal are steps that change nothing, and a crash and a start have no word, so they are no lines of the schedule.
+Without `--faults` a crash and a start are steps that change nothing, and have no word, so they are no lines of the schedule.
 """
 import json, os, re, sys
 
@@ -78,10 +78,10 @@ def events(number, size):
     yield 'flow', 100_000
 
 
-def take(cluster, has_faults, word, *rest):
+def take(cluster, word, *rest):
     if word == 'data':
         cluster.data(rest[0], rest[1].encode())
-    elif has_faults or word in ('open', 'flow'):
+    elif cluster.has_faults or word not in ('crash', 'start'):
         getattr(cluster, word)(*rest)
     else:
         cluster.steps += 1
@@ -99,9 +99,9 @@ def counts(output):
 
 
 def line_of(number, size, has_faults=False):
-    cluster = Cluster(CONFIG)
+    cluster = Cluster(CONFIG, has_faults=has_faults)
     for event in events(number, size):
-        take(cluster, has_faults, *event)
+        take(cluster, *event)
     return 'drill %d %d %s\n' % (number, size, counts(output_of(cluster)))
 
 

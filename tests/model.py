@@ -4,8 +4,8 @@
     tests/model.py [--faults] CONFIG SCHEDULE
     tests/model.py
 
-With `--faults` a schedule may have the words by which links break and nodes crash. Without arguments it compares each stored output of examples/ and
-tests/replays/ with its own. It is written from these two pages, examples/, RFC 9051 and RFC 3656 alone, and knows no proof and no code of the program. It keeps
+With `--faults` a schedule may have the words by which nodes crash and start, and the links of the master break too, as the program's don't yet. Without
+arguments it compares each stored output of examples/ and tests/replays/ with its own. It is written from these two pages, examples/, RFC 9051 and RFC 3656 alone, and knows no proof and no code of the program. It keeps
 every byte of a connection and cuts it anew, so it is slow and plain. What a frame spells is in commands.py, what a client is replied in sessions.py, what
 mailboxes hold in mailboxes.py, the nodes in frontend.py, backend.py and mupdate.py, what joins them in cluster.py, links.py, disks.py and history.py, the
 rules of schedules in rules.py. `.ci/large` and `tests/random_schedules` compare the program with it, and the outputs of tests/replays were worked out by it
@@ -92,8 +92,8 @@ def cluster_after(config, schedule, **setting):
     return cluster
 
 
-def run(config, schedule):
-    return output_of(cluster_after(config, schedule))
+def run(config, schedule, **setting):
+    return output_of(cluster_after(config, schedule, **setting))
 
 
 def printed_by(config, schedule, has_faults=False):
@@ -101,7 +101,7 @@ def printed_by(config, schedule, has_faults=False):
     broken = refusal(config, schedule, has_faults)
     if broken:
         return '', 'murder: schedule refused: line %d rule %d\n' % broken, 3
-    return run(config, schedule), '', 0
+    return run(config, schedule, has_faults=has_faults), '', 0
 
 
 def stored(name, otherwise=''):

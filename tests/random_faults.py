@@ -70,7 +70,7 @@ class Narrow:
     """Makes a schedule beside the run of its lines."""
 
     def __init__(self, dice, config):
-        self.dice, self.cluster, self.lines, self.number = dice, Cluster(json.loads(config)), [], 0
+        self.dice, self.cluster, self.lines, self.number = dice, Cluster(json.loads(config), has_faults=True), [], 0
         self.names = ['box', 'user.bob'][:dice.choice([1, 1, 1, 2])]
         fronts, backs = (self.cluster.names_of(kind) for kind in ('frontend', 'backend'))
         self.fronts, self.faults = fronts, Faults(dice, fronts, backs)
