@@ -1,8 +1,8 @@
 -- Whom a frontend may ask, by the law.
-use Rattle.std.proofs.Common.{◌≡◌, ℕ, nat_eq, List, Some, sym, ap, ◌∙◌}
+use Rattle.std.proofs.Common.{◌≡◌, ℕ, true, false, nat_eq, List, Some, sym, ap, ◌∙◌}
 use Rattle.std.specs.List.{list_any}
 use Rattle.std.specs.Cmp.Lexicographic.{pointwise}
-use Rattle.cluster_core.specs.World.{home_of, master_of, front_at, home_at}
+use Rattle.cluster_core.specs.World.{backends_of, home_of, master_of, front_at, home_at}
 use Rattle.front_core.specs.declared.front.Front.{Front}
 use Rattle.front_core.specs.Front.{ways_of}
 use Rattle.front_core.specs.Taken.{ways_by}
@@ -43,5 +43,8 @@ pub reaches : (config : Config) (heard : ℕ → Heard) (world : World) (node : 
     → front_at world node ≡ Some front → Reaches (master_of config) (home_at world) world.broken front.ups
 reaches config heard world node front law links at = record {
   up = links.master_up node front at;
-  cut = ?;
+  cut = λ server down there none.
+      absurd (let is : list_any (pointwise nat_eq server) (backends_of config.nodes) ≡ true =
+      ap (list_any (pointwise nat_eq server)) (sym (law.nodes).backends) ∙ sym ((law.nodes).homes server) ∙ there in
+      let no : false ≡ true = sym down ∙ links.all_up none node server front at is in cc);
 }

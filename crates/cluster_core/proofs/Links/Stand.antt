@@ -1,6 +1,8 @@
 -- HOW THE LINKS OF A RUN STAND: those of the master are whole; a link that is broken is so in both directions; where that from a server to a frontend is
 -- broken, its End is on its way, or the frontend took it and treats the link as down; and a command waits for a server's answer only while the link to it is up.
-use Rattle.std.specs.Prelude.{◌≡◌, ℕ, Bool, true, false, List, [], ◌∷◌, ◌++◌, Some}
+use Rattle.std.specs.Prelude.{◌≡◌, ℕ, nat_eq, Bool, true, false, List, [], ◌∷◌, ◌++◌, Some}
+use Rattle.std.specs.List.{list_any}
+use Rattle.std.specs.Cmp.Lexicographic.{pointwise}
 use Rattle.front_core.specs.declared.front.Front.{Front}
 use Rattle.front_core.specs.Front.{connection_at, waits_for}
 use Rattle.front_core.specs.Ups.{is_up}
@@ -9,10 +11,8 @@ use Rattle.link_msg.specs.declared.message.LinkMsg.TheVariants.{End}
 use Rattle.link_queue.specs.Broken.{is_broken}
 use Rattle.link_queue.specs.Links.{on_link}
 use Rattle.mur_config.specs.declared.config.Config.{Config}
-use Rattle.mur_config.specs.Nodes.{links_of}
 use Rattle.cluster_core.specs.declared.world.World.{World}
-use Rattle.cluster_core.specs.World.{front_at, master_of}
-use Rattle.cluster_core.proofs.Nodes.LinksUp.{ups_on}
+use Rattle.cluster_core.specs.World.{backends_of, front_at, master_of}
 
 -- of a broken link, by whether the node to which it leads treats it as up: its End is on its way, or was taken
 pub data IsDown (queue : List LinkMsg) (up : Bool) : Type 0 where
@@ -29,4 +29,5 @@ pub record LinksStand (config : Config) (world : World) : Type 0 where
   pub waits_up : (node server : List ℕ) (front : Front) (conn : ℕ) → front_at world node ≡ Some front
       → waits_for (connection_at front conn) server ≡ true → is_up front.ups server ≡ true
   -- before any link breaks, all are up
-  pub all_up : world.broken ≡ [] → (node : List ℕ) (front : Front) → front_at world node ≡ Some front → front.ups ≡ ups_on node [] (links_of config.nodes)
+  pub all_up : world.broken ≡ [] → (node server : List ℕ) (front : Front) → front_at world node ≡ Some front
+      → list_any (pointwise nat_eq server) (backends_of config.nodes) ≡ true → is_up front.ups server ≡ true
