@@ -1,4 +1,5 @@
 -- What a step does for a command that has no reply: it carries it out, sees it, or leaves it; and what its new place tells then.
+use Rattle.link_queue.specs.Broken.{Broken}
 use Rattle.std.proofs.Common.{◌≡◌, ℕ, ◌+◌, List, [], ◌∷◌, ◌++◌, length, Some, refl, sym, ◌∙◌, ap, subst, arith, length-append}
 use Rattle.imap_talk.proofs.AnswersEnd.{worked_ends}
 use Rattle.imap_types.specs.declared.command.Command.{Command}
@@ -34,8 +35,8 @@ use Rattle.cluster_core.proofs.Commands.Standing.{Fixed, next_id}
 use Rattle.cluster_core.proofs.Connections.ConnectionLaw.{GoesOnAt, session_at, session_of_other}
 
 -- a command of a connection, which the one store hasn't replied to, in a tale up to this step
-pub record IsOpen (fixed : Fixed) (conn now : ℕ) (marks : List Mark) (story : Tale) (tag : Tag) (c : ClientCommand) : Type 0 where
-  pub is_told : AreMarkedSo fixed.setting now marks story
+pub record IsOpen (fixed : Fixed) (conn : ℕ) (broken : Broken) (now : ℕ) (marks : List Mark) (story : Tale) (tag : Tag) (c : ClientCommand) : Type 0 where
+  pub is_told : AreMarkedSo fixed.setting broken now marks story
   pub setting_is : c.setting ≡ fixed.setting
   pub its : c.id ≡ next_id conn (story.told conn)
   pub was_is : c.was ≡ story.course.sessions conn
@@ -56,18 +57,18 @@ abbrev pub acted_on : Fixed → Tale → ℕ → Tag → ClientCommand → ℕ �
 acted_on fixed story conn tag c serial = acting fixed.setting story conn (a_command tag c.it) serial
 
 -- the step is its point: the store carries it out, and its place tells its client's reply
-pub record IsCarriedOut (fixed : Fixed) (front : List ℕ) (conn now : ℕ) (marks : List Mark) (story : Tale) (tag : Tag) (c : ClientCommand) (later : Store)
+pub record IsCarriedOut (fixed : Fixed) (front : List ℕ) (conn : ℕ) (broken : Broken) (now : ℕ) (marks : List Mark) (story : Tale) (tag : Tag) (c : ClientCommand) (later : Store)
     (counts : Counts) (here : Place) : Type 0 where
   pub serial : ℕ
-  pub is_told : AreMarkedSo fixed.setting now (marks ++ home_mark now c.id counts ∷ []) (acted_on fixed story conn tag c serial)
+  pub is_told : AreMarkedSo fixed.setting broken now (marks ++ home_mark now c.id counts ∷ []) (acted_on fixed story conn tag c serial)
   pub store : (acted_on fixed story conn tag c serial).course.store ≡ later
   pub goes_on : GoesOnAt conn story (acted_on fixed story conn tag c serial)
   pub knows : KnowsOf fixed front conn tag c (acted_on fixed story conn tag c serial) here
 
 -- the step sees it, and does nothing
-pub record IsSeen (fixed : Fixed) (front : List ℕ) (conn now : ℕ) (marks : List Mark) (story : Tale) (tag : Tag) (c : ClientCommand) (here : Place)
+pub record IsSeen (fixed : Fixed) (front : List ℕ) (conn : ℕ) (broken : Broken) (now : ℕ) (marks : List Mark) (story : Tale) (tag : Tag) (c : ClientCommand) (here : Place)
     : Type 0 where
-  pub is_told : AreMarkedSo fixed.setting now (marks ++ home_mark now c.id IfAnswered ∷ []) story
+  pub is_told : AreMarkedSo fixed.setting broken now (marks ++ home_mark now c.id IfAnswered ∷ []) story
   pub knows : KnowsOf fixed front conn tag c story here
 
 -- ---- the request that is carried out
@@ -126,8 +127,8 @@ acting_goes_on setting conn story request serial unreplied = record {
   };
 }
 
-module _ (fixed : Fixed) (front : List ℕ) (conn now : ℕ) (marks : List Mark) (story : Tale) (tag : Tag) (c : ClientCommand)
-    (is_open : IsOpen fixed conn now marks story tag c) where
+module _ (fixed : Fixed) (front : List ℕ) (conn : ℕ) (broken : Broken) (now : ℕ) (marks : List Mark) (story : Tale) (tag : Tag) (c : ClientCommand)
+    (is_open : IsOpen fixed conn broken now marks story tag c) where
   need_is : needs_so fixed.setting story.course conn c.it c.name c.work
   need_is =
       ap (λ (s : Setting). need_of s (story.course.sessions conn) c.it) (sym is_open.setting_is)
@@ -135,10 +136,10 @@ module _ (fixed : Fixed) (front : List ℕ) (conn now : ℕ) (marks : List Mark)
 
   -- the mark is the command's
   as_its : (counts : Counts) (later : Tale)
-      → AreMarkedSo fixed.setting now (marks ++ home_mark now (open_ask story conn) counts ∷ []) later
-      → AreMarkedSo fixed.setting now (marks ++ home_mark now c.id counts ∷ []) later
+      → AreMarkedSo fixed.setting broken now (marks ++ home_mark now (open_ask story conn) counts ∷ []) later
+      → AreMarkedSo fixed.setting broken now (marks ++ home_mark now c.id counts ∷ []) later
   as_its counts later are =
-      subst (λ (id : AskId). AreMarkedSo fixed.setting now (marks ++ home_mark now id counts ∷ []) later) (sym is_open.its) are
+      subst (λ (id : AskId). AreMarkedSo fixed.setting broken now (marks ++ home_mark now id counts ∷ []) later) (sym is_open.its) are
 
   -- ---- it is carried out
 
@@ -169,7 +170,7 @@ module _ (fixed : Fixed) (front : List ℕ) (conn now : ℕ) (marks : List Mark)
         ∙ ap (λ (was : Sess). session_after was turn.session) (sym is_open.was_is)
 
     pub carried_so : (later : Store) (counts : Counts) (here : Place) → CarriesOut story.course.store later c.name c.work serial counts
-        → Brings fixed.master fixed.first front c here turn → IsCarriedOut fixed front conn now marks story tag c later counts here
+        → Brings fixed.master fixed.first front c here turn → IsCarriedOut fixed front conn broken now marks story tag c later counts here
     carried_so later counts here carries brings = record {
       serial = serial;
       is_told = as_its counts acted (carries_out now marks story conn counts (a_command tag c.it) serial
@@ -190,5 +191,5 @@ module _ (fixed : Fixed) (front : List ℕ) (conn now : ℕ) (marks : List Mark)
   pub known_so : (here : Place) → Undecided fixed.master fixed.first front c here → KnowsOf fixed front conn tag c story here
   known_so here tells = undecided is_open.said is_open.was_is tells
 
-  pub seen_so : (here : Place) → Undecided fixed.master fixed.first front c here → IsSeen fixed front conn now marks story tag c here
+  pub seen_so : (here : Place) → Undecided fixed.master fixed.first front c here → IsSeen fixed front conn broken now marks story tag c here
   seen_so here tells = record { is_told = as_its IfAnswered story (sees now marks story conn (a_command tag c.it) is_open.said is_open.asked is_open.is_told); knows = known_so here tells }

@@ -1,5 +1,6 @@
 -- A backend takes the ask of a CREATE or DELETE, the master's response to the line of its flow, or anything else of the master: what its place tells then. No such step
 -- makes a mark, and the store does nothing.
+use Rattle.link_queue.specs.Broken.{Broken}
 use Rattle.std.proofs.Common.{◌≡◌, ◌≢◌, ℕ, ◌&&◌, Bool, true, false, List, [], ◌∷◌, Option, None, Some, refl, sym, ◌∙◌, ap, subst}
 use Rattle.back_links.specs.BackEvents.{IsFitting, fits_by}
 use Rattle.back_links.specs.Written.{response_message}
@@ -71,8 +72,8 @@ abbrev pub its_name_ask : List ℕ → ClientCommand → AskKind → NameAsk
 its_name_ask front c kind = name_ask front (its_ask c) kind
 
 abbrev pub NameIsAsked : Type 0
-NameIsAsked = (fixed : Fixed) (front : List ℕ) (conn now : ℕ) (marks : List Mark) (story : Tale) (tag : Tag) (c : ClientCommand)
-    (murder : Murder) (given : Given) (name : List ℕ) (node : BackNode) (kind : AskKind) → IsOpen fixed conn now marks story tag c
+NameIsAsked = (fixed : Fixed) (front : List ℕ) (conn : ℕ) (broken : Broken) (now : ℕ) (marks : List Mark) (story : Tale) (tag : Tag) (c : ClientCommand)
+    (murder : Murder) (given : Given) (name : List ℕ) (node : BackNode) (kind : AskKind) → IsOpen fixed conn broken now marks story tag c
     → NameAskComes murder given story.course.store c kind name node front
     → (name_kind (its_ask c).op ≡ Some kind)
     × MovesOn fixed front conn now story tag c murder given name node front (Ask (its_ask c))
@@ -120,7 +121,7 @@ not_messages it here kind e = by (is_of_messages it) refl
     by true is = absurd (let no : Some kind ≡ None = sym e ∙ no_kind it is in cc)
 
 pub name_is_asked : NameIsAsked
-name_is_asked fixed front conn now marks story tag c murder given name node kind is_open comes =
+name_is_asked fixed front conn broken now marks story tag c murder given name node kind is_open comes =
     let of : name_kind (its_ask c).op ≡ Some kind = name_kind_is c kind comes.does in
     let ask_is : its_name_ask front c kind ≡ kind_ask front c kind =
     ap (λ (n : List ℕ). record { front = front; id = c.id; name = n; kind = kind }) c.name_is in
@@ -133,7 +134,7 @@ name_is_asked fixed front conn now marks story tag c murder given name node kind
             (name_ask_fits c kind comes.does comes.numbered)
             (not_messages c.waiting.asking.op (is_open_here (held_at node.home c.waiting.name)) kind of);
         to = goes.1;
-        knows = known_so fixed front conn now marks story tag c is_open (moved_to name node.flows.me _) goes.0;
+        knows = known_so fixed front conn broken now marks story tag c is_open (moved_to name node.flows.me _) goes.0;
       },
     )
 

@@ -1,5 +1,6 @@
 -- The master takes the NOOP of a command that waits for its OK: where the mailbox is missing this is the command's point, and else the step only sees it. The
 -- OK will tell it by the table of this step, for whatever reason the NOOP was sent.
+use Rattle.link_queue.specs.Broken.{Broken}
 use Rattle.std.proofs.Common.{◌≡◌, ◌≢◌, ◌⊎◌, inl, inr, ℕ, List, [], ◌∷◌, ◌++◌, Option, None, Some, refl, sym, ◌∙◌}
 use Rattle.ask_routes.specs.declared.next.Why.{Why}
 use Rattle.ask_routes.specs.declared.next.Why.TheVariants as why
@@ -35,29 +36,29 @@ abbrev pub cleared_at : MailboxTable → Place
 cleared_at table = place.is_barred (barrier.answered table)
 
 -- it is carried out, and the store does nothing; or it is only seen
-pub data IsDecidedSo (fixed : Fixed) (front : List ℕ) (conn now : ℕ) (marks : List Mark) (story : Tale) (tag : Tag) (c : ClientCommand)
+pub data IsDecidedSo (fixed : Fixed) (front : List ℕ) (conn : ℕ) (broken : Broken) (now : ℕ) (marks : List Mark) (story : Tale) (tag : Tag) (c : ClientCommand)
     (table : MailboxTable) : Type 0 where
-  is_point : IsCarriedOut fixed front conn now marks story tag c story.course.store IfAnswered (cleared_at table)
-      → IsDecidedSo fixed front conn now marks story tag c table
-  is_seen : IsSeen fixed front conn now marks story tag c (cleared_at table) → IsDecidedSo fixed front conn now marks story tag c table
+  is_point : IsCarriedOut fixed front conn broken now marks story tag c story.course.store IfAnswered (cleared_at table)
+      → IsDecidedSo fixed front conn broken now marks story tag c table
+  is_seen : IsSeen fixed front conn broken now marks story tag c (cleared_at table) → IsDecidedSo fixed front conn broken now marks story tag c table
 
-pub record ClearsIt (fixed : Fixed) (front : List ℕ) (conn now : ℕ) (marks : List Mark) (story : Tale) (tag : Tag) (c : ClientCommand)
+pub record ClearsIt (fixed : Fixed) (front : List ℕ) (conn : ℕ) (broken : Broken) (now : ℕ) (marks : List Mark) (story : Tale) (tag : Tag) (c : ClientCommand)
     (murder : Murder) (given : Given) : Type 0 where
   pub step : node_says murder.master front (noop_of c.id)
       ≡ record { master = murder.master; outs = Link front (ok_of c.id) ∷ mark c.id IfAnswered ∷ [] }
   pub then_holds : ManyHold (master_takes murder front (noop_of c.id)) given story.course.store
-  pub decides : IsDecidedSo fixed front conn now marks story tag c murder.master.table
+  pub decides : IsDecidedSo fixed front conn broken now marks story tag c murder.master.table
   pub marked : last_mark c.id (marks ++ home_mark now c.id IfAnswered ∷ []) ≡ Some (home_mark now c.id IfAnswered)
 
 abbrev pub NoopClears : Type 0
-NoopClears = (fixed : Fixed) (front : List ℕ) (conn now : ℕ) (marks : List Mark) (story : Tale) (tag : Tag) (c : ClientCommand)
-    (murder : Murder) (given : Given) → IsOpen fixed conn now marks story tag c → NoopComes murder given story.course.store front c.id
-    → ClearsIt fixed front conn now marks story tag c murder given
+NoopClears = (fixed : Fixed) (front : List ℕ) (conn : ℕ) (broken : Broken) (now : ℕ) (marks : List Mark) (story : Tale) (tag : Tag) (c : ClientCommand)
+    (murder : Murder) (given : Given) → IsOpen fixed conn broken now marks story tag c → NoopComes murder given story.course.store front c.id
+    → ClearsIt fixed front conn broken now marks story tag c murder given
 
 -- ---- which
 
-module _ (fixed : Fixed) (front : List ℕ) (conn now : ℕ) (marks : List Mark) (story : Tale) (tag : Tag) (c : ClientCommand) (murder : Murder) (given : Given)
-    (is_open : IsOpen fixed conn now marks story tag c) (comes : NoopComes murder given story.course.store front c.id) where
+module _ (fixed : Fixed) (front : List ℕ) (conn : ℕ) (broken : Broken) (now : ℕ) (marks : List Mark) (story : Tale) (tag : Tag) (c : ClientCommand) (murder : Murder) (given : Given)
+    (is_open : IsOpen fixed conn broken now marks story tag c) (comes : NoopComes murder given story.course.store front c.id) where
   abbrev table : MailboxTable
   table = murder.master.table
 
@@ -70,9 +71,9 @@ module _ (fixed : Fixed) (front : List ℕ) (conn now : ℕ) (marks : List Mark)
 
   -- the mailbox is missing
   is_its_point : c.work ≢ Make → record_at table c.name ≡ None
-      → IsCarriedOut fixed front conn now marks story tag c store IfAnswered (cleared_at table)
+      → IsCarriedOut fixed front conn broken now marks story tag c store IfAnswered (cleared_at table)
   is_its_point ne none =
-      carried_so fixed front conn now marks story tag c is_open 0 store IfAnswered (cleared_at table)
+      carried_so fixed front conn broken now marks story tag c is_open 0 store IfAnswered (cleared_at table)
       ((missing_is_a_point murder given store front fixed.master fixed.first c why.Missing comes ne none).carries 0)
       (λ at cause. (missing_at ne none at cause).told 0)
 
@@ -84,13 +85,13 @@ module _ (fixed : Fixed) (front : List ℕ) (conn now : ℕ) (marks : List Mark)
   goes_on_by at cause there (is_refused why_so it) = is_refused_at it.told it.reserved
   goes_on_by at cause there (is_asked it) = asks_on it.waits
 
-  is_only_seen : (c.work ≢ Make → record_at table c.name ≡ None → ⊥) → IsSeen fixed front conn now marks story tag c (cleared_at table)
+  is_only_seen : (c.work ≢ Make → record_at table c.name ≡ None → ⊥) → IsSeen fixed front conn broken now marks story tag c (cleared_at table)
   is_only_seen there =
-      seen_so fixed front conn now marks story tag c is_open (cleared_at table)
+      seen_so fixed front conn broken now marks story tag c is_open (cleared_at table)
       (λ at cause. goes_on_by at cause there (each_barrier murder given store front fixed.master fixed.first (waiting_at c at) cause comes))
 
   decides_by : (c.work ≡ Make) ⊎ (c.work ≢ Make) → (found : Option Record) → record_at table c.name ≡ found
-      → IsDecidedSo fixed front conn now marks story tag c table
+      → IsDecidedSo fixed front conn broken now marks story tag c table
   decides_by (inl makes) found is = is_seen (is_only_seen (λ ne none. ne makes))
   decides_by (inr ne) None is = is_point (is_its_point ne is)
   decides_by (inr ne) (Some it) is = is_seen (is_only_seen (λ _ none. (let no : Some it ≡ None = sym is ∙ none in cc)))
@@ -100,7 +101,7 @@ module _ (fixed : Fixed) (front : List ℕ) (conn now : ℕ) (marks : List Mark)
   taken_by cause (is_refused why_so it) = it.taken
   taken_by cause (is_asked it) = it.taken
 
-  clears : ClearsIt fixed front conn now marks story tag c murder given
+  clears : ClearsIt fixed front conn broken now marks story tag c murder given
   clears =
       let taken = taken_by why.Missing (each_barrier murder given store front fixed.master fixed.first c why.Missing comes) in
       record {
@@ -111,4 +112,4 @@ module _ (fixed : Fixed) (front : List ℕ) (conn now : ℕ) (marks : List Mark)
       }
 
 pub noop_clears : NoopClears
-noop_clears fixed front conn now marks story tag c murder given is_open comes = clears fixed front conn now marks story tag c murder given is_open comes
+noop_clears fixed front conn broken now marks story tag c murder given is_open comes = clears fixed front conn broken now marks story tag c murder given is_open comes

@@ -1,4 +1,5 @@
 -- A backend takes the ask of a command at a mailbox: where it has the name open this is the command's point, and else the step only sees it.
+use Rattle.link_queue.specs.Broken.{Broken}
 use Rattle.std.proofs.Common.{◌≡◌, ℕ, true, false, List, [], ◌∷◌, refl, ap, subst}
 use Rattle.asking_core.specs.Answered.{answered}
 use Rattle.asking_core.specs.declared.waiting.At.{At}
@@ -39,35 +40,35 @@ abbrev pub answer_outs : List ℕ → AskId → AnswerBody → Counts → List O
 answer_outs front id body counts = Link front (Answer (record { id = id; body = body })) ∷ mark id counts ∷ []
 
 -- the name is open there: the store carries the command out in this step
-pub record ServesIt (fixed : Fixed) (front : List ℕ) (conn now : ℕ) (marks : List Mark) (story : Tale) (tag : Tag) (c : ClientCommand)
+pub record ServesIt (fixed : Fixed) (front : List ℕ) (conn : ℕ) (broken : Broken) (now : ℕ) (marks : List Mark) (story : Tale) (tag : Tag) (c : ClientCommand)
     (murder : Murder) (given : Given) (name : List ℕ) (node : BackNode) : Type 0 where
   pub body : AnswerBody
   pub counts : Counts
   pub later : Store
   pub step : (node_takes node front (Ask (its_ask c))).outs ≡ answer_outs front c.id body counts
   pub then_holds : ManyHold (home_takes murder name node front (Ask (its_ask c))) given later
-  pub carried : IsCarriedOut fixed front conn now marks story tag c later counts (answered_at name c.id body)
+  pub carried : IsCarriedOut fixed front conn broken now marks story tag c later counts (answered_at name c.id body)
 
 -- it isn't: the step only sees it
-pub record SendsItOn (fixed : Fixed) (front : List ℕ) (conn now : ℕ) (marks : List Mark) (story : Tale) (tag : Tag) (c : ClientCommand)
+pub record SendsItOn (fixed : Fixed) (front : List ℕ) (conn : ℕ) (broken : Broken) (now : ℕ) (marks : List Mark) (story : Tale) (tag : Tag) (c : ClientCommand)
     (murder : Murder) (given : Given) (name : List ℕ) (node : BackNode) : Type 0 where
   pub body : AnswerBody
   pub state : (node_takes node front (Ask (its_ask c))).state ≡ node
   pub step : (node_takes node front (Ask (its_ask c))).outs ≡ answer_outs front c.id body IfAnswered
   pub then_holds : ManyHold (home_takes murder name node front (Ask (its_ask c))) given story.course.store
-  pub seen : IsSeen fixed front conn now marks story tag c (answered_at name c.id body)
+  pub seen : IsSeen fixed front conn broken now marks story tag c (answered_at name c.id body)
 
 abbrev pub OpenIsItsPoint : Type 0
-OpenIsItsPoint = (fixed : Fixed) (front : List ℕ) (conn now : ℕ) (marks : List Mark) (story : Tale) (tag : Tag) (c : ClientCommand)
-    (murder : Murder) (given : Given) (name : List ℕ) (node : BackNode) → IsOpen fixed conn now marks story tag c
+OpenIsItsPoint = (fixed : Fixed) (front : List ℕ) (conn : ℕ) (broken : Broken) (now : ℕ) (marks : List Mark) (story : Tale) (tag : Tag) (c : ClientCommand)
+    (murder : Murder) (given : Given) (name : List ℕ) (node : BackNode) → IsOpen fixed conn broken now marks story tag c
     → AskComes murder given story.course.store c name node front → is_open_here (held_at node.home c.name) ≡ true
-    → ServesIt fixed front conn now marks story tag c murder given name node
+    → ServesIt fixed front conn broken now marks story tag c murder given name node
 
 abbrev pub ClosedIsSeen : Type 0
-ClosedIsSeen = (fixed : Fixed) (front : List ℕ) (conn now : ℕ) (marks : List Mark) (story : Tale) (tag : Tag) (c : ClientCommand)
-    (murder : Murder) (given : Given) (name : List ℕ) (node : BackNode) → IsOpen fixed conn now marks story tag c
+ClosedIsSeen = (fixed : Fixed) (front : List ℕ) (conn : ℕ) (broken : Broken) (now : ℕ) (marks : List Mark) (story : Tale) (tag : Tag) (c : ClientCommand)
+    (murder : Murder) (given : Given) (name : List ℕ) (node : BackNode) → IsOpen fixed conn broken now marks story tag c
     → AskComes murder given story.course.store c name node front → is_open_here (held_at node.home c.name) ≡ false
-    → SendsItOn fixed front conn now marks story tag c murder given name node
+    → SendsItOn fixed front conn broken now marks story tag c murder given name node
 
 -- ---- whomever its frontend waits for
 
@@ -93,7 +94,7 @@ tells_all murder given store c name node front master comes is_here served seria
     (then.told master serial)
 
 pub open_is_its_point : OpenIsItsPoint
-open_is_its_point fixed front conn now marks story tag c murder given name node is_open comes is_here =
+open_is_its_point fixed front conn broken now marks story tag c murder given name node is_open comes is_here =
     let served = open_serves murder given story.course.store c name node front comes is_here in
     record {
       body = served.body;
@@ -101,17 +102,17 @@ open_is_its_point fixed front conn now marks story tag c murder given name node 
       later = served.later;
       step = served.step;
       then_holds = served.then_holds;
-      carried = carried_so fixed front conn now marks story tag c is_open 0 served.later served.counts (answered_at name c.id served.body) (served.carries 0)
+      carried = carried_so fixed front conn broken now marks story tag c is_open 0 served.later served.counts (answered_at name c.id served.body) (served.carries 0)
           (refl, tells_all murder given story.course.store c name node front fixed.master comes is_here served 0);
     }
 
 pub closed_is_seen : ClosedIsSeen
-closed_is_seen fixed front conn now marks story tag c murder given name node is_open comes is_away =
+closed_is_seen fixed front conn broken now marks story tag c murder given name node is_open comes is_away =
     let sent = closed_sends_on murder given story.course.store c name node front comes is_away in
     record {
       body = sent.body;
       state = ap (λ done. done.state) sent.step;
       step = ap (λ done. done.outs) sent.step;
       then_holds = sent.then_holds;
-      seen = seen_so fixed front conn now marks story tag c is_open (answered_at name c.id sent.body) (refl, sent.which);
+      seen = seen_so fixed front conn broken now marks story tag c is_open (answered_at name c.id sent.body) (refl, sent.which);
     }

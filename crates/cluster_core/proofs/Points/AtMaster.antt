@@ -1,5 +1,6 @@
 -- The master takes the line of a CREATE's or DELETE's flow. ACTIVATE, a RESERVE that is refused for good, or DELETE is the command's point; a RESERVE or
 -- DEACTIVATE whose OK lets its backend go on, or a RESERVE that puts it off, isn't, and the step makes no mark for it.
+use Rattle.link_queue.specs.Broken.{Broken}
 use Rattle.std.proofs.Common.{◌≡◌, ◌≢◌, ◌⊎◌, inl, inr, ℕ, Bool, true, false, List, [], ◌∷◌, ◌++◌, filter, Option, None, Some, refl, sym, ◌∙◌, ap, subst}
 use Rattle.asking_core.specs.Answered.{answered}
 use Rattle.asking_core.specs.declared.waiting.At.{At}
@@ -71,17 +72,17 @@ pub record Responds (now : ℕ) (c : ClientCommand) (murder : Murder) (name : Li
   pub marks : marks_made now (node_says murder.master name message).outs ≡ marked
 
 -- it is the command's point
-pub record IsPointAtMaster (fixed : Fixed) (front : List ℕ) (conn now : ℕ) (marks : List Mark) (story : Tale) (tag : Tag) (c : ClientCommand)
+pub record IsPointAtMaster (fixed : Fixed) (front : List ℕ) (conn : ℕ) (broken : Broken) (now : ℕ) (marks : List Mark) (story : Tale) (tag : Tag) (c : ClientCommand)
     (murder : Murder) (given : Given) (name : List ℕ) (node : BackNode) (message : LinkMsg) (flow : Flow) : Type 0 where
   pub it : MResponse
   pub counts : Counts
   pub later : Store
   pub responds : Responds now c murder name node message flow it (mark c.id counts ∷ []) (home_mark now c.id counts ∷ [])
   pub then_holds : ManyHold (master_takes murder name message) (given ++ given_in murder.master.table name message) later
-  pub carried : IsCarriedOut fixed front conn now marks story tag c later counts (heard_at node c.name flow it)
+  pub carried : IsCarriedOut fixed front conn broken now marks story tag c later counts (heard_at node c.name flow it)
 
 -- it isn't: it waits on
-pub record WaitsAtMaster (fixed : Fixed) (front : List ℕ) (conn now : ℕ) (marks : List Mark) (story : Tale) (tag : Tag) (c : ClientCommand)
+pub record WaitsAtMaster (fixed : Fixed) (front : List ℕ) (conn : ℕ) (broken : Broken) (now : ℕ) (marks : List Mark) (story : Tale) (tag : Tag) (c : ClientCommand)
     (murder : Murder) (given : Given) (name : List ℕ) (node : BackNode) (message : LinkMsg) (flow : Flow) : Type 0 where
   pub it : MResponse
   pub responds : Responds now c murder name node message flow it [] []
@@ -89,28 +90,28 @@ pub record WaitsAtMaster (fixed : Fixed) (front : List ℕ) (conn now : ℕ) (ma
   pub knows : KnowsOf fixed front conn tag c story (heard_at node c.name flow it)
 
 -- it isn't, and the step sees the command: the master has no UIDVALIDITY left
-pub record IsSeenAtMaster (fixed : Fixed) (front : List ℕ) (conn now : ℕ) (marks : List Mark) (story : Tale) (tag : Tag) (c : ClientCommand)
+pub record IsSeenAtMaster (fixed : Fixed) (front : List ℕ) (conn : ℕ) (broken : Broken) (now : ℕ) (marks : List Mark) (story : Tale) (tag : Tag) (c : ClientCommand)
     (murder : Murder) (given : Given) (name : List ℕ) (node : BackNode) (message : LinkMsg) (flow : Flow) : Type 0 where
   pub it : MResponse
   pub responds : Responds now c murder name node message flow it (mark c.id IfAnswered ∷ []) (home_mark now c.id IfAnswered ∷ [])
   pub then_holds : ManyHold (master_takes murder name message) (given ++ given_in murder.master.table name message) story.course.store
-  pub seen : IsSeen fixed front conn now marks story tag c (heard_at node c.name flow it)
+  pub seen : IsSeen fixed front conn broken now marks story tag c (heard_at node c.name flow it)
 
-pub data LineGoes (fixed : Fixed) (front : List ℕ) (conn now : ℕ) (marks : List Mark) (story : Tale) (tag : Tag) (c : ClientCommand)
+pub data LineGoes (fixed : Fixed) (front : List ℕ) (conn : ℕ) (broken : Broken) (now : ℕ) (marks : List Mark) (story : Tale) (tag : Tag) (c : ClientCommand)
     (murder : Murder) (given : Given) (name : List ℕ) (node : BackNode) (message : LinkMsg) (flow : Flow) : Type 0 where
-  is_point : IsPointAtMaster fixed front conn now marks story tag c murder given name node message flow
-      → LineGoes fixed front conn now marks story tag c murder given name node message flow
-  is_seen : IsSeenAtMaster fixed front conn now marks story tag c murder given name node message flow
-      → LineGoes fixed front conn now marks story tag c murder given name node message flow
-  waits_on : WaitsAtMaster fixed front conn now marks story tag c murder given name node message flow
-      → LineGoes fixed front conn now marks story tag c murder given name node message flow
+  is_point : IsPointAtMaster fixed front conn broken now marks story tag c murder given name node message flow
+      → LineGoes fixed front conn broken now marks story tag c murder given name node message flow
+  is_seen : IsSeenAtMaster fixed front conn broken now marks story tag c murder given name node message flow
+      → LineGoes fixed front conn broken now marks story tag c murder given name node message flow
+  waits_on : WaitsAtMaster fixed front conn broken now marks story tag c murder given name node message flow
+      → LineGoes fixed front conn broken now marks story tag c murder given name node message flow
 
 abbrev pub EachLineGoes : Type 0
-EachLineGoes = (fixed : Fixed) (front : List ℕ) (conn now : ℕ) (marks : List Mark) (story : Tale) (tag : Tag) (c : ClientCommand)
+EachLineGoes = (fixed : Fixed) (front : List ℕ) (conn : ℕ) (broken : Broken) (now : ℕ) (marks : List Mark) (story : Tale) (tag : Tag) (c : ClientCommand)
     (murder : Murder) (given : Given) (name : List ℕ) (node : BackNode) (message : LinkMsg) (rest : List LinkMsg) (flow : Flow)
-    → IsOpen fixed conn now marks story tag c → IsFlowOf front c c.name flow
+    → IsOpen fixed conn broken now marks story tag c → IsFlowOf front c c.name flow
     → LineComes murder given story.course.store c name node message rest flow
-    → LineGoes fixed front conn now marks story tag c murder given name node message flow
+    → LineGoes fixed front conn broken now marks story tag c murder given name node message flow
 
 -- ---- the reply doesn't tell the UIDVALIDITY
 
@@ -163,9 +164,9 @@ work_of kind stage (viewed_work view it) of is = cc
 
 -- ---- each line
 
-module _ (fixed : Fixed) (front : List ℕ) (conn now : ℕ) (marks : List Mark) (story : Tale) (tag : Tag) (c : ClientCommand)
+module _ (fixed : Fixed) (front : List ℕ) (conn : ℕ) (broken : Broken) (now : ℕ) (marks : List Mark) (story : Tale) (tag : Tag) (c : ClientCommand)
     (murder : Murder) (given : Given) (name : List ℕ) (node : BackNode) (message : LinkMsg) (rest : List LinkMsg) (flow : Flow)
-    (is_open : IsOpen fixed conn now marks story tag c) (of : IsFlowOf front c c.name flow)
+    (is_open : IsOpen fixed conn broken now marks story tag c) (of : IsFlowOf front c c.name flow)
     (comes : LineComes murder given story.course.store c name node message rest flow) where
   abbrev store : Store
   store = story.course.store
@@ -218,34 +219,34 @@ module _ (fixed : Fixed) (front : List ℕ) (conn now : ℕ) (marks : List Mark)
       → heard_move c.name flow it_is ≡ Some (ends flow body)
       → ManyHold (master_takes murder name message) (given ++ given_in murder.master.table name message) later
       → CarriesOut store later c.name c.work serial counts → ToldAll body
-      → LineGoes fixed front conn now marks story tag c murder given name node message flow
+      → LineGoes fixed front conn broken now marks story tag c murder given name node message flow
   point_so later counts body serial are heard holds carries told = is_point (record {
     it = it_is;
     counts = counts;
     later = later;
     responds = responds_so (Some counts) (mark c.id counts ∷ []) are (line.outs (Some counts) are);
     then_holds = holds;
-    carried = carried_so fixed front conn now marks story tag c is_open serial later counts here carries
+    carried = carried_so fixed front conn broken now marks story tag c is_open serial later counts here carries
         (record { body = body; its = of.its; front_is = of.front_is; ended = heard; tells = tells_so body serial told });
   })
 
   waits_so : reply.counts ≡ None → (stage : Stage) → flow.stage ≡ stage → IsNoEnd stage → GoesOnAtResponse c.name flow it_is
-      → LineGoes fixed front conn now marks story tag c murder given name node message flow
+      → LineGoes fixed front conn broken now marks story tag c murder given name node message flow
   waits_so are stage at no_end goes = waits_on (record {
     it = it_is;
     responds = responds_so None [] are (line.outs None are);
     then_holds = line.nothing_done stage at no_end;
-    knows = known_so fixed front conn now marks story tag c is_open here (of, goes);
+    knows = known_so fixed front conn broken now marks story tag c is_open here (of, goes);
   })
 
   seen_here : reply.counts ≡ Some IfAnswered → (stage : Stage) → flow.stage ≡ stage → IsNoEnd stage → GoesOnAtResponse c.name flow it_is
-      → LineGoes fixed front conn now marks story tag c murder given name node message flow
+      → LineGoes fixed front conn broken now marks story tag c murder given name node message flow
   seen_here are stage at no_end goes = is_seen (record {
     it = it_is;
     responds = responds_so (Some IfAnswered) (mark c.id IfAnswered ∷ []) are
         (line.outs (Some IfAnswered) are);
     then_holds = line.nothing_done stage at no_end;
-    seen = seen_so fixed front conn now marks story tag c is_open here (of, goes);
+    seen = seen_so fixed front conn broken now marks story tag c is_open here (of, goes);
   })
 
   its_work : (stage : Stage) → flow.stage ≡ stage → c.work ≡ work_at stage
@@ -253,7 +254,7 @@ module _ (fixed : Fixed) (front : List ℕ) (conn now : ℕ) (marks : List Mark)
 
   full_so : (heard : heard_move c.name flow it_is ≡ Some (ends flow (done Limit))) → reply.counts ≡ Some IfAnswered → flow.stage ≡ Making
       → is_full murder.master.table (record_at murder.master.table c.name) ≡ true
-      → LineGoes fixed front conn now marks story tag c murder given name node message flow
+      → LineGoes fixed front conn broken now marks story tag c murder given name node message flow
   full_so heard are stage over =
       let makes = its_work Making stage in
       let it = activate_of_full murder given store c name node message rest flow comes makes stage over 0 in
@@ -261,7 +262,7 @@ module _ (fixed : Fixed) (front : List ℕ) (conn now : ℕ) (marks : List Mark)
       (λ at. (0, (activate_of_full murder given store (waiting_at c at) name node message rest flow (comes_at at) makes stage over 0).told fixed.master))
 
   goes_by : IsReplied murder.master.table node.flows.me c.name flow it_is reply
-      → LineGoes fixed front conn now marks story tag c murder given name node message flow
+      → LineGoes fixed front conn broken now marks story tag c murder given name node message flow
   goes_by (name_reserved stage none is heard) = waits_so (ap (λ (r : Reply). r.counts) is) Reserving stage tt (sends_on (record flow { stage = Making }) heard)
   goes_by (was_reserved stage reserved is heard) = waits_so (ap (λ (r : Reply). r.counts) is) Reserving stage tt (puts_off heard)
   goes_by (was_active stage active is heard) =
@@ -287,9 +288,9 @@ module _ (fixed : Fixed) (front : List ℕ) (conn now : ℕ) (marks : List Mark)
       (λ at. (let its = delete_deletes murder given store (waiting_at c at) name node message rest flow (comes_at at) deletes stage in
       (0, (its.point 0).told fixed.master)))
 
-  goes : LineGoes fixed front conn now marks story tag c murder given name node message flow
+  goes : LineGoes fixed front conn broken now marks story tag c murder given name node message flow
   goes = goes_by line.taken.replied
 
 pub each_line_goes : EachLineGoes
-each_line_goes fixed front conn now marks story tag c murder given name node message rest flow is_open of comes =
-    goes fixed front conn now marks story tag c murder given name node message rest flow is_open of comes
+each_line_goes fixed front conn broken now marks story tag c murder given name node message rest flow is_open of comes =
+    goes fixed front conn broken now marks story tag c murder given name node message rest flow is_open of comes

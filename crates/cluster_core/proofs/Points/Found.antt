@@ -48,6 +48,7 @@ module _ (master front : List ℕ) (id : AskId) (from to : List ℕ) (message : 
   found_in place.nowhere e = cc
   found_in (place.is_asked server ask) e = in_ask server ask (from_is e) (to_is e) (message_is e)
   found_in (place.is_answered server answer) e = in_answer server answer (from_is e) (to_is e) (message_is e)
+  found_in (place.is_dropped server) e = cc
   found_in (place.is_at me name_at.nowhere) e = cc
   found_in (place.is_at me (name_at.waits ask)) e = cc
   found_in (place.is_at me (name_at.sends name flow)) e = in_line me name flow (from_is e) (to_is e) (message_is e)

@@ -12,6 +12,7 @@ use Rattle.front_core.proofs.OneConnection.Places.{About, about, of_connection, 
 use Rattle.imap_talk.specs.Heard.{Heard}
 use Rattle.link_msg.specs.declared.message.LinkMsg.{LinkMsg}
 use Rattle.link_msg.specs.declared.message.LinkMsg.TheVariants.{Up, End, Line, Ask, Answer}
+use Rattle.link_queue.specs.Broken.{Broken}
 use Rattle.link_queue.specs.Links.{on_link}
 use Rattle.many_links.specs.HomeEvents.{is_served}
 use Rattle.many_links.specs.ManyHold.{ManyHold}
@@ -45,9 +46,9 @@ pub record StepKeeps (config : Config) (heard : ℕ → Heard) (world : World) (
   pub told : later.told ≡ law.story.told
   pub more : TalkGoesOn (talk_told law.story) (talk_told later)
   pub grows : SaysOn law.story later
-  pub is_told : AreMarkedSo (setting_of config) next.steps next.marks later
+  pub is_told : AreMarkedSo (setting_of config) next.broken next.steps next.marks later
   pub many : ManyHold (murder_of next law.master) law.given later.course.store
-  pub connections : (conn : ℕ) → ConnectionIs (fixed_of config) conn next later (heard conn)
+  pub connections : (conn : ℕ) → ConnectionIs (fixed_of config) conn next later (law.stops conn) (heard conn)
 
 -- what a message of nobody is
 
@@ -98,11 +99,12 @@ module _ (config : Config) (heard : ℕ → Heard) (world : World) (law : KeepsL
 
   -- ---- it is about a command
 
-  others_by : (conn : ℕ) (own : OwnStep config conn (heard conn) world story next law.master law.given) (other : ℕ) → other ≢ conn
+  others_by : (conn : ℕ) (own : OwnStep config conn (law.stops conn) (heard conn) world story next law.master law.given) (other : ℕ) → other ≢ conn
       → LeavesElse other world next story own.later
   others_by conn own other ne = record {
     fronts = fronts_stay;
     client = clients_stay other;
+    broken = made.broken;
     marks = own.marks other ne;
     told = ap (λ t. t other) own.told;
     said = own.goes_on.said other ne;
@@ -123,7 +125,7 @@ module _ (config : Config) (heard : ℕ → Heard) (world : World) (law : KeepsL
         is_told = step.is_told;
         many = step.many;
         connections = λ other. ⊎_elim
-            (λ (e : other ≡ conn). subst (λ k. ConnectionIs (fixed_of config) k next step.later (heard k)) (sym e) step.mine)
+            (λ (e : other ≡ conn). subst (λ k. ConnectionIs (fixed_of config) k next step.later (law.stops k) (heard k)) (sym e) step.mine)
             (λ (ne : other ≢ conn). home_step_is_others config heard world law other from to node message rest step.later there first
             (λ e. another other conn ne (sym own ∙ e)) it.fits (others_by conn step other ne))
             (cases_eq other conn);
@@ -154,14 +156,16 @@ module _ (config : Config) (heard : ℕ → Heard) (world : World) (law : KeepsL
     told = refl;
     more = same_talk (talk_told story);
     grows = says_same story;
-    is_told = subst (λ (s : ℕ). AreMarkedSo (setting_of config) s next.marks story) (sym made.steps)
-        (subst (λ (m : List Mark). AreMarkedSo (setting_of config) world.steps m story) (sym (none_marked own)) law.is_told);
+    is_told = subst (λ (b : Broken). AreMarkedSo (setting_of config) b next.steps next.marks story) (sym made.broken)
+        (subst (λ (s : ℕ). AreMarkedSo (setting_of config) world.broken s next.marks story) (sym made.steps)
+        (subst (λ (m : List Mark). AreMarkedSo (setting_of config) world.broken world.steps m story) (sym (none_marked own)) law.is_told));
     many = many_then own;
     connections = λ conn. home_step_is_others config heard world law conn from to node message rest story there first
         (λ e. (let no : of_nobody ≡ of_connection conn = sym own ∙ e in cc)) (nobody_fits message own)
         (record {
           fronts = fronts_stay;
           client = clients_stay conn;
+          broken = made.broken;
           marks = subst (MarksStay conn world.marks) (sym (none_marked own)) (λ command. refl);
           told = refl;
           said = refl;

@@ -1,5 +1,6 @@
 -- The master takes the NOOP of a LIST that waits for its OK: this is the LIST's point. The store replies by its mailboxes, which are those of the table of this
 -- step, and the OK will tell the reply by that table.
+use Rattle.link_queue.specs.Broken.{Broken}
 use Rattle.std.proofs.Common.{◌≡◌, ℕ, ◌+◌, List, [], ◌∷◌, ◌++◌, length, Some, refl, sym, ◌∙◌, ap, subst}
 use Rattle.feed_core.specs.Listing.{mailbox_names}
 use Rattle.feed_links.specs.Replicas.{recs_of}
@@ -80,15 +81,15 @@ unfolding MayTake MayAct
 may_list setting course conn tag it listing need = subst (λ n. MayAct course.store 0 n) (sym need) tt
 
 -- the step carries it out, and its place tells its client's reply
-pub record IsListedSo (fixed : Fixed) (conn now : ℕ) (marks : List Mark) (story : Tale) (tag : Tag) (it : Command) (listing : Listing) (was : Sess)
+pub record IsListedSo (fixed : Fixed) (conn : ℕ) (broken : Broken) (now : ℕ) (marks : List Mark) (story : Tale) (tag : Tag) (it : Command) (listing : Listing) (was : Sess)
     (table : MailboxTable) : Type 0 where
-  pub is_told : AreMarkedSo fixed.setting now (marks ++ home_mark now (next_id conn (story.told conn)) IfAnswered ∷ [])
+  pub is_told : AreMarkedSo fixed.setting broken now (marks ++ home_mark now (next_id conn (story.told conn)) IfAnswered ∷ [])
       (acting fixed.setting story conn (a_command tag it) 0)
   pub store : (acting fixed.setting story conn (a_command tag it) 0).course.store ≡ story.course.store
   pub knows : NamesOf conn tag listing was (acting fixed.setting story conn (a_command tag it) 0) (cleared_at table)
 
-module _ (fixed : Fixed) (conn now : ℕ) (marks : List Mark) (story : Tale) (tag : Tag) (it : Command) (listing : Listing) (was : Sess) (table : MailboxTable)
-    (is_told : AreMarkedSo fixed.setting now marks story) (said : story.talk.answers conn ≡ story.told conn) (was_is : was ≡ story.course.sessions conn)
+module _ (fixed : Fixed) (conn : ℕ) (broken : Broken) (now : ℕ) (marks : List Mark) (story : Tale) (tag : Tag) (it : Command) (listing : Listing) (was : Sess) (table : MailboxTable)
+    (is_told : AreMarkedSo fixed.setting broken now marks story) (said : story.talk.answers conn ≡ story.told conn) (was_is : was ≡ story.course.sessions conn)
     (need : need_of fixed.setting was it ≡ Names listing)
     (asked : numbered (story.talk.requests conn) (length (story.told conn) + 1) ≡ Some (a_command tag it))
     (names : names_in story.course.store ≡ mailbox_names (recs_of table)) where
@@ -115,7 +116,7 @@ module _ (fixed : Fixed) (conn now : ℕ) (marks : List Mark) (story : Tale) (ta
   session_then : was ≡ acted.course.sessions conn
   session_then = was_is ∙ sym (session_at story.course.sessions conn _ ∙ ap (λ (a : Answered). a.session) out)
 
-  pub listed_so : IsListedSo fixed conn now marks story tag it listing was table
+  pub listed_so : IsListedSo fixed conn broken now marks story tag it listing was table
   listed_so = record {
     is_told = carries_out now marks story conn IfAnswered (a_command tag it) 0
         (record { unreplied = said; asked = asked; free = may_list fixed.setting story.course conn tag it listing need_is })
@@ -128,7 +129,7 @@ module _ (fixed : Fixed) (conn now : ℕ) (marks : List Mark) (story : Tale) (ta
 
 module _ (config : Config) (heard : ℕ → Heard) (world : World) (law : KeepsLaw config heard world) (conn : ℕ)
     (fits : IsNumbered (next_id conn (law.story.told conn))) (fnode : List ℕ) (front : Front) (here : Place) (at : front_at world fnode ≡ Some front)
-    (waits : ListWaits (fixed_of config) conn fnode front world law.story (heard conn) here)
+    (waits : ListWaits (fixed_of config) conn fnode front world law.story (law.stops conn) (heard conn) here)
     (placed : IsInPlaceOf (fixed_of config) world fnode front.replica (next_id conn (law.story.told conn)) here) where
   abbrev story : Tale
   story = law.story
@@ -191,22 +192,24 @@ module _ (config : Config) (heard : ℕ → Heard) (world : World) (law : KeepsL
 
   noop_own : (rest : List LinkMsg) → story.talk.answers conn ≡ story.told conn → waits.was ≡ story.course.sessions conn → here ≡ place.is_barred barrier.asked
       → on_link world.links fnode name ≡ noop_of id ∷ rest → client_at next conn ≡ client_at world conn → MovesBy story.talk.moving world.steps says.master.table
-      → OwnStep config conn (heard conn) world story next says.master law.given
+      → OwnStep config conn (law.stops conn) (heard conn) world story next says.master law.given
   noop_own rest said was_is asks first same moves =
-      let done = listed_so fixed conn world.steps world.marks story waits.tag waits.it waits.listing waits.was table law.is_told said was_is waits.need
+      let done = listed_so fixed conn world.broken world.steps world.marks story waits.tag waits.it waits.listing waits.was table law.is_told said was_is waits.need
       (ap (λ r. numbered r (length (story.told conn) + 1)) (law.requests conn) ∙ waits.asked) listed.names in
       let later : Tale = acting fixed.setting story conn (a_command waits.tag waits.it) 0 in
       record {
         later = later;
         told = refl;
         goes_on = acting_goes_on fixed.setting conn story (a_command waits.tag waits.it) 0 said;
-        is_told = subst (λ (s : ℕ). AreMarkedSo (setting_of config) s next.marks later) (sym made.steps)
-            (subst (λ (m : List Mark). AreMarkedSo (setting_of config) world.steps m later) (sym marks_are) done.is_told);
+        is_told = subst (λ (b : Broken). AreMarkedSo (setting_of config) b next.steps next.marks later) (sym made.broken)
+            (subst (λ (s : ℕ). AreMarkedSo (setting_of config) world.broken s next.marks later) (sym made.steps)
+            (subst (λ (m : List Mark). AreMarkedSo (setting_of config) world.broken world.steps m later) (sym marks_are) done.is_told));
         marks = λ other ne. subst (MarksStay other world.marks) (sym marks_are) (others_marked other world.marks mark (λ e. ne (sym e)));
         many = subst (λ (s : Store). ManyHold (murder_of next says.master) law.given s) (sym done.store) many_then;
         mine = waits.goes_on next later (cleared_at table) (record {
           fronts = (master_moved (taken_from_link world fnode name) name law.master says law.nodes.is_there).fronts fnode;
           clients = same;
+          broken = made.broken;
           told = refl;
           placed = placed_then rest asks first;
           marked = record {
@@ -228,7 +231,7 @@ module _ (config : Config) (heard : ℕ → Heard) (world : World) (law : KeepsL
       (same : client_at (with_master (taken_from_link world from name) name (node_says law.master from message)) conn ≡ client_at world conn)
       (moves : MovesBy story.talk.moving world.steps (node_says law.master from message).master.table) where
     abbrev Own : List ℕ → LinkMsg → Type 0
-    Own f m = OwnStep config conn (heard conn) world story (with_master (taken_from_link world f name) name (node_says law.master f m))
+    Own f m = OwnStep config conn (law.stops conn) (heard conn) world story (with_master (taken_from_link world f name) name (node_says law.master f m))
         (node_says law.master f m).master law.given
 
     by_knows : IsIn from name message here → NamesOf conn waits.tag waits.listing waits.was story here → Own from message

@@ -1,4 +1,6 @@
 -- A LIST waits at its frontend: its message is between the frontend and the master. Wherever it is behind a step, its connection goes on so.
+use Rattle.imap_talk.specs.Transcript.{Stop}
+use Rattle.imap_talk.specs.Transcript.Stop.{silent}
 use Rattle.std.proofs.Common.{◌≡◌, ℕ, ◌+◌, List, length, Some, sym, ◌∙◌, ap, subst}
 use Rattle.front_core.specs.Ending.{EndsOnlyLast}
 use Rattle.front_core.proofs.OneConnection.Readings.{inputs_in}
@@ -27,27 +29,44 @@ use Rattle.cluster_core.proofs.Commands.Place.{Place, Place as place}
 use Rattle.cluster_core.proofs.Commands.Standing.{Fixed, next_id}
 use Rattle.cluster_core.proofs.Commands.Standing.IsLeft.{left_listing}
 use Rattle.cluster_core.proofs.Commands.Standing.Stands.{lists}
-use Rattle.cluster_core.proofs.Connections.ConnectionLaw.{IsInPlaceOf, IsMarkedAt}
+use Rattle.cluster_core.proofs.Connections.ConnectionLaw.{IsDroppedAt, IsInPlaceOf, IsMarkedAt}
 use Rattle.cluster_core.proofs.Connections.KeepsLaw.{ConnectionIs, IsAt}
-use Rattle.cluster_core.proofs.Connections.KeepsLaw.ConnectionIs.{is_open, is_closed}
-use Rattle.cluster_core.proofs.Points.Waits.{WhoLists, asks_next, client_then, closed_lists, open_lists}
+use Rattle.cluster_core.proofs.Connections.KeepsLaw.ConnectionIs.{is_open}
+use Rattle.cluster_core.proofs.Points.Waits.{WhoLists, asks_next, client_then, ended_is, ended_lists, ended_still, open_lists}
 
 -- what its place tells, by a tale
 abbrev pub NamesOf : ℕ → Tag → Listing → Sess → Tale → Place → Type 0
 NamesOf conn tag listing was story here = KnowsNames tag listing was (story.told conn) (story.talk.answers conn) (story.course.sessions conn) here
+
+-- ---- it is at a barrier, and nowhere else
+
+pub record IsBarred (here : Place) : Type 0 where
+  pub at : Barrier
+  pub is : here ≡ place.is_barred at
+
+pub names_barred : (tag : Tag) (listing : Listing) (was : Sess) (told said : List Answer) (session : Sess) (here : Place)
+    → KnowsNames tag listing was told said session here → IsBarred here
+names_barred tag listing was told said session here (not_yet said_is was_is is) = record { at = barrier.asked; is = is }
+names_barred tag listing was told said session here (is_listed table said_is was_is is) = record { at = barrier.answered table; is = is }
+
+pub barred_undropped : (world : World) (node : List ℕ) (here : Place) → IsBarred here → IsDroppedAt world node here
+barred_undropped world node here barred = subst (IsDroppedAt world node) (sym barred.is) tt
+
+-- ---- where it is then
 
 -- so it is behind a step: in this place
 pub record IsListThen (fixed : Fixed) (conn : ℕ) (node : List ℕ) (front : Front) (world : World) (story : Tale) (tag : Tag) (listing : Listing) (was : Sess)
     (next : World) (later : Tale) (there : Place) : Type 0 where
   pub fronts : front_at next node ≡ front_at world node
   pub clients : client_at next conn ≡ client_at world conn
+  pub broken : next.broken ≡ world.broken
   pub told : later.told conn ≡ story.told conn
   pub placed : IsInPlaceOf fixed next node front.replica (next_id conn (later.told conn)) there
   pub marked : IsMarkedAt later.talk.moving next.marks (next_id conn (later.told conn)) there
   pub knows : NamesOf conn tag listing was later there
 
 -- wherever it is then, its connection goes on so
-pub record ListWaits (fixed : Fixed) (conn : ℕ) (node : List ℕ) (front : Front) (world : World) (story : Tale) (heard : Heard) (here : Place)
+pub record ListWaits (fixed : Fixed) (conn : ℕ) (node : List ℕ) (front : Front) (world : World) (story : Tale) (stop : Stop) (heard : Heard) (here : Place)
     : Type 0 where
   pub tag : Tag
   pub it : Command
@@ -57,17 +76,18 @@ pub record ListWaits (fixed : Fixed) (conn : ℕ) (node : List ℕ) (front : Fro
   pub asked : numbered (requests_of fixed.setting (frames_heard heard)) (length (story.told conn) + 1) ≡ Some (a_command tag it)
   pub knows : NamesOf conn tag listing was story here
   pub goes_on : (next : World) (later : Tale) (there : Place) → IsListThen fixed conn node front world story tag listing was next later there
-      → ConnectionIs fixed conn next later heard
+      → ConnectionIs fixed conn next later stop heard
 
 abbrev pub EachListWaits : Type 0
-EachListWaits = (fixed : Fixed) (conn : ℕ) (node : List ℕ) (front : Front) (connection : Connection) (world : World) (story : Tale) (heard : Heard)
+EachListWaits = (fixed : Fixed) (conn : ℕ) (node : List ℕ) (front : Front) (connection : Connection) (world : World) (story : Tale) (stop : Stop) (heard : Heard)
     (here : Place) → IsAt world conn node front connection → connection.answered ≡ length (story.told conn)
-    → WhoLists fixed conn node connection world story heard here → ListWaits fixed conn node front world story heard here
+    → WhoLists fixed conn node connection world story stop heard here → ListWaits fixed conn node front world story stop heard here
 
 pub each_list_waits : EachListWaits
 unfolding frames_heard
-each_list_waits fixed conn node front connection world story heard here at count (open_lists bytes e reader given waiting) =
-    subst (λ h. ListWaits fixed conn node front world story h here) (sym e)
+each_list_waits fixed conn node front connection world story stop heard here at count (open_lists bytes silent_is e reader given waiting) =
+    subst (λ s. ListWaits fixed conn node front world story s heard here) (sym silent_is)
+    (subst (λ h. ListWaits fixed conn node front world story silent h here) (sym e)
     (record {
       tag = waiting.tag;
       it = waiting.it;
@@ -80,10 +100,12 @@ each_list_waits fixed conn node front connection world story heard here at count
       goes_on = λ next later there then. is_open bytes node front connection (record { at = then.fronts ∙ at.at; has = at.has }) reader
           (record {
             count = count ∙ ap length (sym then.told);
-            client = client_then fixed conn node world next (inputs_in fixed.setting bytes) (story.told conn) (later.told conn) then.clients then.told given;
+            client = client_then fixed conn node world next (inputs_in fixed.setting bytes) silent (story.told conn) (later.told conn) then.clients then.told given;
             here = there;
             placed = then.placed;
             marked = then.marked;
+            dropped = barred_undropped next node there
+                (names_barred waiting.tag waiting.listing connection.session (later.told conn) (later.talk.answers conn) (later.course.sessions conn) there then.knows);
             stands = lists (record {
               tag = waiting.tag;
               it = waiting.it;
@@ -102,9 +124,9 @@ each_list_waits fixed conn node front connection world story heard here at count
               knows = then.knows;
             });
           });
-    })
-each_list_waits fixed conn node front connection world story heard here at count (closed_lists bytes e stage lasts given waiting) =
-    subst (λ h. ListWaits fixed conn node front world story h here) (sym e)
+    }))
+each_list_waits fixed conn node front connection world story stop heard here at count (ended_lists bytes shut e ended stage lasts given cut waiting) =
+    subst (λ h. ListWaits fixed conn node front world story stop h here) (sym e)
     (record {
       tag = waiting.tag;
       it = waiting.it;
@@ -113,15 +135,19 @@ each_list_waits fixed conn node front connection world story heard here at count
       need = waiting.need;
       asked = waiting.next;
       knows = waiting.knows;
-      goes_on = λ next later there then. is_closed bytes node front connection (record { at = then.fronts ∙ at.at; has = at.has })
+      goes_on = λ next later there then.
+          ended_is fixed conn node front connection next later bytes stop shut
+          (ended_still (inputs_in fixed.setting bytes) (story.told conn) (later.told conn) stop shut then.told ended)
+          (record { at = then.fronts ∙ at.at; has = at.has })
           (record {
             stage_is = stage;
             count = count ∙ ap length (sym then.told);
             lasts = subst EndsOnlyLast (sym then.told) lasts;
-            client = client_then fixed conn node world next (inputs_in fixed.setting bytes) (story.told conn) (later.told conn) then.clients then.told given;
+            client = client_then fixed conn node world next (inputs_in fixed.setting bytes) stop (story.told conn) (later.told conn) then.clients then.told given;
             here = there;
             placed = then.placed;
             marked = then.marked;
+            cut = λ lost none. cut lost (sym then.broken ∙ none);
             left = left_listing (record {
               tag = waiting.tag;
               it = waiting.it;
@@ -136,20 +162,9 @@ each_list_waits fixed conn node front connection world story heard here at count
           });
     })
 
--- ---- it is at a barrier, and nowhere else
-
-pub record IsBarred (here : Place) : Type 0 where
-  pub at : Barrier
-  pub is : here ≡ place.is_barred at
-
-pub names_barred : (tag : Tag) (listing : Listing) (was : Sess) (told said : List Answer) (session : Sess) (here : Place)
-    → KnowsNames tag listing was told said session here → IsBarred here
-names_barred tag listing was told said session here (not_yet said_is was_is is) = record { at = barrier.asked; is = is }
-names_barred tag listing was told said session here (is_listed table said_is was_is is) = record { at = barrier.answered table; is = is }
-
-pub list_barred : (fixed : Fixed) (conn : ℕ) (node : List ℕ) (connection : Connection) (world : World) (story : Tale) (heard : Heard) (here : Place)
-    → WhoLists fixed conn node connection world story heard here → IsBarred here
-list_barred fixed conn node connection world story heard here (open_lists bytes e reader given waiting) =
+pub list_barred : (fixed : Fixed) (conn : ℕ) (node : List ℕ) (connection : Connection) (world : World) (story : Tale) (stop : Stop) (heard : Heard) (here : Place)
+    → WhoLists fixed conn node connection world story stop heard here → IsBarred here
+list_barred fixed conn node connection world story stop heard here (open_lists bytes silent_is e reader given waiting) =
     names_barred waiting.tag waiting.listing connection.session (story.told conn) (story.talk.answers conn) (story.course.sessions conn) here waiting.knows
-list_barred fixed conn node connection world story heard here (closed_lists bytes e stage lasts given waiting) =
+list_barred fixed conn node connection world story stop heard here (ended_lists bytes shut e ended stage lasts given cut waiting) =
     names_barred waiting.tag waiting.listing waiting.was (story.told conn) (story.talk.answers conn) (story.course.sessions conn) here waiting.knows

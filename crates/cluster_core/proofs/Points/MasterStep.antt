@@ -13,9 +13,12 @@ use Rattle.front_core.proofs.OneConnection.Readings.{inputs_in}
 use Rattle.front_core.specs.declared.connection.Connection.{Connection}
 use Rattle.front_core.specs.declared.front.Front.{Front}
 use Rattle.imap_talk.specs.Heard.{Heard}
+use Rattle.imap_talk.specs.Transcript.{Stop}
+use Rattle.imap_talk.specs.Transcript.Stop.{is_lost}
 use Rattle.imap_wire.specs.Frames.{begun}
 use Rattle.link_msg.specs.declared.message.LinkMsg.{LinkMsg}
 use Rattle.link_msg.specs.declared.message.LinkMsg.TheVariants.{Up, End, Line, Ask, Answer}
+use Rattle.link_queue.specs.Broken.{Broken}
 use Rattle.link_queue.specs.Links.{on_link, without_first}
 use Rattle.many_links.specs.ManyHold.{ManyHold}
 use Rattle.many_links.specs.MasterEvents.{IsDoneFor, StoreTakes, created, nothing, removed}
@@ -44,9 +47,9 @@ use Rattle.cluster_core.proofs.Commands.AllReached.{AreMarkedSo}
 use Rattle.cluster_core.proofs.Commands.Moving.{MovesBy}
 use Rattle.cluster_core.proofs.Commands.Place.{Place}
 use Rattle.cluster_core.proofs.Commands.Standing.{Fixed, next_id}
-use Rattle.cluster_core.proofs.Connections.ConnectionLaw.{IsInNoneOf, IsInPlaceOf, MarksStay, SaysOn, client_with, says_on, says_same}
-use Rattle.cluster_core.proofs.Connections.KeepsLaw.{ConnectionIs, IsAt, KeepsLaw, fixed_of, murder_of}
-use Rattle.cluster_core.proofs.Connections.KeepsLaw.ConnectionIs.{is_nobody, is_elsewhere, is_open, is_closed}
+use Rattle.cluster_core.proofs.Connections.ConnectionLaw.{IsInNoneOf, IsInPlaceOf, MarksStay, SaysOn, client_till, client_with, says_on, says_same}
+use Rattle.cluster_core.proofs.Connections.KeepsLaw.{ConnectionIs, IsAt, IsGone, KeepsLaw, fixed_of, murder_of}
+use Rattle.cluster_core.proofs.Connections.KeepsLaw.ConnectionIs.{is_nobody, is_elsewhere, is_open, is_cut_off, is_closed}
 use Rattle.cluster_core.proofs.Feeds.Many.{master_murder}
 use Rattle.cluster_core.proofs.Nodes.Carried.{IsMade, is_made}
 use Rattle.cluster_core.proofs.Nodes.Comes.{master_moved, with_master}
@@ -57,7 +60,7 @@ use Rattle.cluster_core.proofs.Points.Marks.{nobodys_mark_none}
 use Rattle.cluster_core.proofs.Points.OthersAtHome.{LeavesElse, gone_stays, standing_stays, untold_stays}
 use Rattle.cluster_core.proofs.Points.Own.{OwnStep}
 use Rattle.cluster_core.proofs.Points.OwnAtMaster.{master_step_is_own}
-use Rattle.cluster_core.proofs.Points.Waits.{AskedFit, first_tells, its_client}
+use Rattle.cluster_core.proofs.Points.Waits.{AskedFit, first_tells, its_client, unanswered_still}
 
 -- what the step gives a client: nothing, or it is connected to the master
 pub data ClientThen (config : Config) (world next : World) (conn : ℕ) : Type 0 where
@@ -72,9 +75,9 @@ pub record MasterKeeps (config : Config) (heard : ℕ → Heard) (world : World)
   pub told : later.told ≡ law.story.told
   pub more : TalkGoesOn (talk_told law.story) (talk_told later)
   pub grows : SaysOn law.story later
-  pub is_told : AreMarkedSo (setting_of config) next.steps next.marks later
+  pub is_told : AreMarkedSo (setting_of config) next.broken next.steps next.marks later
   pub many : ManyHold (murder_of next said.master) given later.course.store
-  pub connections : (conn : ℕ) → ConnectionIs (fixed_of config) conn next later (heard conn)
+  pub connections : (conn : ℕ) → ConnectionIs (fixed_of config) conn next later (law.stops conn) (heard conn)
 
 -- a line of nobody has no command
 none_asked : (found : Option AskId) → about_command found ≡ of_nobody → found ≡ None
@@ -152,49 +155,61 @@ module _ (config : Config) (heard : ℕ → Heard) (world : World) (law : KeepsL
         (subst (λ m. IsNowhereBehind murder (without_first world.links from m) says conn) law.nodes.me
         (lines_leave_none murder law.given store from message conn takes other (none_in_murder fixed world law.master law.nodes.me conn none)).placed)
 
-    others_go : (later : Tale) → LeavesElse conn world next story later → (h : Heard) → ConnectionIs fixed conn world story h → ConnectionIs fixed conn next later h
-    others_go later same _ (is_nobody none fronts untold) =
+    gone_goes : (later : Tale) → LeavesElse conn world next story later → (bytes fnode : List ℕ) (front : Front) (connection : Connection) (stop : Stop)
+        → IsAt world conn fnode front connection → IsGone fixed fnode front.replica conn (inputs_in fixed.setting bytes) stop connection world story
+        → IsGone fixed fnode front.replica conn (inputs_in fixed.setting bytes) stop connection next later
+    gone_goes later same bytes fnode front connection stop at gone =
+        gone_stays fixed conn world next story later same fnode front.replica (inputs_in fixed.setting bytes) stop connection gone
+        (placed_next fnode front gone.here at.at connection at (client_till stop fnode (inputs_in fixed.setting bytes) (story.told conn)) gone.client refl gone.placed)
+
+    others_go : (later : Tale) → LeavesElse conn world next story later → (stop : Stop) (h : Heard) → ConnectionIs fixed conn world story stop h
+        → ConnectionIs fixed conn next later stop h
+    others_go later same _ _ (is_nobody none fronts untold) =
         is_nobody (same.client ∙ none) (λ n f at. fronts n f (sym (same.fronts n) ∙ at))
         (untold_stays fixed conn world next story later same (none_next untold.nothing) untold)
-    others_go later same _ (is_elsewhere n given at none untold) =
+    others_go later same _ _ (is_elsewhere n given at none untold) =
         is_elsewhere n given (same.client ∙ at) (same.fronts n ∙ none) (untold_stays fixed conn world next story later same (none_next untold.nothing) untold)
-    others_go later same _ (is_open bytes fnode front connection at reader standing) =
+    others_go later same _ _ (is_open bytes fnode front connection at reader standing) =
         is_open bytes fnode front connection (record { at = same.fronts fnode ∙ at.at; has = at.has }) reader
         (standing_stays fixed conn world next story later same fnode front.replica (inputs_in fixed.setting bytes) (begun bytes) connection standing
         (placed_next fnode front standing.here at.at connection at (client_with fnode (inputs_in fixed.setting bytes) (story.told conn)) standing.client refl
         standing.placed))
-    others_go later same _ (is_closed bytes fnode front connection at gone) =
-        is_closed bytes fnode front connection (record { at = same.fronts fnode ∙ at.at; has = at.has })
-        (gone_stays fixed conn world next story later same fnode front.replica (inputs_in fixed.setting bytes) connection gone
-        (placed_next fnode front gone.here at.at connection at (client_with fnode (inputs_in fixed.setting bytes) (story.told conn)) gone.client refl gone.placed))
+    others_go later same _ _ (is_cut_off bytes fnode front connection at gone unanswered) =
+        is_cut_off bytes fnode front connection (record { at = same.fronts fnode ∙ at.at; has = at.has }) (gone_goes later same bytes fnode front connection is_lost at gone)
+        (unanswered_still (inputs_in fixed.setting bytes) (story.told conn) (later.told conn) same.told unanswered)
+    others_go later same _ _ (is_closed stop bytes fnode front connection at gone) =
+        is_closed stop bytes fnode front connection (record { at = same.fronts fnode ∙ at.at; has = at.has }) (gone_goes later same bytes fnode front connection stop at gone)
 
     -- one that is connected to the master
     given_goes : (later : Tale) → later.told conn ≡ story.told conn → later.talk.answers conn ≡ story.talk.answers conn
         → later.course.sessions conn ≡ story.course.sessions conn → (was now : List ℕ)
         → client_at world conn ≡ Some (record { at = name; given = was }) → client_at next conn ≡ Some (record { at = name; given = now })
-        → (h : Heard) → ConnectionIs fixed conn world story h → ConnectionIs fixed conn next later h
-    given_goes later told said session was now before behind _ (is_nobody none fronts untold) =
+        → (stop : Stop) (h : Heard) → ConnectionIs fixed conn world story stop h → ConnectionIs fixed conn next later stop h
+    given_goes later told said session was now before behind _ _ (is_nobody none fronts untold) =
         absurd (let no : None ≡ Some (record { at = name; given = was }) = sym none ∙ before in cc)
-    given_goes later told said session was now before behind _ (is_elsewhere n given at none untold) =
+    given_goes later told said session was now before behind _ _ (is_elsewhere n given at none untold) =
         is_elsewhere name now behind
         (fronts_stay name ∙ ap (front_at world) (sym (client_front (record { at = n; given = given }) (record { at = name; given = was }) (sym at ∙ before))) ∙ none)
         (record { told = told ∙ untold.told; said = said ∙ untold.said; session = session ∙ untold.session; nothing = none_next untold.nothing })
-    given_goes later told said session was now before behind _ (is_open bytes fnode front connection at reader standing) =
+    given_goes later told said session was now before behind _ _ (is_open bytes fnode front connection at reader standing) =
         absurd ((law.nodes.fronts fnode front at.at).no_master
         (client_front (client_with fnode (inputs_in fixed.setting bytes) (story.told conn)) (record { at = name; given = was }) (sym standing.client ∙ before)))
-    given_goes later told said session was now before behind _ (is_closed bytes fnode front connection at gone) =
+    given_goes later told said session was now before behind _ _ (is_cut_off bytes fnode front connection at gone unanswered) =
         absurd ((law.nodes.fronts fnode front at.at).no_master
-        (client_front (client_with fnode (inputs_in fixed.setting bytes) (story.told conn)) (record { at = name; given = was }) (sym gone.client ∙ before)))
+        (client_front (client_till is_lost fnode (inputs_in fixed.setting bytes) (story.told conn)) (record { at = name; given = was }) (sym gone.client ∙ before)))
+    given_goes later told said session was now before behind _ _ (is_closed stop bytes fnode front connection at gone) =
+        absurd ((law.nodes.fronts fnode front at.at).no_master
+        (client_front (client_till stop fnode (inputs_in fixed.setting bytes) (story.told conn)) (record { at = name; given = was }) (sym gone.client ∙ before)))
 
   connection_goes : (conn : ℕ) → about message ≢ of_connection conn → ClientThen config world next conn → (later : Tale)
       → MarksStay conn world.marks next.marks → later.told conn ≡ story.told conn → later.talk.answers conn ≡ story.talk.answers conn
-      → later.course.sessions conn ≡ story.course.sessions conn → later.talk.moving ≡ story.talk.moving → ConnectionIs fixed conn next later (heard conn)
+      → later.course.sessions conn ≡ story.course.sessions conn → later.talk.moving ≡ story.talk.moving → ConnectionIs fixed conn next later (law.stops conn) (heard conn)
   connection_goes conn other (as_before client_is) later marks told said session moving =
       others_go conn other later
-      (record { fronts = fronts_stay; client = client_is; marks = marks; told = told; said = said; session = session; moving = moving }) (heard conn)
+      (record { fronts = fronts_stay; client = client_is; broken = made.broken; marks = marks; told = told; said = said; session = session; moving = moving }) (law.stops conn) (heard conn)
       (law.connections conn)
   connection_goes conn other (is_given was now before behind) later marks told said session moving =
-      given_goes conn other later told said session was now before behind (heard conn) (law.connections conn)
+      given_goes conn other later told said session was now before behind (law.stops conn) (heard conn) (law.connections conn)
 
   module _ (clients : (conn : ℕ) → ClientThen config world next conn) where
     -- ---- it is about a command
@@ -202,15 +217,15 @@ module _ (config : Config) (heard : ℕ → Heard) (world : World) (law : KeepsL
     own_client : (conn : ℕ) → about message ≡ of_connection conn → ClientThen config world next conn → client_at next conn ≡ client_at world conn
     own_client conn own (as_before is) = is
     own_client conn own (is_given was now before behind) =
-        let tells = first_tells fixed conn world story (heard conn) from name message rest first own (law.connections conn) in
-        let its = its_client fixed conn tells.node tells.connection world story (heard conn) tells.here tells.who in
+        let tells = first_tells fixed conn world story (law.stops conn) (heard conn) from name message rest first own (law.connections conn) in
+        let its = its_client fixed conn tells.node tells.connection world story (law.stops conn) (heard conn) tells.here tells.who in
         absurd ((law.nodes.fronts tells.node tells.front (tells.at).at).no_master
         (sym its.at ∙ client_front its.client (record { at = name; given = was }) (sym its.is ∙ before)))
 
     of_command : (conn : ℕ) → about message ≡ of_connection conn → MasterKeeps config heard world law next says
     of_command conn own =
         let it = master_step_is_own config heard world law conn from message rest fit moves first own (own_client conn own (clients conn)) in
-        let step : OwnStep config conn (heard conn) world story next says.master it.0 = it.1 in
+        let step : OwnStep config conn (law.stops conn) (heard conn) world story next says.master it.0 = it.1 in
         record {
           later = step.later;
           given = it.0;
@@ -221,7 +236,7 @@ module _ (config : Config) (heard : ℕ → Heard) (world : World) (law : KeepsL
           is_told = step.is_told;
           many = step.many;
           connections = λ other. ⊎_elim
-              (λ (e : other ≡ conn). subst (λ k. ConnectionIs fixed k next step.later (heard k)) (sym e) step.mine)
+              (λ (e : other ≡ conn). subst (λ k. ConnectionIs fixed k next step.later (law.stops k) (heard k)) (sym e) step.mine)
               (λ (ne : other ≢ conn). connection_goes other
               (λ e. (let both : of_connection conn ≡ of_connection other = sym own ∙ e in let alike : conn ≡ other = cc in ne (sym alike))) (clients other)
               step.later (step.marks other ne) (ap (λ t. t other) step.told) (step.goes_on.said other ne) (step.goes_on.sessions other ne)
@@ -274,8 +289,9 @@ module _ (config : Config) (heard : ℕ → Heard) (world : World) (law : KeepsL
             told = refl;
             more = same_talk (talk_told story);
             grows = says_same story;
-            is_told = subst (λ (s : ℕ). AreMarkedSo (setting_of config) s next.marks story) (sym made.steps)
-                (subst (λ (m : List Mark). AreMarkedSo (setting_of config) world.steps m story) (sym none_marked) law.is_told);
+            is_told = subst (λ (b : Broken). AreMarkedSo (setting_of config) b next.steps next.marks story) (sym made.broken)
+                (subst (λ (s : ℕ). AreMarkedSo (setting_of config) world.broken s next.marks story) (sym made.steps)
+                (subst (λ (m : List Mark). AreMarkedSo (setting_of config) world.broken world.steps m story) (sym none_marked) law.is_told));
             many = keeps.1;
             connections = λ conn. connection_goes conn (λ e. (let no : of_nobody ≡ of_connection conn = sym own ∙ e in cc)) (clients conn) story
                 (subst (MarksStay conn world.marks) (sym none_marked) (λ command. refl)) refl refl refl refl;

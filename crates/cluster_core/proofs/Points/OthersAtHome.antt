@@ -1,6 +1,9 @@
 -- A backend takes a message that isn't about a connection: the connection's command stays where it is, or the message ends the resync for which it waits, and
 -- it is tested.
-use Rattle.std.proofs.Common.{◌≡◌, ◌≢◌, ◌⊎◌, inl, inr, ℕ, ◌+◌, true, false, List, ◌∷◌, length, Option, Some, sym, ◌∙◌, ap, subst}
+use Rattle.imap_talk.specs.Transcript.{Stop}
+use Rattle.imap_talk.specs.Transcript.Stop.{is_lost, silent}
+use Rattle.link_queue.specs.Broken.{Broken, is_broken}
+use Rattle.std.proofs.Common.{◌≡◌, ◌≢◌, ◌⊎◌, inl, inr, ℕ, ◌+◌, true, false, List, ◌∷◌, length, Option, Some, sym, ◌∙◌, ap, subst, Bool}
 use Rattle.std.specs.Ordering.{nat_cmp}
 use Rattle.std.specs.Cmp.Lexicographic.{slice_cmp}
 use Rattle.asking_core.specs.declared.waiting.At.{At}
@@ -37,9 +40,9 @@ use Rattle.cluster_core.specs.World.{client_at, front_at, home_at, taken_from_li
 use Rattle.cluster_core.proofs.Commands.Knows.Knows.{is_decided, undecided}
 use Rattle.cluster_core.proofs.Commands.Place.{Place, Place as place}
 use Rattle.cluster_core.proofs.Commands.Standing.{Fixed, WaitsAt, next_id}
-use Rattle.cluster_core.proofs.Connections.ConnectionLaw.{IsInNoneOf, IsInPlaceOf, IsMarkedAt, IsStanding, MarksStay, client_with}
+use Rattle.cluster_core.proofs.Connections.ConnectionLaw.{IsDroppedAt, IsInNoneOf, IsInPlaceOf, IsMarkedAt, IsStanding, MarksStay, client_till, client_with}
 use Rattle.cluster_core.proofs.Connections.KeepsLaw.{ConnectionIs, IsAt, IsGone, IsUntold, KeepsLaw, fixed_of, murder_of}
-use Rattle.cluster_core.proofs.Connections.KeepsLaw.ConnectionIs.{is_nobody, is_elsewhere, is_open, is_closed}
+use Rattle.cluster_core.proofs.Connections.KeepsLaw.ConnectionIs.{is_nobody, is_elsewhere, is_open, is_cut_off, is_closed}
 use Rattle.cluster_core.proofs.Connections.Stays.{marked_stays}
 use Rattle.cluster_core.proofs.Nodes.Comes.{with_home}
 use Rattle.cluster_core.proofs.Steps.HomeHears.{other_lines_stay_none, other_lines_stay_or_test}
@@ -50,19 +53,28 @@ use Rattle.cluster_core.proofs.Steps.Murders.{IsFront, IsIn, IsNowhere}
 use Rattle.cluster_core.proofs.Steps.Worlds.{in_murder, in_world_then, is_front, law_tells, none_in_murder, none_in_world_then}
 use Rattle.cluster_core.proofs.Points.Acts.{KnowsOf}
 use Rattle.cluster_core.proofs.Points.AtBackend.{resync_tests}
-use Rattle.cluster_core.proofs.Points.OwnAtHome.{moved_marked}
+use Rattle.cluster_core.proofs.Points.OwnAtHome.{moved_marked, moved_undropped}
 use Rattle.cluster_core.proofs.Points.ListWaits.{list_barred}
-use Rattle.cluster_core.proofs.Points.Waits.{Whose, each_command_waits, of_command, of_list, waits_closed, waits_open, whom_moved}
+use Rattle.cluster_core.proofs.Points.Waits.{Whose, each_command_waits, of_command, of_list, closed_so, cut_so, ended_is, ended_still, EndedSo, waits_ended, waits_open, whom_moved}
 
 -- what the step leaves of a connection, but for its place
 pub record LeavesElse (conn : ℕ) (world next : World) (story later : Tale) : Type 0 where
   pub fronts : (node : List ℕ) → front_at next node ≡ front_at world node
   pub client : client_at next conn ≡ client_at world conn
+  pub broken : next.broken ≡ world.broken
   pub marks : MarksStay conn world.marks next.marks
   pub told : later.told conn ≡ story.told conn
   pub said : later.talk.answers conn ≡ story.talk.answers conn
   pub session : later.course.sessions conn ≡ story.course.sessions conn
   pub moving : later.talk.moving ≡ story.talk.moving
+
+pub dropped_same : (world next : World) (node : List ℕ) (here : Place) → next.broken ≡ world.broken → IsDroppedAt world node here → IsDroppedAt next node here
+dropped_same world next node place.nowhere same is = tt
+dropped_same world next node (place.is_asked server ask) same is = tt
+dropped_same world next node (place.is_answered server answer) same is = tt
+dropped_same world next node (place.is_dropped server) same is = ap (λ (b : Broken). is_broken b server node) same ∙ is
+dropped_same world next node (place.is_at me name) same is = tt
+dropped_same world next node (place.is_barred at) same is = tt
 
 module _ (fixed : Fixed) (conn : ℕ) (world next : World) (story later : Tale) (same : LeavesElse conn world next story later) where
   abbrev id : AskId
@@ -92,21 +104,23 @@ module _ (fixed : Fixed) (conn : ℕ) (world next : World) (story later : Tale) 
     here = standing.here;
     placed = placed_then node replica standing.here placed;
     marked = marked_then standing.here standing.marked;
+    dropped = dropped_same world next node standing.here same.broken standing.dropped;
     stands = rw (same.told, same.said, same.session) standing.stands;
   }
 
-  pub gone_stays : (node : List ℕ) (replica : Replica) (inputs : List Input) (connection : Connection)
-      (gone : IsGone fixed node replica conn inputs connection world story) → IsInPlaceOf fixed next node replica id gone.here
-      → IsGone fixed node replica conn inputs connection next later
-  gone_stays node replica inputs connection gone placed = record {
+  pub gone_stays : (node : List ℕ) (replica : Replica) (inputs : List Input) (stop : Stop) (connection : Connection)
+      (gone : IsGone fixed node replica conn inputs stop connection world story) → IsInPlaceOf fixed next node replica id gone.here
+      → IsGone fixed node replica conn inputs stop connection next later
+  gone_stays node replica inputs stop connection gone placed = record {
     stage_is = gone.stage_is;
     count = gone.count ∙ ap length (sym same.told);
     lasts = subst EndsOnlyLast (sym same.told) gone.lasts;
-    client = same.client ∙ gone.client ∙ ap (λ t. Some (client_with node inputs t)) (sym same.told);
+    client = same.client ∙ gone.client ∙ ap (λ t. Some (client_till stop node inputs t)) (sym same.told);
     here = gone.here;
     placed = placed_then node replica gone.here placed;
     marked = marked_then gone.here gone.marked;
     left = rw (same.told, same.said, same.session) gone.left;
+    cut = λ lost none. gone.cut lost (sym same.broken ∙ none);
   }
 
   pub untold_stays : IsInNoneOf fixed next conn → IsUntold fixed conn world story → IsUntold fixed conn next later
@@ -213,15 +227,15 @@ module _ (config : Config) (heard : ℕ → Heard) (world : World) (law : KeepsL
 
   module _ (later : Tale) (same : LeavesElse conn world next story later) where
     -- it waited for the end of the resync
-    tested_goes : (h : Heard) (fnode : List ℕ) (front : Front) (connection : Connection) (here : Place) → IsAt world conn fnode front connection
-        → connection.answered ≡ length (story.told conn) → Whose fixed conn fnode connection world story h here
+    tested_goes : (stop : Stop) (h : Heard) (fnode : List ℕ) (front : Front) (connection : Connection) (here : Place) → IsAt world conn fnode front connection
+        → connection.answered ≡ length (story.told conn) → Whose fixed conn fnode connection world story stop h here
         → (ask : NameAsk) (flows : Flows) → here ≡ place.is_at me (name_at.waits ask) → flows.up ≡ node.flows.up → from ≡ law.master.me
-        → (ask.front ≡ fnode → IsInPlaceOf fixed next fnode front.replica its (moved_to to me (after ask flows))) → ConnectionIs fixed conn next later h
-    tested_goes h fnode front connection here at count (of_list who) ask flows waits_there up e moved =
-        let barred = list_barred fixed conn fnode connection world story h here who in
+        → (ask.front ≡ fnode → IsInPlaceOf fixed next fnode front.replica its (moved_to to me (after ask flows))) → ConnectionIs fixed conn next later stop h
+    tested_goes stop h fnode front connection here at count (of_list who) ask flows waits_there up e moved =
+        let barred = list_barred fixed conn fnode connection world story stop h here who in
         absurd (let no : place.is_at me (name_at.waits ask) ≡ place.is_barred barred.at = sym waits_there ∙ barred.is in cc)
-    tested_goes h fnode front connection here at count (of_command who) ask flows waits_there up e moved =
-        let waits = each_command_waits fixed conn fnode front connection world story h here at count who in
+    tested_goes stop h fnode front connection here at count (of_command who) ask flows waits_there up e moved =
+        let waits = each_command_waits fixed conn fnode front connection world story stop h here at count who in
         let knows : KnowsOf fixed fnode conn waits.tag waits.c story (place.is_at me (name_at.waits ask)) =
         subst (λ p. KnowsOf fixed fnode conn waits.tag waits.c story p) waits_there waits.knows in
         let move : Move = after ask flows in
@@ -230,9 +244,11 @@ module _ (config : Config) (heard : ℕ → Heard) (world : World) (law : KeepsL
         waits.goes_on next later (moved_to to me move) (record {
           fronts = same.fronts fnode;
           clients = same.client;
+          broken = same.broken;
           told = same.told;
           placed = placed_then fixed conn world next story later same fnode front.replica (moved_to to me move) (moved (front_of fnode waits.tag waits.c ask knows));
           marked = moved_marked later.talk.moving next.marks (next_id conn (later.told conn)) to me move;
+          undropped = moved_undropped to me move;
           whom = subst (λ p. (a : At) → WaitsAt a p → WaitsAt a (moved_to to me move)) (sym waits_there)
               (λ a is. whom_moved to me (name_at.waits ask) move a (law.many.each to node there).talk.each.named is);
           knows = knows_then fixed conn world next story later same fnode waits.tag waits.c (moved_to to me move) moves.knows;
@@ -246,32 +262,40 @@ module _ (config : Config) (heard : ℕ → Heard) (world : World) (law : KeepsL
     somewhere : (here : Place) (ask : NameAsk) → here ≡ place.is_at me (name_at.waits ask) → here ≡ place.nowhere → ⊥
     somewhere here ask e none = let no : place.is_at me (name_at.waits ask) ≡ place.nowhere = sym e ∙ none in cc
 
-    others_go : (h : Heard) → ConnectionIs fixed conn world story h → ConnectionIs fixed conn next later h
-    others_go _ (is_nobody none fronts untold) =
+    gone_goes : (bytes fnode : List ℕ) (front : Front) (connection : Connection) (stop : Stop) (shut : Bool)
+        → EndedSo (inputs_in fixed.setting bytes) (story.told conn) stop shut → IsAt world conn fnode front connection
+        → (gone : IsGone fixed fnode front.replica conn (inputs_in fixed.setting bytes) stop connection world story) → StillOrTested fnode front gone.here
+        → ConnectionIs fixed conn next later stop (client bytes shut)
+    gone_goes bytes fnode front connection stop shut ended at gone (still placed) =
+        ended_is fixed conn fnode front connection next later bytes stop shut
+        (ended_still (inputs_in fixed.setting bytes) (story.told conn) (later.told conn) stop shut same.told ended)
+        (record { at = same.fronts fnode ∙ at.at; has = at.has })
+        (gone_stays fixed conn world next story later same fnode front.replica (inputs_in fixed.setting bytes) stop connection gone placed)
+    gone_goes bytes fnode front connection stop shut ended at gone (tested ask flows waits_there up e moved) =
+        tested_goes stop (client bytes shut) fnode front connection gone.here at gone.count
+        (waits_ended fixed conn fnode connection world story bytes gone.here (somewhere gone.here ask waits_there) stop shut ended gone.stage_is gone.lasts gone.client
+        gone.cut gone.left) ask flows waits_there up e moved
+
+    others_go : (stop : Stop) (h : Heard) → ConnectionIs fixed conn world story stop h → ConnectionIs fixed conn next later stop h
+    others_go _ _ (is_nobody none fronts untold) =
         is_nobody (same.client ∙ none) (λ n f at. fronts n f (sym (same.fronts n) ∙ at))
         (untold_stays fixed conn world next story later same (none_next untold.nothing) untold)
-    others_go _ (is_elsewhere n given at none untold) =
+    others_go _ _ (is_elsewhere n given at none untold) =
         is_elsewhere n given (same.client ∙ at) (same.fronts n ∙ none) (untold_stays fixed conn world next story later same (none_next untold.nothing) untold)
-    others_go _ (is_open bytes fnode front connection at reader standing) = by (place_of fnode front standing.here at.at standing.placed)
+    others_go _ _ (is_open bytes fnode front connection at reader standing) = by (place_of fnode front standing.here at.at standing.placed)
       where
-        by : StillOrTested fnode front standing.here → ConnectionIs fixed conn next later (client bytes false)
+        by : StillOrTested fnode front standing.here → ConnectionIs fixed conn next later silent (client bytes false)
         by (still placed) =
             is_open bytes fnode front connection (record { at = same.fronts fnode ∙ at.at; has = at.has }) reader
             (standing_stays fixed conn world next story later same fnode front.replica (inputs_in fixed.setting bytes) (begun bytes) connection standing placed)
         by (tested ask flows waits_there up e moved) =
-            tested_goes (client bytes false) fnode front connection standing.here at standing.count
+            tested_goes silent (client bytes false) fnode front connection standing.here at standing.count
             (waits_open fixed conn fnode connection world story bytes standing.here (somewhere standing.here ask waits_there) reader standing.client
             standing.stands) ask flows waits_there up e moved
-    others_go _ (is_closed bytes fnode front connection at gone) = by (place_of fnode front gone.here at.at gone.placed)
-      where
-        by : StillOrTested fnode front gone.here → ConnectionIs fixed conn next later (client bytes true)
-        by (still placed) =
-            is_closed bytes fnode front connection (record { at = same.fronts fnode ∙ at.at; has = at.has })
-            (gone_stays fixed conn world next story later same fnode front.replica (inputs_in fixed.setting bytes) connection gone placed)
-        by (tested ask flows waits_there up e moved) =
-            tested_goes (client bytes true) fnode front connection gone.here at gone.count
-            (waits_closed fixed conn fnode connection world story bytes gone.here (somewhere gone.here ask waits_there) gone.stage_is gone.lasts gone.client
-            gone.left) ask flows waits_there up e moved
+    others_go _ _ (is_cut_off bytes fnode front connection at gone unanswered) =
+        gone_goes bytes fnode front connection is_lost false (cut_so unanswered) at gone (place_of fnode front gone.here at.at gone.placed)
+    others_go _ _ (is_closed stop bytes fnode front connection at gone) =
+        gone_goes bytes fnode front connection stop true (closed_so stop) at gone (place_of fnode front gone.here at.at gone.placed)
 
 -- THE STEP OF A BACKEND THAT TAKES WHAT ISN'T ABOUT A CONNECTION, for that connection
 abbrev pub HomeStepIsOthers : Type 0
@@ -279,8 +303,8 @@ HomeStepIsOthers = (config : Config) (heard : ℕ → Heard) (world : World) (la
     (message : LinkMsg) (rest : List LinkMsg) (later : Tale) → home_at world to ≡ Some node → on_link world.links from to ≡ message ∷ rest
     → about message ≢ of_connection conn → IsFitting message
     → LeavesElse conn world (with_home (taken_from_link world from to) to (node_takes node from message)) law.story later
-    → ConnectionIs (fixed_of config) conn (with_home (taken_from_link world from to) to (node_takes node from message)) later (heard conn)
+    → ConnectionIs (fixed_of config) conn (with_home (taken_from_link world from to) to (node_takes node from message)) later (law.stops conn) (heard conn)
 
 pub home_step_is_others : HomeStepIsOthers
 home_step_is_others config heard world law conn from to node message rest later there first other fits same =
-    others_go config heard world law conn from to node message rest there first other fits later same (heard conn) (law.connections conn)
+    others_go config heard world law conn from to node message rest there first other fits later same (law.stops conn) (heard conn) (law.connections conn)

@@ -1,4 +1,6 @@
 -- What a step that is about the command of a connection makes of its tale, its marks, and the connection itself.
+use Rattle.link_queue.specs.Broken.{Broken}
+use Rattle.imap_talk.specs.Transcript.{Stop}
 use Rattle.std.proofs.Common.{◌≡◌, ◌≢◌, ℕ, List, [], ◌∷◌, ◌++◌, Option, None, Some, refl, sym, ◌∙◌, ap, subst, append-nil}
 use Rattle.asking_core.specs.declared.waiting.At.{At}
 use Rattle.cluster_core.specs.World.{setting_of, client_at, front_at}
@@ -24,16 +26,16 @@ use Rattle.cluster_core.proofs.Connections.ConnectionLaw.{GoesOnAt, IsInPlaceOf,
 use Rattle.cluster_core.proofs.Connections.KeepsLaw.{ConnectionIs, fixed_of, murder_of}
 use Rattle.cluster_core.proofs.Connections.Tales.{others_marked}
 use Rattle.cluster_core.proofs.Points.Acts.{IsCarriedOut, IsSeen, KnowsOf, acted_on, home_mark}
-use Rattle.cluster_core.proofs.Points.Waits.{CommandWaits}
+use Rattle.cluster_core.proofs.Points.Waits.{CommandWaits, IsUndropped}
 
-pub record OwnStep (config : Config) (conn : ℕ) (heard : Heard) (world : World) (story : Tale) (next : World) (master : Master) (given : Given) : Type 0 where
+pub record OwnStep (config : Config) (conn : ℕ) (stop : Stop) (heard : Heard) (world : World) (story : Tale) (next : World) (master : Master) (given : Given) : Type 0 where
   pub later : Tale
   pub told : later.told ≡ story.told
   pub goes_on : GoesOnAt conn story later
-  pub is_told : AreMarkedSo (setting_of config) next.steps next.marks later
+  pub is_told : AreMarkedSo (setting_of config) next.broken next.steps next.marks later
   pub marks : (other : ℕ) → other ≢ conn → MarksStay other world.marks next.marks
   pub many : ManyHold (murder_of next master) given later.course.store
-  pub mine : ConnectionIs (fixed_of config) conn next later heard
+  pub mine : ConnectionIs (fixed_of config) conn next later stop heard
 
 -- the mark that the step makes, if it makes one
 abbrev pub made_by : ℕ → AskId → Option Counts → List Mark
@@ -41,18 +43,18 @@ made_by now id None = []
 made_by now id (Some counts) = home_mark now id counts ∷ []
 
 -- what it is to the command that waits
-pub record Outcome (fixed : Fixed) (front : List ℕ) (conn now : ℕ) (marks : List Mark) (story : Tale) (tag : Tag) (c : ClientCommand) (store : Store)
+pub record Outcome (fixed : Fixed) (front : List ℕ) (conn : ℕ) (broken : Broken) (now : ℕ) (marks : List Mark) (story : Tale) (tag : Tag) (c : ClientCommand) (store : Store)
     (counts : Option Counts) (there : Place) : Type 0 where
   pub later : Tale
   pub told : later.told ≡ story.told
   pub goes_on : GoesOnAt conn story later
-  pub is_told : AreMarkedSo fixed.setting now (marks ++ made_by now c.id counts) later
+  pub is_told : AreMarkedSo fixed.setting broken now (marks ++ made_by now c.id counts) later
   pub store_is : later.course.store ≡ store
   pub knows : KnowsOf fixed front conn tag c later there
 
-module _ (fixed : Fixed) (front : List ℕ) (conn now : ℕ) (marks : List Mark) (story : Tale) (tag : Tag) (c : ClientCommand) (there : Place) where
-  pub of_carried : (store : Store) (counts : Counts) → IsCarriedOut fixed front conn now marks story tag c store counts there
-      → Outcome fixed front conn now marks story tag c store (Some counts) there
+module _ (fixed : Fixed) (front : List ℕ) (conn : ℕ) (broken : Broken) (now : ℕ) (marks : List Mark) (story : Tale) (tag : Tag) (c : ClientCommand) (there : Place) where
+  pub of_carried : (store : Store) (counts : Counts) → IsCarriedOut fixed front conn broken now marks story tag c store counts there
+      → Outcome fixed front conn broken now marks story tag c store (Some counts) there
   of_carried store counts done = record {
     later = acted_on fixed story conn tag c done.serial;
     told = refl;
@@ -62,8 +64,8 @@ module _ (fixed : Fixed) (front : List ℕ) (conn now : ℕ) (marks : List Mark)
     knows = done.knows;
   }
 
-  pub of_seen : IsSeen fixed front conn now marks story tag c there
-      → Outcome fixed front conn now marks story tag c story.course.store (Some IfAnswered) there
+  pub of_seen : IsSeen fixed front conn broken now marks story tag c there
+      → Outcome fixed front conn broken now marks story tag c story.course.store (Some IfAnswered) there
   of_seen seen = record {
     later = story;
     told = refl;
@@ -73,13 +75,13 @@ module _ (fixed : Fixed) (front : List ℕ) (conn now : ℕ) (marks : List Mark)
     knows = seen.knows;
   }
 
-  pub of_known : AreMarkedSo fixed.setting now marks story → KnowsOf fixed front conn tag c story there
-      → Outcome fixed front conn now marks story tag c story.course.store None there
+  pub of_known : AreMarkedSo fixed.setting broken now marks story → KnowsOf fixed front conn tag c story there
+      → Outcome fixed front conn broken now marks story tag c story.course.store None there
   of_known are knows = record {
     later = story;
     told = refl;
     goes_on = same_story conn story;
-    is_told = subst (λ (m : List Mark). AreMarkedSo fixed.setting now m story) (sym (append-nil marks)) are;
+    is_told = subst (λ (m : List Mark). AreMarkedSo fixed.setting broken now m story) (sym (append-nil marks)) are;
     store_is = refl;
     knows = knows;
   }
@@ -90,22 +92,23 @@ made_stays : (conn now : ℕ) (id : AskId) (marks : List Mark) (counts : Option 
 made_stays conn now id marks None its other ne = subst (MarksStay other marks) (sym (append-nil marks)) (λ command. refl)
 made_stays conn now id marks (Some counts) its other ne = others_marked other marks (home_mark now id counts) (λ e. ne (sym e ∙ its))
 
-module _ (config : Config) (conn : ℕ) (node : List ℕ) (front : Front) (world : World) (story : Tale) (heard : Heard) (here : Place)
-    (waits : CommandWaits (fixed_of config) conn node front world story heard here) (next : World) where
+module _ (config : Config) (conn : ℕ) (node : List ℕ) (front : Front) (world : World) (story : Tale) (stop : Stop) (heard : Heard) (here : Place)
+    (waits : CommandWaits (fixed_of config) conn node front world story stop heard here) (next : World) where
   -- what the step leaves: its frontend, its client and the number of the step
   pub record Leaves (counts : Option Counts) : Type 0 where
     pub fronts : front_at next node ≡ front_at world node
     pub clients : client_at next conn ≡ client_at world conn
+    pub broken : next.broken ≡ world.broken
     pub steps : next.steps ≡ world.steps
     pub marks : next.marks ≡ world.marks ++ made_by world.steps waits.c.id counts
 
   pub own_step : (master : Master) (given : Given) (store : Store) (counts : Option Counts) (there : Place) → Leaves counts
-      → Outcome (fixed_of config) node conn world.steps world.marks story waits.tag waits.c store counts there
+      → Outcome (fixed_of config) node conn world.broken world.steps world.marks story waits.tag waits.c store counts there
       → ManyHold (murder_of next master) given store
       → IsInPlaceOf (fixed_of config) next node front.replica (next_id conn (story.told conn)) there
-      → IsMarkedAt story.talk.moving (world.marks ++ made_by world.steps waits.c.id counts) (next_id conn (story.told conn)) there
-      → ((at : At) → WaitsAt at here → WaitsAt at there) → OwnStep config conn heard world story next master given
-  own_step master given store counts there leaves out many placed marked whom =
+      → IsMarkedAt story.talk.moving (world.marks ++ made_by world.steps waits.c.id counts) (next_id conn (story.told conn)) there → IsUndropped there
+      → ((at : At) → WaitsAt at here → WaitsAt at there) → OwnStep config conn stop heard world story next master given
+  own_step master given store counts there leaves out many placed marked undropped whom =
       let later : Tale = out.later in
       let same : later.told conn ≡ story.told conn = ap (λ t. t conn) out.told in
       let its : waits.c.id.conn ≡ conn = ap (λ (i : AskId). i.conn) waits.its in
@@ -113,14 +116,17 @@ module _ (config : Config) (conn : ℕ) (node : List ℕ) (front : Front) (world
         later = later;
         told = out.told;
         goes_on = out.goes_on;
-        is_told = subst (λ (s : ℕ). AreMarkedSo (setting_of config) s next.marks later) (sym leaves.steps)
-            (subst (λ (m : List Mark). AreMarkedSo (setting_of config) world.steps m later) (sym leaves.marks) out.is_told);
+        is_told = subst (λ (b : Broken). AreMarkedSo (setting_of config) b next.steps next.marks later) (sym leaves.broken)
+            (subst (λ (s : ℕ). AreMarkedSo (setting_of config) world.broken s next.marks later) (sym leaves.steps)
+            (subst (λ (m : List Mark). AreMarkedSo (setting_of config) world.broken world.steps m later) (sym leaves.marks) out.is_told));
         marks = λ other ne. subst (MarksStay other world.marks) (sym leaves.marks) (made_stays conn world.steps waits.c.id world.marks counts its other ne);
         many = subst (λ (s : Store). ManyHold (murder_of next master) given s) (sym out.store_is) many;
         mine = waits.goes_on next later there (record {
           fronts = leaves.fronts;
           clients = leaves.clients;
+          broken = leaves.broken;
           told = same;
+          undropped = undropped;
           placed = subst (λ t. IsInPlaceOf (fixed_of config) next node front.replica (next_id conn t) there) (sym same) placed;
           marked = subst (λ m. IsMarkedAt m next.marks (next_id conn (later.told conn)) there) (sym out.goes_on.more.moving)
               (subst (λ t. IsMarkedAt story.talk.moving next.marks (next_id conn t) there) (sym same)

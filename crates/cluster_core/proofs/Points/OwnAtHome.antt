@@ -77,7 +77,7 @@ use Rattle.cluster_core.proofs.Points.Found.{IsFoundIn, found_in, in_answer, in_
 use Rattle.cluster_core.proofs.Points.ListPoint.{list_not_at_home}
 use Rattle.cluster_core.proofs.Points.ListWaits.{each_list_waits}
 use Rattle.cluster_core.proofs.Points.Own.{Leaves, Outcome, OwnStep, made_by, of_carried, of_known, of_seen, own_step}
-use Rattle.cluster_core.proofs.Points.Waits.{AskedFit, BringsNothing, CommandWaits, IsOpenAt, TellsPlace, Whose, of_command, of_list}
+use Rattle.cluster_core.proofs.Points.Waits.{IsUndropped, AskedFit, BringsNothing, CommandWaits, IsOpenAt, TellsPlace, Whose, of_command, of_list}
 use Rattle.cluster_core.proofs.Points.Waits.{each_command_waits, first_tells, is_open_there, waits_fit, whom_begun, whom_moved}
 
 -- ---- a backend gives clients nothing
@@ -144,6 +144,12 @@ moved_marked moving marks id name me (is_answered front ask body) = tt
 moved_marked moving marks id name me (is_kept ask) = tt
 moved_marked moving marks id name me (is_sent mailbox flow) = tt
 
+-- no backend drops it
+pub moved_undropped : (name : List ℕ) (me : Location) (move : Move) → IsUndropped (moved_to name me move)
+moved_undropped name me (is_answered front ask body) = tt
+moved_undropped name me (is_kept ask) = tt
+moved_undropped name me (is_sent mailbox flow) = tt
+
 module _ (config : Config) (heard : ℕ → Heard) (world : World) (law : KeepsLaw config heard world) (conn : ℕ)
     (fits : IsNumbered (next_id conn (law.story.told conn))) where
   abbrev story : Tale
@@ -166,10 +172,10 @@ module _ (config : Config) (heard : ℕ → Heard) (world : World) (law : KeepsL
   then from to node message = with_home (taken_from_link world from to) to (node_takes node from message)
 
   abbrev pub OwnAtHome : List ℕ → List ℕ → BackNode → LinkMsg → Type 0
-  OwnAtHome from to node message = OwnStep config conn (heard conn) world story (then from to node message) law.master law.given
+  OwnAtHome from to node message = OwnStep config conn (law.stops conn) (heard conn) world story (then from to node message) law.master law.given
 
   module _ (fnode : List ℕ) (front : Front) (here : Place) (at : front_at world fnode ≡ Some front)
-      (waits : CommandWaits fixed conn fnode front world story (heard conn) here) (placed : IsInPlaceOf fixed world fnode front.replica id here) where
+      (waits : CommandWaits fixed conn fnode front world story (law.stops conn) (heard conn) here) (placed : IsInPlaceOf fixed world fnode front.replica id here) where
     abbrev c : ClientCommand
     c = waits.c
 
@@ -182,8 +188,8 @@ module _ (config : Config) (heard : ℕ → Heard) (world : World) (law : KeepsL
     asked : numbered (story.talk.requests conn) (length (story.told conn) + 1) ≡ Some (a_command waits.tag c.it)
     asked = ap (λ r. numbered r (length (story.told conn) + 1)) (law.requests conn) ∙ waits.asked
 
-    opened_at : BringsNothing here → IsOpenAt fixed fnode conn world.steps world.marks story waits.tag c here
-    opened_at none = is_open_there fixed fnode conn world.steps world.marks story waits.tag c here law.is_told waits.setting_is waits.its asked waits.knows none
+    opened_at : BringsNothing here → IsOpenAt fixed fnode conn world.broken world.steps world.marks story waits.tag c here
+    opened_at none = is_open_there fixed fnode conn world.broken world.steps world.marks story waits.tag c here law.is_told waits.setting_is waits.its asked waits.knows none
 
     named : (to : List ℕ) (node : BackNode) → home_at world to ≡ Some node → (node.flows.me).server ≡ to
     named to node there = (law.many.each to node there).talk.each.named
@@ -194,12 +200,13 @@ module _ (config : Config) (heard : ℕ → Heard) (world : World) (law : KeepsL
 
       leaves : (counts : Option Counts) → marks_made world.steps (node_takes node from message).outs ≡ made_by world.steps c.id counts
           → given_all world.clients (node_takes node from message).outs ≡ world.clients
-          → Leaves config conn fnode front world story (heard conn) here waits next counts
+          → Leaves config conn fnode front world story (law.stops conn) (heard conn) here waits next counts
       leaves counts marks gives =
           let made = is_made (taken_from_link world from to) to (state.Back (node_takes node from message).state) (node_takes node from message).outs in
           record {
             fronts = (home_moved (taken_from_link world from to) to node (node_takes node from message) there).fronts fnode;
             clients = ap (λ cs. value_at nat_cmp cs conn) (made.clients ∙ gives);
+            broken = made.broken;
             steps = made.steps;
             marks = made.marks ∙ ap (λ (m : List Mark). world.marks ++ m) marks;
           }
@@ -214,7 +221,7 @@ module _ (config : Config) (heard : ℕ → Heard) (world : World) (law : KeepsL
       takes : HomeTakes murder law.given store to node fnode (Ask (its_ask c))
       takes = record { holds = law.many; there = there; first = record { rest = rest; first = first } }
 
-      opened : IsOpenAt fixed fnode conn world.steps world.marks story waits.tag c here
+      opened : IsOpenAt fixed fnode conn world.broken world.steps world.marks story waits.tag c here
       opened = opened_at (subst BringsNothing (sym asks) tt)
 
       in_ask_is : IsIn murder fnode front.replica id (place.is_asked to (its_ask c))
@@ -232,11 +239,11 @@ module _ (config : Config) (heard : ℕ → Heard) (world : World) (law : KeepsL
         answers : (body : AnswerBody) (counts : Counts) (later : Store)
             → (node_takes node fnode (Ask (its_ask c))).outs ≡ answer_outs fnode c.id body counts
             → ManyHold (home_takes murder to node fnode (Ask (its_ask c))) law.given later
-            → Outcome fixed fnode conn world.steps world.marks story waits.tag c later (Some counts) (answered_at to c.id body)
+            → Outcome fixed fnode conn world.broken world.steps world.marks story waits.tag c later (Some counts) (answered_at to c.id body)
             → OwnAtHome fnode to node (Ask (its_ask c))
         answers body counts later step hold out =
             let answer : BackAnswer = record { id = c.id; body = body } in
-            own_step config conn fnode front world story (heard conn) here waits (then fnode to node (Ask (its_ask c))) law.master law.given later (Some counts)
+            own_step config conn fnode front world story (law.stops conn) (heard conn) here waits (then fnode to node (Ask (its_ask c))) law.master law.given later (Some counts)
             (answered_at to c.id body)
             (leaves to node there fnode (Ask (its_ask c)) (Some counts) (ap (marks_made world.steps) step)
             (ap (given_all world.clients) step ∙ answer_given world.clients fnode c.id answer counts))
@@ -244,37 +251,37 @@ module _ (config : Config) (heard : ℕ → Heard) (world : World) (law : KeepsL
             (in_world_then fixed world law.master law.nodes.me to fnode node (node_takes node fnode (Ask (its_ask c))) there fnode front.replica id
             (answered_at to c.id body)
             (ask_is_answered murder law.given store to node fnode front.replica id (its_ask c) answer counts takes its_front (message_kind c of) refl step in_ask_is))
-            tt (whom_by (answered_at to c.id body) (λ a is. is))
+            tt tt (whom_by (answered_at to c.id body) (λ a is. is))
 
         messages_by : (found : Bool) → is_open_here (held_at node.home c.name) ≡ found → OwnAtHome fnode to node (Ask (its_ask c))
         messages_by true e =
-            let it = open_is_its_point fixed fnode conn world.steps world.marks story waits.tag c murder law.given to node opened.is_open comes e in
+            let it = open_is_its_point fixed fnode conn world.broken world.steps world.marks story waits.tag c murder law.given to node opened.is_open comes e in
             answers it.body it.counts it.later it.step it.then_holds
-            (of_carried fixed fnode conn world.steps world.marks story waits.tag c (answered_at to c.id it.body) it.later it.counts it.carried)
+            (of_carried fixed fnode conn world.broken world.steps world.marks story waits.tag c (answered_at to c.id it.body) it.later it.counts it.carried)
         messages_by false e =
-            let it = closed_is_seen fixed fnode conn world.steps world.marks story waits.tag c murder law.given to node opened.is_open comes e in
+            let it = closed_is_seen fixed fnode conn world.broken world.steps world.marks story waits.tag c murder law.given to node opened.is_open comes e in
             answers it.body IfAnswered store it.step it.then_holds
-            (of_seen fixed fnode conn world.steps world.marks story waits.tag c (answered_at to c.id it.body) it.seen)
+            (of_seen fixed fnode conn world.broken world.steps world.marks story waits.tag c (answered_at to c.id it.body) it.seen)
 
       -- of a CREATE or DELETE
       of_name : (kind : AskKind) → kind_of c.work ≡ Some kind → OwnAtHome fnode to node (Ask (its_ask c))
       of_name kind does =
-          let it = name_is_asked fixed fnode conn world.steps world.marks story waits.tag c murder law.given to node kind opened.is_open
+          let it = name_is_asked fixed fnode conn world.broken world.steps world.marks story waits.tag c murder law.given to node kind opened.is_open
           (record { does = does; holds = law.many; there = there; other = its_front.no_master; numbered = numbered_c }) in
           let moves = it.1 in
           let move : Move = asked_move node.flows node.home.held (name_ask fnode (its_ask c) kind) in
           let me : Location = node.flows.me in
-          own_step config conn fnode front world story (heard conn) here waits (then fnode to node (Ask (its_ask c))) law.master law.given store None
+          own_step config conn fnode front world story (law.stops conn) (heard conn) here waits (then fnode to node (Ask (its_ask c))) law.master law.given store None
           (moved_to to me move)
           (leaves to node there fnode (Ask (its_ask c)) None moves.marks
           (gives_none node fnode (Ask (its_ask c)) world.clients))
-          (of_known fixed fnode conn world.steps world.marks story waits.tag c (moved_to to me move) law.is_told moves.knows)
+          (of_known fixed fnode conn world.broken world.steps world.marks story waits.tag c (moved_to to me move) law.is_told moves.knows)
           (many to node there fnode (Ask (its_ask c)) store moves.then_holds)
           (in_world_then fixed world law.master law.nodes.me to fnode node (node_takes node fnode (Ask (its_ask c))) there fnode front.replica id
           (moved_to to me move)
           (ask_is_moved murder law.given store to node fnode front.replica id (its_ask c) kind takes its_front (name_ask_fits c kind does numbered_c)
           (name_kind_is c kind does) in_ask_is).placed)
-          (moved_marked _ _ id to me move)
+          (moved_marked _ _ id to me move) (moved_undropped to me move)
           (whom_by (moved_to to me move) (λ a is. whom_begun to me (its_ask c) move a (named to node there) is))
 
       ask_own : OwnAtHome fnode to node (Ask (its_ask c))
@@ -312,14 +319,14 @@ module _ (config : Config) (heard : ℕ → Heard) (world : World) (law : KeepsL
           let moves = response_moves fixed fnode conn world.steps story waits.tag c murder law.given to node message rest mailbox flow it move
           (record { holds = law.many; there = there; first = first })
           (subst (λ l. KnowsOf fixed fnode conn waits.tag c story (heard_there l)) heard_it.0 knows_there) (heard_it.1).is in
-          own_step config conn fnode front world story (heard conn) here waits (then law.master.me to node message) law.master law.given store None
+          own_step config conn fnode front world story (law.stops conn) (heard conn) here waits (then law.master.me to node message) law.master law.given store None
           (moved_to to at_me move)
           (leaves to node there law.master.me message None moves.marks (gives_none node law.master.me message world.clients))
-          (of_known fixed fnode conn world.steps world.marks story waits.tag c (moved_to to at_me move) law.is_told moves.knows)
+          (of_known fixed fnode conn world.broken world.steps world.marks story waits.tag c (moved_to to at_me move) law.is_told moves.knows)
           (many to node there law.master.me message store moves.then_holds)
           (in_world_then fixed world law.master law.nodes.me to law.master.me node (node_takes node law.master.me message) there fnode front.replica id
           (moved_to to at_me move) ((heard_it.1).moved).placed)
-          (moved_marked _ _ id to at_me move)
+          (moved_marked _ _ id to at_me move) (moved_undropped to at_me move)
           (subst (λ p. (a : At) → WaitsAt a p → WaitsAt a (moved_to to at_me move)) (sym hears)
           (subst (λ l. (a : At) → WaitsAt a (heard_there l) → WaitsAt a (moved_to to at_me move)) (sym heard_it.0)
           (λ a is. whom_moved to at_me (name_at.hears mailbox flow it) move a (named to node there) is)))
@@ -375,7 +382,7 @@ module _ (config : Config) (heard : ℕ → Heard) (world : World) (law : KeepsL
 pub record IsOwnAtHome (config : Config) (heard : ℕ → Heard) (world : World) (law : KeepsLaw config heard world) (conn : ℕ) (from to : List ℕ)
     (node : BackNode) (message : LinkMsg) : Type 0 where
   pub fits : IsFitting message
-  pub step : OwnStep config conn (heard conn) world law.story (with_home (taken_from_link world from to) to (node_takes node from message)) law.master law.given
+  pub step : OwnStep config conn (law.stops conn) (heard conn) world law.story (with_home (taken_from_link world from to) to (node_takes node from message)) law.master law.given
 
 abbrev pub HomeStepIsOwn : Type 0
 HomeStepIsOwn = (config : Config) (heard : ℕ → Heard) (world : World) (law : KeepsLaw config heard world) (conn : ℕ) (from to : List ℕ) (node : BackNode)
@@ -385,11 +392,11 @@ HomeStepIsOwn = (config : Config) (heard : ℕ → Heard) (world : World) (law :
 pub home_step_is_own : HomeStepIsOwn
 home_step_is_own config heard world law conn from to node message rest fit there first own = by tells.who
   where
-    tells : TellsPlace (fixed_of config) conn world law.story (heard conn) from to message
-    tells = first_tells (fixed_of config) conn world law.story (heard conn) from to message rest first own (law.connections conn)
+    tells : TellsPlace (fixed_of config) conn world law.story (law.stops conn) (heard conn) from to message
+    tells = first_tells (fixed_of config) conn world law.story (law.stops conn) (heard conn) from to message rest first own (law.connections conn)
 
     fits : IsNumbered (next_id conn (law.story.told conn))
-    fits = waits_fit (fixed_of config) conn tells.node tells.front tells.connection world law.story (heard conn) tells.here fit tells.at tells.who
+    fits = waits_fit (fixed_of config) conn tells.node tells.front tells.connection world law.story (law.stops conn) (heard conn) tells.here fit tells.at tells.who
 
     no_front : tells.node ≡ to → ⊥
     no_front e =
@@ -398,10 +405,10 @@ home_step_is_own config heard world law conn from to node message rest fit there
     no_master : master_of config ≡ to → ⊥
     no_master e = (law.many.each to node there).apart (sym e ∙ sym law.nodes.me)
 
-    by : Whose (fixed_of config) conn tells.node tells.connection world law.story (heard conn) tells.here
+    by : Whose (fixed_of config) conn tells.node tells.connection world law.story (law.stops conn) (heard conn) tells.here
         → IsOwnAtHome config heard world law conn from to node message
     by (of_command who) =
-        let waits = each_command_waits (fixed_of config) conn tells.node tells.front tells.connection world law.story (heard conn) tells.here tells.at
+        let waits = each_command_waits (fixed_of config) conn tells.node tells.front tells.connection world law.story (law.stops conn) (heard conn) tells.here tells.at
         tells.count who in
         let found = found_in (master_of config) tells.node (next_id conn (law.story.told conn)) from to message tells.here tells.is_found in
         record {
@@ -412,5 +419,5 @@ home_step_is_own config heard world law conn from to node message rest fit there
         }
     by (of_list who) =
         absurd (list_not_at_home config heard world law conn fits tells.node tells.front tells.here (tells.at).at
-        (each_list_waits (fixed_of config) conn tells.node tells.front tells.connection world law.story (heard conn) tells.here tells.at tells.count who)
+        (each_list_waits (fixed_of config) conn tells.node tells.front tells.connection world law.story (law.stops conn) (heard conn) tells.here tells.at tells.count who)
         tells.placed from to message no_front no_master tells.is_found)

@@ -101,13 +101,13 @@ module _ (config : Config) (heard : ℕ → Heard) (world : World) (law : KeepsL
   then from message = with_master (taken_from_link world from name) name (says from message)
 
   abbrev OwnWith : List ℕ → LinkMsg → Given → Type 0
-  OwnWith from message given = OwnStep config conn (heard conn) world story (then from message) (says from message).master given
+  OwnWith from message given = OwnStep config conn (law.stops conn) (heard conn) world story (then from message) (says from message).master given
 
   abbrev OwnAtMaster : List ℕ → LinkMsg → Type 0
   OwnAtMaster from message = (given : Given) × OwnWith from message given
 
   module _ (fnode : List ℕ) (front : Front) (here : Place) (at : front_at world fnode ≡ Some front)
-      (waits : CommandWaits fixed conn fnode front world story (heard conn) here) (placed : IsInPlaceOf fixed world fnode front.replica id here) where
+      (waits : CommandWaits fixed conn fnode front world story (law.stops conn) (heard conn) here) (placed : IsInPlaceOf fixed world fnode front.replica id here) where
     abbrev c : ClientCommand
     c = waits.c
 
@@ -123,17 +123,18 @@ module _ (config : Config) (heard : ℕ → Heard) (world : World) (law : KeepsL
     asked : numbered (story.talk.requests conn) (length (story.told conn) + 1) ≡ Some (a_command waits.tag c.it)
     asked = ap (λ r. numbered r (length (story.told conn) + 1)) (law.requests conn) ∙ waits.asked
 
-    opened_at : BringsNothing here → IsOpenAt fixed fnode conn world.steps world.marks story waits.tag c here
-    opened_at none = is_open_there fixed fnode conn world.steps world.marks story waits.tag c here law.is_told waits.setting_is waits.its asked waits.knows none
+    opened_at : BringsNothing here → IsOpenAt fixed fnode conn world.broken world.steps world.marks story waits.tag c here
+    opened_at none = is_open_there fixed fnode conn world.broken world.steps world.marks story waits.tag c here law.is_told waits.setting_is waits.its asked waits.knows none
 
     module _ (from : List ℕ) (message : LinkMsg) (same : client_at (then from message) conn ≡ client_at world conn) where
       leaves : (counts : Option Counts) → marks_made world.steps (says from message).outs ≡ made_by world.steps c.id counts
-          → Leaves config conn fnode front world story (heard conn) here waits (then from message) counts
+          → Leaves config conn fnode front world story (law.stops conn) (heard conn) here waits (then from message) counts
       leaves counts marks =
           let made = is_made (taken_from_link world from name) name (state.Master (says from message).master) (says from message).outs in
           record {
             fronts = (master_moved (taken_from_link world from name) name law.master (says from message) law.nodes.is_there).fronts fnode;
             clients = same;
+            broken = made.broken;
             steps = made.steps;
             marks = made.marks ∙ ap (λ (m : List Mark). world.marks ++ m) marks;
           }
@@ -167,19 +168,19 @@ module _ (config : Config) (heard : ℕ → Heard) (world : World) (law : KeepsL
     same_table : {next : Stepped} → node_says murder.master fnode (noop_of c.id) ≡ next → (says fnode (noop_of id)).master.table ≡ next.master.table
     same_table e = ap (λ i. (says fnode (noop_of i)).master.table) (sym waits.its) ∙ ap (λ (s : Stepped). s.master.table) e
 
-    decided_so : IsDecidedSo fixed fnode conn world.steps world.marks story waits.tag c table
-        → Outcome fixed fnode conn world.steps world.marks story waits.tag c store (Some IfAnswered) (cleared_at table)
-    decided_so (is_its_point done) = of_carried fixed fnode conn world.steps world.marks story waits.tag c (cleared_at table) store IfAnswered done
-    decided_so (is_only_seen seen) = of_seen fixed fnode conn world.steps world.marks story waits.tag c (cleared_at table) seen
+    decided_so : IsDecidedSo fixed fnode conn world.broken world.steps world.marks story waits.tag c table
+        → Outcome fixed fnode conn world.broken world.steps world.marks story waits.tag c store (Some IfAnswered) (cleared_at table)
+    decided_so (is_its_point done) = of_carried fixed fnode conn world.broken world.steps world.marks story waits.tag c (cleared_at table) store IfAnswered done
+    decided_so (is_only_seen seen) = of_seen fixed fnode conn world.broken world.steps world.marks story waits.tag c (cleared_at table) seen
 
     noop_own : (rest : List LinkMsg) → here ≡ place.is_barred barrier.asked → on_link world.links fnode name ≡ noop_of id ∷ rest
         → client_at (then fnode (noop_of id)) conn ≡ client_at world conn
         → MovesBy story.talk.moving world.steps (says fnode (noop_of id)).master.table → OwnWith fnode (noop_of id) law.given
     noop_own rest asks first same moves =
         let opened = opened_at (subst BringsNothing (sym asks) tt) in
-        let clears : ClearsIt fixed fnode conn world.steps world.marks story waits.tag c murder law.given =
-        noop_clears fixed fnode conn world.steps world.marks story waits.tag c murder law.given opened.is_open noop_comes in
-        own_step config conn fnode front world story (heard conn) here waits (then fnode (noop_of id)) (says fnode (noop_of id)).master law.given store
+        let clears : ClearsIt fixed fnode conn world.broken world.steps world.marks story waits.tag c murder law.given =
+        noop_clears fixed fnode conn world.broken world.steps world.marks story waits.tag c murder law.given opened.is_open noop_comes in
+        own_step config conn fnode front world story (law.stops conn) (heard conn) here waits (then fnode (noop_of id)) (says fnode (noop_of id)).master law.given store
         (Some IfAnswered) (cleared_at table)
         (leaves fnode (noop_of id) same (Some IfAnswered)
         (ap (λ i. marks_made world.steps (node_says law.master fnode (noop_of i)).outs) (sym waits.its)
@@ -191,7 +192,7 @@ module _ (config : Config) (heard : ℕ → Heard) (world : World) (law : KeepsL
         (in_murder fixed world law.master law.nodes.me fnode front.replica id (place.is_barred barrier.asked)
         (subst (λ p. IsInPlaceOf fixed world fnode front.replica id p) asks placed))))
         (subst (λ i. IsMarkedAt story.talk.moving (world.marks ++ home_mark world.steps c.id IfAnswered ∷ []) i (cleared_at table)) waits.its
-        (record { step = world.steps; saw = clears.marked; moves = subst (MovesBy story.talk.moving world.steps) (same_table clears.step) moves }))
+        (record { step = world.steps; saw = clears.marked; moves = subst (MovesBy story.talk.moving world.steps) (same_table clears.step) moves })) tt
         (subst (λ p. (a : At) → WaitsAt a p → WaitsAt a (cleared_at table)) (sym asks) (λ a is. whom_barred barrier.asked (barrier.answered table) a is))
 
     -- ---- the line of its flow
@@ -200,7 +201,7 @@ module _ (config : Config) (heard : ℕ → Heard) (world : World) (law : KeepsL
         (own : about message ≡ of_connection conn) (same : client_at (then from message) conn ≡ client_at world conn)
         (node : BackNode) (there : home_at world from ≡ Some node) (me : Location) (mailbox : List ℕ) (flow : Flow)
         (its_line : flow_message me mailbox flow ≡ message) (sends : here ≡ place.is_at me (name_at.sends mailbox flow)) (server : me.server ≡ from) where
-      opened : IsOpenAt fixed fnode conn world.steps world.marks story waits.tag c here
+      opened : IsOpenAt fixed fnode conn world.broken world.steps world.marks story waits.tag c here
       opened = opened_at (subst BringsNothing (sym sends) tt)
 
       of_flow : IsFlowOf fnode c mailbox flow
@@ -257,38 +258,38 @@ module _ (config : Config) (heard : ℕ → Heard) (world : World) (law : KeepsL
           subst (λ p. (a : At) → WaitsAt a p → WaitsAt a (heard_at node c.name flow it)) (sym sends)
           (λ a is. is ∙ ap (λ (l : Location). Home l.server) its_placed.0)
 
-      line_by : LineGoes fixed fnode conn world.steps world.marks story waits.tag c murder law.given from node message flow → OwnAtMaster from message
+      line_by : LineGoes fixed fnode conn world.broken world.steps world.marks story waits.tag c murder law.given from node message flow → OwnAtMaster from message
       line_by (is_point it) = (
         law.given ++ given_in law.master.table from message,
-        own_step config conn fnode front world story (heard conn) here waits (then from message) (says from message).master
+        own_step config conn fnode front world story (law.stops conn) (heard conn) here waits (then from message) (says from message).master
             (law.given ++ given_in law.master.table from message) it.later (Some it.counts) (heard_at node c.name flow it.it)
             (leaves from message same (Some it.counts) it.responds.marks)
-            (of_carried fixed fnode conn world.steps world.marks story waits.tag c (heard_at node c.name flow it.it) it.later it.counts it.carried)
+            (of_carried fixed fnode conn world.broken world.steps world.marks story waits.tag c (heard_at node c.name flow it.it) it.later it.counts it.carried)
             (many from message (law.given ++ given_in law.master.table from message) it.later it.then_holds)
-            (placed_then it.it it.responds.answer) tt (whom_then it.it),
+            (placed_then it.it it.responds.answer) tt tt (whom_then it.it),
       )
       line_by (is_seen it) = (
         law.given ++ given_in law.master.table from message,
-        own_step config conn fnode front world story (heard conn) here waits (then from message) (says from message).master
+        own_step config conn fnode front world story (law.stops conn) (heard conn) here waits (then from message) (says from message).master
             (law.given ++ given_in law.master.table from message) store (Some IfAnswered) (heard_at node c.name flow it.it)
             (leaves from message same (Some IfAnswered) it.responds.marks)
-            (of_seen fixed fnode conn world.steps world.marks story waits.tag c (heard_at node c.name flow it.it) it.seen)
+            (of_seen fixed fnode conn world.broken world.steps world.marks story waits.tag c (heard_at node c.name flow it.it) it.seen)
             (many from message (law.given ++ given_in law.master.table from message) store it.then_holds)
-            (placed_then it.it it.responds.answer) tt (whom_then it.it),
+            (placed_then it.it it.responds.answer) tt tt (whom_then it.it),
       )
       line_by (waits_on it) = (
         law.given ++ given_in law.master.table from message,
-        own_step config conn fnode front world story (heard conn) here waits (then from message) (says from message).master
+        own_step config conn fnode front world story (law.stops conn) (heard conn) here waits (then from message) (says from message).master
             (law.given ++ given_in law.master.table from message) store None (heard_at node c.name flow it.it)
             (leaves from message same None it.responds.marks)
-            (of_known fixed fnode conn world.steps world.marks story waits.tag c (heard_at node c.name flow it.it) law.is_told it.knows)
+            (of_known fixed fnode conn world.broken world.steps world.marks story waits.tag c (heard_at node c.name flow it.it) law.is_told it.knows)
             (many from message (law.given ++ given_in law.master.table from message) store it.then_holds)
-            (placed_then it.it it.responds.answer) tt (whom_then it.it),
+            (placed_then it.it it.responds.answer) tt tt (whom_then it.it),
       )
 
       line_own : OwnAtMaster from message
       line_own =
-          line_by (each_line_goes fixed fnode conn world.steps world.marks story waits.tag c murder law.given from node message rest flow
+          line_by (each_line_goes fixed fnode conn world.broken world.steps world.marks story waits.tag c murder law.given from node message rest flow
           opened.is_open of comes)
 
     -- ---- which it is
@@ -330,31 +331,31 @@ MasterStepIsOwn = (config : Config) (heard : ℕ → Heard) (world : World) (law
     → on_link world.links from (master_of config) ≡ message ∷ rest → about message ≡ of_connection conn
     → client_at (with_master (taken_from_link world from (master_of config)) (master_of config) (node_says law.master from message)) conn
     ≡ client_at world conn
-    → (given : Given) × OwnStep config conn (heard conn) world law.story
+    → (given : Given) × OwnStep config conn (law.stops conn) (heard conn) world law.story
     (with_master (taken_from_link world from (master_of config)) (master_of config) (node_says law.master from message))
     (node_says law.master from message).master given
 
 pub master_step_is_own : MasterStepIsOwn
 master_step_is_own config heard world law conn from message rest fit moves first own same = by tells.who
   where
-    tells : TellsPlace (fixed_of config) conn world law.story (heard conn) from (master_of config) message
-    tells = first_tells (fixed_of config) conn world law.story (heard conn) from (master_of config) message rest first own (law.connections conn)
+    tells : TellsPlace (fixed_of config) conn world law.story (law.stops conn) (heard conn) from (master_of config) message
+    tells = first_tells (fixed_of config) conn world law.story (law.stops conn) (heard conn) from (master_of config) message rest first own (law.connections conn)
 
     fits : IsNumbered (next_id conn (law.story.told conn))
-    fits = waits_fit (fixed_of config) conn tells.node tells.front tells.connection world law.story (heard conn) tells.here fit tells.at tells.who
+    fits = waits_fit (fixed_of config) conn tells.node tells.front tells.connection world law.story (law.stops conn) (heard conn) tells.here fit tells.at tells.who
 
-    by : Whose (fixed_of config) conn tells.node tells.connection world law.story (heard conn) tells.here
-        → (given : Given) × OwnStep config conn (heard conn) world law.story
+    by : Whose (fixed_of config) conn tells.node tells.connection world law.story (law.stops conn) (heard conn) tells.here
+        → (given : Given) × OwnStep config conn (law.stops conn) (heard conn) world law.story
         (with_master (taken_from_link world from (master_of config)) (master_of config) (node_says law.master from message))
         (node_says law.master from message).master given
     by (of_command who) =
-        let waits = each_command_waits (fixed_of config) conn tells.node tells.front tells.connection world law.story (heard conn) tells.here tells.at
+        let waits = each_command_waits (fixed_of config) conn tells.node tells.front tells.connection world law.story (law.stops conn) (heard conn) tells.here tells.at
         tells.count who in
         by_found config heard world law conn fits tells.node tells.front tells.here (tells.at).at waits tells.placed from message rest first own same moves
         tells.here refl (found_in (master_of config) tells.node (next_id conn (law.story.told conn)) from (master_of config) message tells.here tells.is_found)
     by (of_list who) = (
       law.given,
       list_is_own config heard world law conn fits tells.node tells.front tells.here (tells.at).at
-          (each_list_waits (fixed_of config) conn tells.node tells.front tells.connection world law.story (heard conn) tells.here tells.at tells.count who)
+          (each_list_waits (fixed_of config) conn tells.node tells.front tells.connection world law.story (law.stops conn) (heard conn) tells.here tells.at tells.count who)
           tells.placed from message rest first same moves tells.is_found,
     )

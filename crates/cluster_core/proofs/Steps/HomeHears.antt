@@ -85,6 +85,7 @@ waits_at : (name : List ℕ) (here : Place) (ask : NameAsk) → at_backend name 
 waits_at name place.nowhere ask e = cc
 waits_at name (place.is_asked server it) ask e = cc
 waits_at name (place.is_answered server answer) ask e = cc
+waits_at name (place.is_dropped server) ask e = cc
 waits_at name (place.is_at me at) ask e = by (pointwise nat_eq me.server name) refl e
   where
     by : (same : Bool) → pointwise nat_eq me.server name ≡ same → cond same at name_at.nowhere ≡ name_at.waits ask

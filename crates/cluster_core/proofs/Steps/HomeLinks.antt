@@ -118,5 +118,6 @@ module _ (murder : Murder) (name : List ℕ) (apart : name ≢ murder.master.me)
     there_then place.nowhere is = tt
     there_then (place.is_asked server ask) is = is_there server is.0 is.1
     there_then (place.is_answered server answer) is = is_there server is.0 is.1
+    there_then (place.is_dropped server) is = is_there server is.0 is.1
     there_then (place.is_at at p) is = with_place at is.0 is.1 is.2
     there_then (place.is_barred b) is = tt

@@ -79,6 +79,7 @@ module _ (master : List ℕ) (nodes others : Nodes) (same : (name : List ℕ) �
   there_alike place.nowhere there = tt
   there_alike (place.is_asked server ask) there = (there.0, same server ∙ there.1)
   there_alike (place.is_answered server answer) there = (there.0, same server ∙ there.1)
+  there_alike (place.is_dropped server) there = (there.0, same server ∙ there.1)
   there_alike (place.is_at me at) there = (there.0, same me.server ∙ there.1, there.2)
   there_alike (place.is_barred at) there = tt
 

@@ -52,6 +52,7 @@ module _ (murder : Murder) (from to : List ℕ) (message : LinkMsg) (nobody : Is
     not_its place.nowhere there e = cc
     not_its (place.is_asked server ask) there e = no_backend server there.0 there.1 (are_same front server from to (Ask ask) message e).to_is
     not_its (place.is_answered server answer) there e = apart (sym (are_same server front from to (Answer answer) message e).to_is)
+    not_its (place.is_dropped server) there e = cc
     not_its (place.is_at at name_at.nowhere) there e = cc
     not_its (place.is_at at (name_at.waits ask)) there e = cc
     not_its (place.is_at at (name_at.sends mailbox flow)) there e =

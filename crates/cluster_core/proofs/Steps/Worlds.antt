@@ -7,6 +7,7 @@ use Rattle.feed_core.specs.declared.replica.Replica.{Replica}
 use Rattle.feed_links.specs.OneFeed.{IsFed}
 use Rattle.front_core.specs.declared.front.Front.{Front}
 use Rattle.imap_talk.specs.Heard.{Heard}
+use Rattle.imap_talk.specs.Transcript.{Stop}
 use Rattle.link_msg.specs.declared.message.LinkMsg.{LinkMsg}
 use Rattle.link_queue.specs.Links.{Links, on_link, without_first}
 use Rattle.many_links.specs.ManyHold.{ManyHold}
@@ -26,7 +27,7 @@ use Rattle.cluster_core.proofs.Commands.InPlace.{IsInNone, IsInPlace, ShowEach}
 use Rattle.cluster_core.proofs.Commands.Place.{Place, at_backend, Place as place}
 use Rattle.cluster_core.proofs.Commands.Standing.{Fixed}
 use Rattle.cluster_core.proofs.Connections.ConnectionLaw.{IsInNoneOf, IsInPlaceOf}
-use Rattle.cluster_core.proofs.Connections.KeepsLaw.{AreNodesOf, ConnectionIs, FeedsHold, KeepsLaw, fixed_of, is_closed, is_elsewhere, is_nobody, is_open, murder_of}
+use Rattle.cluster_core.proofs.Connections.KeepsLaw.{AreNodesOf, ConnectionIs, FeedsHold, KeepsLaw, fixed_of, is_closed, is_cut_off, is_elsewhere, is_nobody, is_open, murder_of}
 use Rattle.cluster_core.proofs.Nodes.Carried.{is_made}
 use Rattle.cluster_core.proofs.Nodes.Comes.{home_moved, master_moved, with_home, with_master}
 use Rattle.cluster_core.proofs.Steps.HomeLinks.{IsInThen, IsNowhereThen}
@@ -42,18 +43,19 @@ pub places_tell : (master : List ℕ) (nodes : Nodes) (links : Links LinkMsg) �
 places_tell master nodes links shown name node there =
     connections_tell node.flows (λ conn. (at_backend name (shown conn).0, ((shown conn).1 name node there).at))
 
-pub each_shown : (fixed : Fixed) (conn : ℕ) (world : World) (story : Tale) (heard : Heard) → ConnectionIs fixed conn world story heard
+pub each_shown : (fixed : Fixed) (conn : ℕ) (world : World) (story : Tale) (stop : Stop) (heard : Heard) → ConnectionIs fixed conn world story stop heard
     → (here : Place) × ShowEach fixed.master (home_at world) world.links conn here
-each_shown fixed conn world story _ (is_nobody none nowhere untold) = (place.nowhere, untold.nothing.shows)
-each_shown fixed conn world story _ (is_elsewhere node given there none untold) = (place.nowhere, untold.nothing.shows)
-each_shown fixed conn world story _ (is_open bytes node front connection at begun standing) = (standing.here, standing.placed.shows)
-each_shown fixed conn world story _ (is_closed bytes node front connection at gone) = (gone.here, gone.placed.shows)
+each_shown fixed conn world story _ _ (is_nobody none nowhere untold) = (place.nowhere, untold.nothing.shows)
+each_shown fixed conn world story _ _ (is_elsewhere node given there none untold) = (place.nowhere, untold.nothing.shows)
+each_shown fixed conn world story _ _ (is_open bytes node front connection at begun standing) = (standing.here, standing.placed.shows)
+each_shown fixed conn world story _ _ (is_cut_off bytes node front connection at gone unanswered) = (gone.here, gone.placed.shows)
+each_shown fixed conn world story _ _ (is_closed stop bytes node front connection at gone) = (gone.here, gone.placed.shows)
 
 pub law_tells : (config : Config) (heard : ℕ → Heard) (world : World) → KeepsLaw config heard world → (name : List ℕ) (node : BackNode)
     → home_at world name ≡ Some node → FlowsTell node.flows
 law_tells config heard world law name node there =
     places_tell (master_of config) (home_at world) world.links
-    (λ conn. each_shown (fixed_of config) conn world law.story (heard conn) (law.connections conn)) name node there
+    (λ conn. each_shown (fixed_of config) conn world law.story (law.stops conn) (heard conn) (law.connections conn)) name node there
 
 -- ---- premises
 
