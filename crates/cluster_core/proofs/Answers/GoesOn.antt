@@ -9,7 +9,7 @@ use Rattle.asking_core.specs.declared.waiting.Sent.{Sent}
 use Rattle.asking_core.specs.declared.waiting.Waiting.{Waiting as WaitingFor}
 use Rattle.feed_core.specs.declared.replica.Replica.{Replica}
 use Rattle.front_core.specs.declared.connection.Connection.{Connection}
-use Rattle.front_core.specs.Answered.{by_then, goes_on_by, need_behind, sends_if}
+use Rattle.front_core.specs.Answered.{by_then, goes_on_by, need_behind, refused_behind, sends_if}
 use Rattle.front_core.specs.Taken.{Turned}
 use Rattle.front_core.specs.Ups.{Ups, is_up}
 use Rattle.link_queue.specs.Broken.{Broken}
@@ -24,17 +24,17 @@ use Rattle.imap_talk.proofs.RequestsOf.{answered_lengths, next_request}
 use Rattle.imap_types.specs.declared.command.Command.{Command}
 use Rattle.imap_types.specs.declared.command.Command.TheVariants.{Select, Examine}
 use Rattle.imap_types.specs.declared.reply.NoText.{NoText}
-use Rattle.imap_types.specs.declared.reply.NoText.TheVariants.{BeingMoved}
+use Rattle.imap_types.specs.declared.reply.NoText.TheVariants.{BeingMoved, NotReached}
 use Rattle.imap_types.specs.declared.reply.Reply.{Reply}
 use Rattle.imap_types.specs.declared.request.Answer.{Answer}
 use Rattle.imap_types.specs.declared.request.Request.TheVariants.{Command as a_command}
 use Rattle.link_msg.specs.declared.how.How.{How}
-use Rattle.link_msg.specs.declared.how.How.TheVariants.{Behind, Reserved}
+use Rattle.link_msg.specs.declared.how.How.TheVariants.{Behind, Reserved, Unreached}
 use Rattle.mark_history.specs.Marked.{CanRefuse, Tale}
 use Rattle.many_links.specs.Murder.{Nodes}
 use Rattle.master_core.specs.Refusals.{is_reserved}
 use Rattle.mur_base.specs.declared.point.AskId.{AskId}
-use Rattle.mur_base.specs.declared.point.What.TheVariants.{Reserved as reserved}
+use Rattle.mur_base.specs.declared.point.What.TheVariants.{Reserved as reserved, Unreached as unreached}
 use Rattle.node_record.specs.Table.{MailboxTable, record_at}
 use Rattle.cluster_core.proofs.Commands.Moving.{IsSeenBy}
 use Rattle.mur_model.specs.declared.session.Sess.{Sess}
@@ -44,6 +44,9 @@ use Rattle.mur_model.specs.declared.setting.Setting.{Setting}
 use Rattle.mur_model.specs.Act.{need_of, session_after}
 use Rattle.mur_model.specs.History.{numbered}
 use Rattle.mur_model.specs.Needed.{Mailbox}
+use Rattle.mur_model.specs.declared.need.Asking.{Asking}
+use Rattle.mur_model.specs.Asking.{asked_for}
+use Rattle.session_core.specs.Relocated.{Refused, relocated}
 use Rattle.mur_model.specs.Relocation.{MayBeRefused, cause_text, refused_for}
 use Rattle.point_links.specs.Commands.{ClientCommand, WaitsOn, refused_turn, told_turn}
 use Rattle.route_links.specs.Answered.{IsNumbered}
@@ -57,22 +60,8 @@ use Rattle.cluster_core.proofs.Places.Stays.{IsFrontend}
 use Rattle.cluster_core.proofs.Connections.AsksFirst.{Reaches}
 use Rattle.cluster_core.proofs.Connections.FrameLaw.{ways_for}
 use Rattle.cluster_core.proofs.Answers.Replied.{InputsCome, IsHeard, IsHeardFor, ended_stands, heard_for, read_stands}
-use Rattle.cluster_core.proofs.Answers.Tells.{IsTold, behind_told, refusal_told}
+use Rattle.cluster_core.proofs.Answers.Tells.{IsTold, behind_told, refusal_told, refused_ends, refused_lasts, unreached_as_told, unreached_told}
 use Rattle.cluster_core.proofs.Answers.WaitsOn.{AsksBackend, waits_on_stands}
-
--- a refusal ends no connection
-refused_ends : (session : Sess) (it : Command) (why : NoText) → ends (refused_for session it why).reply ≡ false
-unfolding refused_for ends is_bye
-refused_ends (Selected view) (Select text) why = refl
-refused_ends (Selected view) (Examine text) why = refl
-refused_ends session it why = refl
-
-refused_lasts : (session : Sess) (it : Command) (why : NoText) → has_ended session ≡ false
-    → has_ended (session_after session (refused_for session it why).session) ≡ false
-unfolding refused_for
-refused_lasts (Selected view) (Select text) why lasts = refl
-refused_lasts (Selected view) (Examine text) why lasts = refl
-refused_lasts session it why lasts = lasts
 
 -- the connection and what it let out, as the world has it
 abbrev pub StandsSo : Fixed → List ℕ → Replica → ℕ → List Input → Option (List ℕ) → World → Tale → Turned → Type 0
@@ -195,7 +184,21 @@ module _ (fixed : Fixed) (front : List ℕ) (ups : Ups) (replica : Replica) (con
       → story.talk.answers conn ≡ story.told conn → c.was ≡ story.course.sessions conn
       → StandsSo fixed front replica conn inputs held world story
       (sends_if false fixed.setting (ways_for fixed ups replica) conn (now next.session) (heard.waiting).tag next.waiting sent)
-  unreached_stands come requests next on sent cut said was = ?
+  unreached_stands come requests next on sent cut said was =
+      let reply : Reply = (refused_for c.was c.it NotReached).reply in
+      let session : Sess = session_after c.was (refused_for c.was c.it NotReached).session in
+      let asks_so : next.waiting.asking ≡ asked_for c.name c.work = on.asks.asking_is ∙ c.asking_is in
+      let is : relocated next.session next.waiting.asking.awaited (unreached sent.to) ≡ record { session = session; reply = reply } =
+      ap (λ (a : Asking). relocated next.session a.awaited (unreached sent.to)) asks_so
+      ∙ ap (λ s. relocated s (asked_for c.name c.work).awaited (unreached sent.to)) on.session_is
+      ∙ unreached_as_told c.setting c.was c.it sent.to c.name c.work c.need in
+      subst (λ (r : Refused). StandsSo fixed front replica conn inputs held world story
+      (refused_behind fixed.setting (ways_for fixed ups replica) conn (now next.session) (heard.waiting).tag r sent.to)) (sym is)
+      (read_stands fixed front ups replica conn inputs held connection world story (heard.waiting).tag c.it its_heard (Unreached sent.to) reply session
+      (subst (λ (s : Sess). IsTold fixed.setting world story conn (Unreached sent.to)
+      (record { tag = (heard.waiting).tag; reply = (refused_for s c.it NotReached).reply }) (session_after s (refused_for s c.it NotReached).session)) (sym was)
+      (unreached_told fixed.setting world story conn (heard.waiting).tag c.it sent.to c.name c.work heard.is_told said (asked_so requests) (need_so was) cut))
+      (refused_lasts c.was c.it NotReached was_lasts) (refused_ends c.was c.it NotReached) come)
 
   sends_stands : InputsCome fixed front ups replica conn inputs held world story → story.talk.requests conn ≡ requests_in inputs
       → MaySend fixed front ups conn world story → (next : WentOn) → (on : WaitsOn fixed.master c next) → AsksBackend (home_at world) next.waiting.at

@@ -1,21 +1,33 @@
 -- A client is told the reply of its command: the store's, which it gave in an earlier step, or a refusal.
-use Rattle.std.proofs.Common.{◌≡◌, ℕ, [], ◌∷◌, ◌++◌, length, refl, ap, arith, length-append}
+use Rattle.std.proofs.Common.{◌≡◌, ◌≢◌, ℕ, ◌+◌, false, List, [], ◌∷◌, ◌++◌, length, Some, refl, sym, ap, subst, arith, length-append}
 use Rattle.imap_types.specs.declared.command.Command.{Command}
+use Rattle.imap_types.specs.declared.command.Command.TheVariants.{Select, Examine}
 use Rattle.imap_types.specs.declared.command.Tag.{Tag}
-use Rattle.imap_types.specs.declared.reply.NoText.TheVariants.{BeingMoved}
+use Rattle.imap_types.specs.declared.reply.NoText.{NoText}
+use Rattle.imap_types.specs.declared.reply.NoText.TheVariants.{BeingMoved, NotReached}
+use Rattle.imap_talk.specs.SessionEnds.{has_ended}
+use Rattle.imap_talk.specs.Transcript.{ends, is_bye}
 use Rattle.imap_types.specs.declared.request.Answer.{Answer}
+use Rattle.imap_types.specs.declared.request.Request.TheVariants.{Command as a_command}
 use Rattle.link_msg.specs.declared.how.How.{How}
-use Rattle.link_msg.specs.declared.how.How.TheVariants.{Behind, Reserved}
-use Rattle.mark_history.specs.Marked.{CanRefuse, IsUntold, Tale, mark_now, refusing, telling}
+use Rattle.link_msg.specs.declared.how.How.TheVariants.{Behind, Reserved, Unreached}
+use Rattle.mark_history.specs.Marked.{CanRefuse, CanRefuseNow, IsUnreplied, IsUntold, Tale, mark_now, refusing, telling}
 use Rattle.mark_history.specs.declared.mark.MarkKind.TheVariants.{Told}
 use Rattle.mark_history.proofs.TakenBack.{list_at, list_elsewhere}
+use Rattle.mur_base.specs.declared.point.What.TheVariants.{Unreached as unreached}
 use Rattle.mur_model.specs.declared.session.Sess.{Sess}
+use Rattle.mur_model.specs.declared.session.Sess.TheVariants.{Selected}
 use Rattle.mur_model.specs.declared.setting.Setting.{Setting}
-use Rattle.mur_model.specs.Act.{session_after}
-use Rattle.mur_model.specs.Relocation.{refused_for}
+use Rattle.mur_model.specs.Act.{need_of, session_after}
+use Rattle.mur_model.specs.Asking.{asked_for}
+use Rattle.mur_model.specs.History.{numbered}
+use Rattle.mur_model.specs.Needed.{Mailbox, Work}
+use Rattle.mur_model.specs.Relocation.{MayBeRefused, cause_text, refused_for}
 use Rattle.mur_model.proofs.HistoryGrows.{same_lists}
+use Rattle.session_core.specs.Relocated.{relocated}
+use Rattle.session_core.proofs.RefusedLaw.{refused_as_told}
 use Rattle.cluster_core.specs.declared.world.World.{World}
-use Rattle.cluster_core.proofs.Commands.AllReached.{AreMarkedSo, refuses, tells}
+use Rattle.cluster_core.proofs.Commands.AllReached.{AreMarkedSo, refuses, refuses_at_once, tells}
 use Rattle.cluster_core.proofs.Connections.ConnectionLaw.{GoesOnAt, session_at, session_of_other}
 use Rattle.cluster_core.proofs.Connections.Tales.{list_more}
 
@@ -54,26 +66,43 @@ behind_told setting world story conn answer marked untold = record {
   is_told = tells world.steps world.marks story conn answer untold marked;
 }
 
-abbrev pub refusal_answer : Tale → ℕ → Tag → Command → Answer
-refusal_answer story conn tag it = record { tag = tag; reply = (refused_for (story.course.sessions conn) it BeingMoved).reply }
+-- ---- a refusal
 
-abbrev pub refusal_session : Tale → ℕ → Command → Sess
-refusal_session story conn it = session_after (story.course.sessions conn) (refused_for (story.course.sessions conn) it BeingMoved).session
+abbrev pub refusal_answer : Tale → ℕ → Tag → Command → NoText → Answer
+refusal_answer story conn tag it why = record { tag = tag; reply = (refused_for (story.course.sessions conn) it why).reply }
 
--- it is a refusal, since its mailbox is being moved
-pub refusal_told : (setting : Setting) (world : World) (story : Tale) (conn : ℕ) (tag : Tag) (it : Command) → AreMarkedSo setting world.broken world.steps world.marks story
-    → CanRefuse setting world.marks story conn tag it
-    → IsTold setting world story conn Reserved (refusal_answer story conn tag it) (refusal_session story conn it)
-refusal_told setting world story conn tag it marked can =
-    let answer : Answer = refusal_answer story conn tag it in
+abbrev pub refusal_session : Tale → ℕ → Command → NoText → Sess
+refusal_session story conn it why = session_after (story.course.sessions conn) (refused_for (story.course.sessions conn) it why).session
+
+-- it ends no connection
+pub refused_ends : (session : Sess) (it : Command) (why : NoText) → ends (refused_for session it why).reply ≡ false
+unfolding refused_for ends is_bye
+refused_ends (Selected view) (Select text) why = refl
+refused_ends (Selected view) (Examine text) why = refl
+refused_ends session it why = refl
+
+pub refused_lasts : (session : Sess) (it : Command) (why : NoText) → has_ended session ≡ false
+    → has_ended (session_after session (refused_for session it why).session) ≡ false
+unfolding refused_for
+refused_lasts (Selected view) (Select text) why lasts = refl
+refused_lasts (Selected view) (Examine text) why lasts = refl
+refused_lasts session it why lasts = lasts
+
+-- the tale behind it
+refused_told : (setting : Setting) (world : World) (story : Tale) (conn : ℕ) (tag : Tag) (it : Command) (why : NoText) (how : How) → IsUnreplied story conn
+    → AreMarkedSo setting world.broken world.steps (world.marks ++ mark_now world.steps story conn (Told how) ∷ [])
+    (telling (refusing story conn tag it why 0) conn (refusal_answer story conn tag it why))
+    → IsTold setting world story conn how (refusal_answer story conn tag it why) (refusal_session story conn it why)
+refused_told setting world story conn tag it why how unreplied marked =
+    let answer : Answer = refusal_answer story conn tag it why in
     record {
-      later = telling (refusing story conn tag it BeingMoved 0) conn answer;
+      later = telling (refusing story conn tag it why 0) conn answer;
       goes_on = record {
         requests = refl;
         said = λ other ne. list_elsewhere story.talk.answers conn (story.told conn ++ answer ∷ []) other ne;
         grows = omega (
           arith,
-          ap length can.unreplied,
+          ap length unreplied,
           ap length (list_at story.talk.answers conn (story.told conn ++ answer ∷ [])),
           length-append (story.told conn) (answer ∷ []),
         );
@@ -90,5 +119,40 @@ refusal_told setting world story conn tag it marked can =
       told = list_at story.told conn (story.told conn ++ answer ∷ []);
       said = list_at story.talk.answers conn (story.told conn ++ answer ∷ []);
       session_is = session_at story.course.sessions conn _;
-      is_told = refuses world.steps world.marks story conn tag it 0 can marked;
+      is_told = marked;
     }
+
+-- since its mailbox is being moved
+pub refusal_told : (setting : Setting) (world : World) (story : Tale) (conn : ℕ) (tag : Tag) (it : Command)
+    → AreMarkedSo setting world.broken world.steps world.marks story → CanRefuse setting world.marks story conn tag it
+    → IsTold setting world story conn Reserved (refusal_answer story conn tag it BeingMoved) (refusal_session story conn it BeingMoved)
+refusal_told setting world story conn tag it marked can =
+    refused_told setting world story conn tag it BeingMoved Reserved can.unreplied (refuses world.steps world.marks story conn tag it 0 can marked)
+
+-- since a server isn't reached that has its mailbox, and the link to it has broken
+can_refuse_now : (setting : Setting) (story : Tale) (now conn : ℕ) (tag : Tag) (it : Command) (node name : List ℕ) (work : Work) → IsUnreplied story conn
+    → numbered (story.talk.requests conn) (length (story.told conn) + 1) ≡ Some (a_command tag it)
+    → need_of setting (story.course.sessions conn) it ≡ Mailbox name work → CanRefuseNow setting story now conn tag it node
+unfolding cause_text MayBeRefused
+can_refuse_now setting story now conn tag it node name work unreplied asked need = record {
+  unreplied = unreplied;
+  refused = record { asked = asked; cause = refl; may = subst (MayBeRefused story.talk.moving now (unreached node)) (sym need) tt };
+}
+
+pub unreached_told : (setting : Setting) (world : World) (story : Tale) (conn : ℕ) (tag : Tag) (it : Command) (node name : List ℕ) (work : Work)
+    → AreMarkedSo setting world.broken world.steps world.marks story → IsUnreplied story conn
+    → numbered (story.talk.requests conn) (length (story.told conn) + 1) ≡ Some (a_command tag it)
+    → need_of setting (story.course.sessions conn) it ≡ Mailbox name work → world.broken ≢ []
+    → IsTold setting world story conn (Unreached node) (refusal_answer story conn tag it NotReached) (refusal_session story conn it NotReached)
+unreached_told setting world story conn tag it node name work marked unreplied asked need cut =
+    refused_told setting world story conn tag it NotReached (Unreached node) unreplied
+    (refuses_at_once world.steps world.marks story conn tag it node 0
+    (can_refuse_now setting story world.steps conn tag it node name work unreplied asked need) cut marked)
+
+-- what its session makes of that
+pub unreached_as_told : (setting : Setting) (session : Sess) (it : Command) (node name : List ℕ) (work : Work)
+    → need_of setting session it ≡ Mailbox name work
+    → relocated session (asked_for name work).awaited (unreached node)
+    ≡ record { session = session_after session (refused_for session it NotReached).session; reply = (refused_for session it NotReached).reply }
+unfolding cause_text
+unreached_as_told setting session it node name work need = refused_as_told setting session it name work (unreached node) NotReached need refl

@@ -56,6 +56,12 @@ pub record Reaches (master : List ℕ) (nodes : Nodes) (broken : Broken) (ups : 
   pub up : is_up ups master ≡ true
   pub cut : (server : List ℕ) → is_up ups server ≡ false → IsSome (nodes server) → broken ≢ []
 
+-- what is asked stays what it was
+pub way_asking : (nodes : Nodes) (master : List ℕ) (id : AskId) (session : Sess) (it : Waiting) (begun : Begun) → FirstWay nodes master id session it begun
+    → begun.waiting.asking ≡ it.asking
+way_asking nodes master id session it begun (by_server server there) = refl
+way_asking nodes master id session it begun (by_master cause) = refl
+
 -- where the link to whom it is sent isn't up, one has broken
 way_cut : (nodes : Nodes) (master : List ℕ) (id : AskId) (session : Sess) (it : Waiting) (begun : Begun) (broken : Broken) (ups : Ups)
     → Reaches master nodes broken ups → FirstWay nodes master id session it begun → is_up ups begun.sent.to ≡ false → broken ≢ []

@@ -1,5 +1,5 @@
 -- After every step the clients are in the order of their connections.
-use Rattle.std.proofs.Common.{ℕ, List, [], ◌∷◌, ◌++◌, Option, None, Some}
+use Rattle.std.proofs.Common.{ℕ, List, [], ◌∷◌, ◌++◌, Option, None, Some, sym, subst}
 use Rattle.std.specs.Ordering.{nat_cmp}
 use Rattle.std.specs.List.Sorted.{IsStrictlySortedBy}
 use Rattle.std.proofs.lemmas.Cmp.{nat_cmp_total}
@@ -18,13 +18,14 @@ use Rattle.mur_config.specs.declared.node.Link.{Link}
 use Rattle.mur_config.specs.declared.node.Node.{Node}
 use Rattle.mur_config.specs.Nodes.{links_of}
 use Rattle.schedule_text.specs.declared.event.Event.{Event}
-use Rattle.schedule_text.specs.declared.event.Event.TheVariants.{Open, Data, Hang, Deliver}
+use Rattle.schedule_text.specs.declared.event.Event.TheVariants.{Open, Data, Hang, Deliver, Cut, Join}
 use Rattle.cluster_core.specs.declared.world.Client.{Client}
 use Rattle.cluster_core.specs.declared.world.World.{World}
 use Rattle.cluster_core.specs.Flow.{run_steps}
 use Rattle.link_queue.specs.Links.{on_link}
-use Rattle.cluster_core.specs.World.{not_lost, no_world, start, with_node, with_nodes, client_at, node_at, given_more, carry, carry_all, with_acted}
+use Rattle.cluster_core.specs.World.{may_cut, may_join, not_lost, no_world, start, with_node, with_nodes, client_at, node_at, given_more, carry, carry_all, with_acted}
 use Rattle.cluster_core.specs.World.{comes_to, with_client, opens, client_does, taken_from_link, deliver_first, takes, stepped, steps_by, told_up, with_ups}
+use Rattle.cluster_core.proofs.Nodes.Relinks.{cut_relinks, join_relinks}
 
 abbrev pub IsOrdered : World → Type 0
 IsOrdered world = IsInOrder nat_cmp world.clients
@@ -77,6 +78,9 @@ takes-ordered world (Open node conn) is = opens-ordered world node conn (client_
 takes-ordered world (Data conn bytes) is = client_does-ordered world (Piece conn bytes) (client_at world conn) is
 takes-ordered world (Hang conn) is = client_does-ordered world (Hung conn) (client_at world conn) is
 takes-ordered world (Deliver from to) is = deliver_first-ordered world from to (on_link world.links from to) is
+takes-ordered world (Cut one other kept kept_back) is =
+    subst (IsInOrder nat_cmp) (sym (cut_relinks (may_cut world one other) world one other kept kept_back).clients) is
+takes-ordered world (Join one other) is = subst (IsInOrder nat_cmp) (sym (join_relinks (may_join world one other) world one other).clients) is
 takes-ordered world event is = is
 
 run_steps-ordered : (world : World) (events : List Event) → IsOrdered world → IsOrdered (run_steps world events)

@@ -1,6 +1,6 @@
 -- The inputs of one connection keep the law: each request gets its answer, or begins to wait for a backend or the master; a literal gets its continuation, a
 -- fault its line.
-use Rattle.std.proofs.Common.{◌≡◌, ℕ, ◌+◌, ◌<◌, ◌^◌, List, [], ◌∷◌, ◌++◌, length, Option, None, Some, refl, sym, ◌∙◌, ap, subst, append_assoc, length-append, Bool, true, false, arith}
+use Rattle.std.proofs.Common.{◌≡◌, ◌≢◌, ℕ, ◌+◌, ◌<◌, ◌^◌, List, [], ◌∷◌, ◌++◌, length, Option, None, Some, refl, sym, ◌∙◌, ap, subst, append_assoc, length-append, Bool, true, false, arith}
 use Rattle.std.specs.Ordering.{nat_cmp}
 use Rattle.std.proofs.lemmas.List.{append-nil}
 use Rattle.asking_core.specs.Begins.{Begun, ask_of, first_sent}
@@ -13,7 +13,7 @@ use Rattle.front_core.proofs.OneConnection.Readings.{FaultsLast}
 use Rattle.front_core.specs.declared.connection.Connection.{Connection}
 use Rattle.front_core.specs.declared.connection.Stage.{Stage}
 use Rattle.front_core.specs.declared.connection.Stage.TheVariants.{Reading, Waits, Lists, Ended}
-use Rattle.front_core.specs.Taken.{Turned, Ways, answers_now, answers_last, asks, begins_if, comes_at, input_comes, input_in, inputs_come, lists_if, lists_with, request_in, to_begin, told_now, ways_by}
+use Rattle.front_core.specs.Taken.{Turned, Ways, answers_now, answers_last, asks, begins_if, comes_at, input_comes, input_in, inputs_come, lists_if, lists_with, refuses_now, request_in, to_begin, told_now, ways_by}
 use Rattle.front_core.specs.Ups.{Ups, is_up}
 use Rattle.front_core.proofs.FramesLaws.{HoldsBack, ended_drops, held_back}
 use Rattle.front_core.proofs.OneConnection.FrontAnswers.{IsTaken, request_taken}
@@ -41,7 +41,8 @@ use Rattle.imap_types.specs.declared.request.Answer.{Answer}
 use Rattle.imap_types.specs.declared.request.Request.{Request}
 use Rattle.imap_types.specs.declared.request.Request.TheVariants.{Command as a_command}
 use Rattle.link_msg.specs.declared.ask.FrontAsk.{FrontAsk}
-use Rattle.link_msg.specs.declared.how.How.TheVariants.{Here}
+use Rattle.link_msg.specs.declared.how.How.{How}
+use Rattle.link_msg.specs.declared.how.How.TheVariants.{Here, Unreached}
 use Rattle.link_msg.specs.declared.message.LinkMsg.{LinkMsg}
 use Rattle.link_msg.specs.declared.message.LinkMsg.TheVariants.{Ask}
 use Rattle.link_msg.specs.declared.out.Out.{Out}
@@ -49,7 +50,13 @@ use Rattle.link_msg.specs.declared.out.Out.TheVariants.{Client as to_client, Clo
 use Rattle.mark_history.specs.Marked.{Tale}
 use Rattle.mur_base.specs.declared.point.AskId.{AskId}
 use Rattle.mur_base.proofs.MapLaws.{numbers_apart, value_at-with_value}
-use Rattle.mur_model.specs.Act.{need_of}
+use Rattle.imap_types.specs.declared.reply.NoText.TheVariants.{NotReached}
+use Rattle.mark_history.specs.declared.mark.MarkKind.TheVariants.{Told}
+use Rattle.mur_base.specs.declared.point.What.TheVariants.{Unreached as unreached}
+use Rattle.mur_model.specs.declared.need.Asking.{Asking}
+use Rattle.mur_model.specs.Relocation.{refused_for}
+use Rattle.session_core.specs.Relocated.{Refused, relocated}
+use Rattle.mur_model.specs.Act.{need_of, session_after}
 use Rattle.mur_model.specs.Answer.{Answered, NeedsNoStore}
 use Rattle.mur_model.specs.Asking.{asked_for}
 use Rattle.mur_model.specs.History.{numbered}
@@ -70,9 +77,12 @@ use Rattle.cluster_core.proofs.Commands.Knows.KnowsNames.{not_yet}
 use Rattle.cluster_core.proofs.Commands.Place.{Place, Place as place}
 use Rattle.cluster_core.proofs.Commands.Standing.{Fixed, IsCommandOf, Stands, WaitsAt, next_id}
 use Rattle.cluster_core.proofs.Commands.Standing.Stands.{reads, waits, lists as waits_listing, faulted, finished}
-use Rattle.cluster_core.proofs.Connections.AsksFirst.{FirstWay, Reaches, first_cut, first_way}
+use Rattle.cluster_core.proofs.Connections.AsksFirst.{FirstWay, Reaches, first_cut, first_way, way_asking}
 use Rattle.cluster_core.proofs.Connections.AsksFirst.FirstWay.{by_server, by_master}
-use Rattle.cluster_core.proofs.Connections.ConnectionLaw.{IsDroppedAt, IsInPlaceOf, IsMarkedAt, ReadsOn, StandsOn, client_with, keeps_on, session_at}
+use Rattle.cluster_core.proofs.Connections.ConnectionLaw.{IsDroppedAt, IsInPlaceOf, IsMarkedAt, ReadsOn, StandsOn, client_with, keeps_on, session_at, stories_follow}
+use Rattle.cluster_core.proofs.Answers.Given.{told_keeps, told_world}
+use Rattle.cluster_core.proofs.Answers.Tells.{IsTold, refused_ends, refused_lasts, unreached_as_told, unreached_told}
+use Rattle.cluster_core.proofs.Commands.AllReached.{AreMarkedSo}
 use Rattle.cluster_core.proofs.Connections.Nowhere.{nowhere_too}
 use Rattle.cluster_core.proofs.Connections.Said.{IsAnsweredSo, answer_carried, carry_all-append, counted_one, end_carried, given_keeps, given_world, last_carried, line_carried, said_made, said_one, said_tale, told_one}
 use Rattle.cluster_core.proofs.Connections.Sends.{MayAsk, SendsSo, asks_so, bars_so, may_ask_later}
@@ -128,6 +138,50 @@ module _ (fixed : Fixed) (front : List ℕ) (replica : Replica) (conn : ℕ) whe
               (append_assoc greeting (replies_to inputs (story.told conn)) text ∙ ap (λ t. greeting ++ t) (sym grown.text_is)
               ∙ ap (λ a. greeting ++ replies_to next a) (sym one));
           nothing = nowhere_too fixed.master (home_at world) world.links front replica (next_id conn (story.told conn)) (length (now.told conn) + 1)
+              was.reading.nothing;
+        };
+      })
+
+  -- a request whose client is told of it at once
+  told_here : (inputs next : List Input) (connection : Connection) (before : World) (told : Tale) (world : World) (how : How) (tag : Tag) (reply : Reply)
+      (session : Sess) (was : ReadsOn fixed front replica conn inputs connection before told world)
+      → IsTold fixed.setting world was.story conn how (record { tag = tag; reply = reply }) session → has_ended session ≡ false
+      → Grows inputs next (was.story.told conn) (was.story.told conn ++ (record { tag = tag; reply = reply }) ∷ []) (reply_text tag reply)
+      → ReadsOn fixed front replica conn next (told_now how conn connection session tag reply).connection before told
+      (carry_all front world (told_now how conn connection session tag reply).outs)
+  unfolding told_now
+  told_here inputs next connection before told world how tag reply session was it lasts grown =
+      let story = was.story in
+      let answer : Answer = record { tag = tag; reply = reply } in
+      let client : Client = client_with front inputs (story.told conn) in
+      let text : List ℕ = reply_text tag reply in
+      let ask : AskId = record { conn = conn; command = connection.answered + 1 } in
+      let world_is = answer_carried front world conn client text ask how was.reading.client in
+      subst (λ w. ReadsOn fixed front replica conn next (told_now how conn connection session tag reply).connection before told w) (sym world_is)
+      (record {
+        story = it.later;
+        made = record {
+          others = keeps_on fixed conn before world (told_world world conn client text ask how) was.made.others
+              (told_keeps fixed world conn client text ask how refl);
+          goes_on = stories_follow conn told story it.later was.made.goes_on it.goes_on;
+          store = it.store ∙ was.made.store;
+          is_told = subst (λ n. AreMarkedSo fixed.setting world.broken world.steps
+              (world.marks ++ (record { step = world.steps; ask = record { conn = conn; command = n + 1 }; kind = Told how }) ∷ []) it.later)
+              (sym was.reading.count) it.is_told;
+        };
+        reading = record {
+          stage_is = was.reading.stage_is;
+          waiting_is = was.reading.waiting_is;
+          session_is = sym it.session_is;
+          goes_on = ap has_ended it.session_is ∙ lasts;
+          count = ap (λ n. n + 1) was.reading.count ∙ sym (ap length it.told ∙ length-append (story.told conn) (answer ∷ []));
+          answered = subst (λ a. AreAnswered next a) (sym it.told) grown.answered;
+          said = it.said ∙ sym it.told;
+          client = value_at-with_value nat_cmp numbers_apart world.clients conn (record client { given = client.given ++ text }) client was.reading.client
+              ∙ ap (λ g. Some (record { at = front; given = g }))
+              (append_assoc greeting (replies_to inputs (story.told conn)) text ∙ ap (λ t. greeting ++ t) (sym grown.text_is)
+              ∙ ap (λ a. greeting ++ replies_to next a) (sym it.told));
+          nothing = nowhere_too fixed.master (home_at world) world.links front replica (next_id conn (story.told conn)) (length (it.later.told conn) + 1)
               was.reading.nothing;
         };
       })
@@ -561,7 +615,35 @@ module _ (fixed : Fixed) (front : List ℕ) (ups : Ups) (replica : Replica) (con
       (form connection was.reading.session_is ∙ ap (λ b. begins_if b conn connection tag begun) up)
       (asked_kept fixed front replica conn inputs new held connection before told world request tag it name work was is need last sends.may
       (next_numbered inputs new (Asks request) connection before told world request was all refl sends.numbers))
-  asked_if inputs new request held connection before told world was sends last all follow tag it name work is need form false down = ?
+  asked_if inputs new request held connection before told world was sends last all follow tag it name work is need form false down =
+      let story = was.story in
+      let session : Sess = story.course.sessions conn in
+      let begun : Begun = begun_at fixed front replica conn connection name work in
+      let server : List ℕ = begun.sent.to in
+      let first : Ask_waits = to_begin name (asked_for name work) in
+      let id : AskId = next_at fixed front replica conn connection in
+      let asks_so : begun.waiting.asking ≡ asked_for name work =
+      way_asking (home_at before) fixed.master id connection.session first begun
+      (first_way (home_at before) replica.records fixed.master fixed.first id connection.session first sends.may.knows sends.may.first) in
+      let reply : Reply = (refused_for session it NotReached).reply in
+      let then : Sess = session_after session (refused_for session it NotReached).session in
+      let refusal_is : relocated connection.session begun.waiting.asking.awaited (unreached server) ≡ record { session = then; reply = reply } =
+      ap (λ (a : Asking). relocated connection.session a.awaited (unreached server)) asks_so
+      ∙ ap (λ s. relocated s (asked_for name work).awaited (unreached server)) was.reading.session_is
+      ∙ unreached_as_told fixed.setting session it server name work need in
+      let cut : before.broken ≢ [] =
+      first_cut (home_at before) replica.records fixed.master fixed.first id connection.session first before.broken ups sends.reaches sends.may.knows
+      sends.may.first down in
+      let number = next_of inputs new (Asks request) connection before told world request was all refl in
+      read_on inputs new (Asks request) held connection before told world (told_now (Unreached server) conn connection then tag reply)
+      (reads_input fixed.setting (ways_for fixed ups replica) conn connection (Asks request) was.reading.stage_is ∙ form connection was.reading.session_is
+      ∙ ap (λ b. begins_if b conn connection tag begun) down ∙ ap (λ (r : Refused). refuses_now conn connection tag r server) refusal_is)
+      all follow
+      (told_here fixed front replica conn inputs (inputs ++ Asks request ∷ []) connection before told world (Unreached server) tag reply then was
+      (unreached_told fixed.setting world story conn tag it server name work was.made.is_told was.reading.said (number ∙ ap Some is) need
+      (λ none. cut (sym was.made.others.broken ∙ none)))
+      (refused_lasts session it NotReached was.reading.goes_on)
+      (request_answered inputs (story.told conn) request (record { tag = tag; reply = reply }) was.reading.answered (refused_ends session it NotReached)))
 
   request_kept : (inputs new : List Input) (request : Request) (held : Option (List ℕ)) (connection : Connection) (before : World) (told : Tale) (world : World)
       (was : ReadsOn fixed front replica conn inputs connection before told world) → MaySend before told → FaultsLast new held

@@ -1,5 +1,5 @@
 -- Bytes of a client keep the law.
-use Rattle.std.proofs.Common.{◌≡◌, ℕ, true, false, List, [], ◌∷◌, ◌++◌, Option, None, Some, inl, inr, refl, sym, ◌∙◌, ap, subst, append_assoc}
+use Rattle.std.proofs.Common.{◌≡◌, ℕ, ◌+◌, true, false, List, [], ◌∷◌, ◌++◌, length, Option, None, Some, inl, inr, refl, sym, ◌∙◌, ap, subst, append_assoc}
 use Rattle.std.proofs.Math.Logic.{⊎_elim}
 use Rattle.cluster_core.specs.Heard.{hears}
 use Rattle.cluster_core.specs.World.{master_of, setting_of, carry_all, client_at, front_at, node_at}
@@ -19,12 +19,17 @@ use Rattle.front_core.proofs.FrameLaws.{reader_kept}
 use Rattle.front_core.proofs.FramesLaws.{HoldsBack}
 use Rattle.imap_reply.specs.Greeting.{greeting}
 use Rattle.imap_talk.specs.Heard.{Heard, client}
-use Rattle.imap_talk.specs.Inputs.{inputs_from}
-use Rattle.imap_talk.specs.Transcript.{Stop, ends, replies_to}
+use Rattle.imap_talk.specs.Inputs.{inputs_from, requests_in}
+use Rattle.imap_talk.specs.Transcript.{Stop, ends, replies_till, replies_to}
 use Rattle.imap_talk.specs.Transcript.Stop.{is_lost, silent}
 use Rattle.imap_talk.specs.declared.inputs.Input.{Input}
 use Rattle.imap_talk.specs.declared.inputs.Input.TheVariants.{Asks}
-use Rattle.imap_talk.proofs.TranscriptGrows.{AreAnswered, end_told}
+use Rattle.imap_talk.proofs.TranscriptGrows.{AreAnswered, end_told, unanswered_told}
+use Rattle.imap_talk.proofs.InputLaws.{requests-append}
+use Rattle.imap_types.specs.declared.request.Request.TheVariants.{Command as a_command}
+use Rattle.mur_model.proofs.Numbered.{numbered_more}
+use Rattle.mur_model.specs.declared.session.Sess.{Sess}
+use Rattle.cluster_core.proofs.Commands.Standing.IsLeft.{nothing, left_waiting, left_listing}
 use Rattle.imap_types.specs.declared.request.Answer.{Answer}
 use Rattle.imap_types.specs.declared.request.Request.{Request}
 use Rattle.imap_wire.specs.Frames.{begun}
@@ -41,9 +46,9 @@ use Rattle.schedule_text.specs.declared.event.Event.TheVariants.{Data}
 use Rattle.cluster_core.specs.declared.world.World.{World}
 use Rattle.std.proofs.lemmas.Option.{same_Some}
 use Rattle.cluster_core.proofs.Commands.AllReached.{asks as asks_more}
-use Rattle.cluster_core.proofs.Commands.Place.{Place as place}
+use Rattle.cluster_core.proofs.Commands.Place.{Place, Place as place}
 use Rattle.cluster_core.proofs.Commands.Released.{begun_released, released_count, stands_released}
-use Rattle.cluster_core.proofs.Commands.Standing.{Fixed, HasBegunSo, Stands, next_id}
+use Rattle.cluster_core.proofs.Commands.Standing.{Fixed, HasBegunSo, IsLeft, Stands, next_id}
 use Rattle.cluster_core.proofs.Commands.Standing.Stands.{reads, waits, lists, faulted, finished}
 use Rattle.cluster_core.proofs.Connections.BytesCome.{Behind, after_data, asked_more, asked_tale, closed_heard, elsewhere_heard, heard_more, held_noops, listing_behind, new, nothing_heard, other_heard, reading_behind, reading_noops, still_heard, turned, waiting_behind, ways_same}
 use Rattle.cluster_core.proofs.Connections.ConnectionLaw.{IsInPlaceOf, IsReading, IsStanding, says_same, says_then}
@@ -120,6 +125,27 @@ standing_released fixed front replica conn inputs held connection world story is
   dropped = is.dropped;
   stands = stands_released fixed front conn inputs held connection (story.told conn) (story.talk.answers conn) (story.course.sessions conn) is.here is.stands;
 }
+
+-- what a connection leaves that has ended, once its client asked for more
+left_more : (fixed : Fixed) (front : List ℕ) (conn : ℕ) (requests more : List Request) (told said : List Answer) (session : Sess) (here : Place)
+    → IsLeft fixed front conn requests told said session here → IsLeft fixed front conn (requests ++ more) told said session here
+left_more fixed front conn requests more told said session here (nothing rest parts few none) = nothing rest parts few none
+left_more fixed front conn requests more told said session here (left_waiting waiting) = left_waiting (record {
+  tag = waiting.tag;
+  c = waiting.c;
+  of = waiting.of;
+  next = numbered_more requests more (length told + 1) (a_command waiting.tag (waiting.c).it) waiting.next;
+  knows = waiting.knows;
+})
+left_more fixed front conn requests more told said session here (left_listing listing) = left_listing (record {
+  tag = listing.tag;
+  it = listing.it;
+  listing = listing.listing;
+  was = listing.was;
+  need = listing.need;
+  next = numbered_more requests more (length told + 1) (a_command listing.tag listing.it) listing.next;
+  knows = listing.knows;
+})
 
 module _ (config : Config) (heard : ℕ → Heard) (world : World) (law : KeepsLaw config heard world) (conn : ℕ) (bytes more node : List ℕ) (front : Front)
     (connection : Connection) (e : heard conn ≡ client bytes false) (at : IsAt world conn node front connection)
@@ -258,13 +284,40 @@ module _ (config : Config) (heard : ℕ → Heard) (world : World) (law : KeepsL
       (is_open (bytes ++ more) node front connection at (inl stage) standing))
 
   -- one whose command was lost: what it is given stops at that
-  new_inputs : List Input
+  abbrev new_inputs : List Input
   new_inputs = inputs_of_more (setting_of config) (reading_of (setting_of config) bytes) more
 
   cut_more : stop ≡ is_lost → IsGone fixed node front.replica conn (inputs_in (setting_of config) bytes) is_lost connection world law.story
       → IsUnanswered (inputs_in (setting_of config) bytes) (law.story.told conn)
       → KeepsOn config law.story law.stops after (with_front world node (bytes_in front conn more))
-  cut_more lost_is gone next = ?
+  cut_more lost_is gone next =
+      let inputs : List Input = inputs_in (setting_of config) bytes in
+      let longer : inputs_in (setting_of config) (bytes ++ more) ≡ inputs ++ new_inputs =
+      inputs_with_more (setting_of config) bytes more (reading_of (setting_of config) bytes) refl in
+      let parts_now : inputs_in (setting_of config) (bytes ++ more) ≡ next.passed ++ Asks next.request ∷ (next.more ++ new_inputs) =
+      longer ∙ ap (λ f. f ++ new_inputs) next.parts ∙ append_assoc next.passed (Asks next.request ∷ next.more) new_inputs in
+      ended_more gone.stage_is
+      (subst (λ s. ConnectionIs fixed conn world told s (client (bytes ++ more) false)) (sym lost_is)
+      (is_cut_off (bytes ++ more) node front connection at
+      (record {
+        stage_is = gone.stage_is;
+        count = gone.count;
+        lasts = gone.lasts;
+        client = gone.client ∙ ap (λ t. Some (record { at = node; given = greeting ++ t }))
+            (ap (λ f. replies_till is_lost f (law.story.told conn)) next.parts
+            ∙ unanswered_told is_lost next.passed (law.story.told conn) next.request next.more next.answered
+            ∙ sym (unanswered_told is_lost next.passed (law.story.told conn) next.request (next.more ++ new_inputs) next.answered)
+            ∙ ap (λ f. replies_till is_lost f (law.story.told conn)) (sym parts_now));
+        here = gone.here;
+        placed = gone.placed;
+        marked = gone.marked;
+        left = subst (λ r. IsLeft fixed node conn r (law.story.told conn) (law.story.talk.answers conn) (law.story.course.sessions conn) gone.here)
+            (sym (ap requests_in longer ∙ requests-append inputs new_inputs))
+            (left_more fixed node conn (requests_in inputs) (requests_in new_inputs) (law.story.told conn) (law.story.talk.answers conn)
+            (law.story.course.sessions conn) gone.here gone.left);
+        cut = gone.cut;
+      })
+      (record { passed = next.passed; request = next.request; more = next.more ++ new_inputs; parts = parts_now; answered = next.answered })))
 
   -- no frame ends in what is sent behind a fault
   faulted_on : IsStanding fixed node front.replica conn (inputs_in (setting_of config) bytes) (begun bytes) connection world law.story → begun bytes ≡ None
