@@ -6,4 +6,5 @@ pub mod Known
 pub mod LinksUp
 pub mod Relinks
 pub mod Stay
+pub mod Then
 pub mod Thins

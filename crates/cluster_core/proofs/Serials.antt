@@ -4,6 +4,7 @@ pub mod Lines
 pub mod Senders
 pub mod Reserved
 pub mod InFlow
+pub mod MasterLinks
 pub mod AtHome
 pub mod Asked
 pub mod AtMaster

@@ -20,7 +20,8 @@ use Rattle.node_step.specs.declared.node.NodeState.TheVariants as state
 use Rattle.cluster_core.specs.declared.world.World.{World}
 use Rattle.cluster_core.proofs.Guests.Given.{gets, gets_none, given_made}
 use Rattle.cluster_core.proofs.Guests.GuestLaw.{GuestIs, GuestsLaw, IsPlacedSo, placed_same}
-use Rattle.cluster_core.proofs.Nodes.Comes.{MasterMoved, master_comes, master_does, master_moved, with_master, wrote}
+use Rattle.cluster_core.proofs.Nodes.AllCome.{all_come, master_all_come}
+use Rattle.cluster_core.proofs.Nodes.Comes.{MasterMoved, master_does, master_moved, with_master, wrote}
 
 -- what comes to the master
 abbrev pub happening_by : NodeInput → Happening
@@ -36,10 +37,11 @@ does_so master (Piece conn bytes) = refl
 does_so master (Hung conn) = refl
 does_so master (From name message) = refl
 
-pub comes_so : (world : World) (node : List ℕ) (input : NodeInput) (master : Master) → world.broken ≡ [] → master_at world node ≡ Some master
-    → comes world node input ≡ with_master (wrote world node (state.Master master) input) node (step_of master (happening_by input))
-comes_so world node input master whole at =
-    master_comes world node input master whole at ∙ ap (with_master (wrote world node (state.Master master) input) node) (does_so master input)
+-- where nothing is lost
+pub comes_so : (world : World) (node : List ℕ) (input : NodeInput) (master : Master) → master_at world node ≡ Some master
+    → all_come world node input ≡ with_master (wrote world node (state.Master master) input) node (step_of master (happening_by input))
+comes_so world node input master at =
+    master_all_come world node input master at ∙ ap (with_master (wrote world node (state.Master master) input) node) (does_so master input)
 
 module _ (config : Config) (world : World) (master : Master) (there : master_at world (master_of config) ≡ Some master) (order : HasWatchers master)
     (told : CanBeTold master.table) (happening : Happening) where

@@ -28,7 +28,9 @@ use Rattle.cluster_core.proofs.Runs.OneNodeLaw.{carry_all_sends}
 use Rattle.cluster_core.proofs.Runs.OwnClientsLaw.{Anyone, HaveOwnClients, IsClientOf, anyone_speaks, comes_same}
 use Rattle.cluster_core.proofs.Guests.Given.{gets, gets_none, given_made, none_given}
 use Rattle.cluster_core.proofs.Guests.GuestLaw.{GuestIs, IsPlacedSo}
-use Rattle.cluster_core.proofs.Nodes.Comes.{a_master, front_comes, front_does, front_moved, home_comes, home_does, none_comes, wrote}
+use Rattle.cluster_core.proofs.Nodes.AllCome.{front_all_come, home_all_come}
+use Rattle.cluster_core.proofs.Nodes.Comes.{a_master, front_does, front_moved, home_does, none_comes, wrote}
+use Rattle.cluster_core.proofs.Nodes.Then.{client_then, looks_then}
 use Rattle.cluster_core.proofs.OneServer.SaysOf.{IsSilent}
 
 -- a backend gives nothing to a client
@@ -71,7 +73,7 @@ where_by world node input None conn = refl
 where_by world node input (Some it) conn =
     (carry_all_sends node (with_acted world node (node_takes it input)) (not_lost world.broken node (node_takes it input).outs)).clients conn
 
-module _ (config : Config) (world : World) (node : List ℕ) (input : NodeInput) (apart : node ≢ master_of config) (whole : world.broken ≡ [])
+module _ (config : Config) (world : World) (node : List ℕ) (input : NodeInput) (apart : node ≢ master_of config)
     (only : (any : List ℕ) (other : Master) → master_at world any ≡ Some other → any ≡ master_of config) (own : HaveOwnClients world)
     (from : ComesFrom (IsClientOf world node) Anyone input) where
   abbrev next : World
@@ -105,14 +107,14 @@ module _ (config : Config) (world : World) (node : List ℕ) (input : NodeInput)
   silent_here conn (Some (state.Front front)) found at none silent =
       let there : front_at world node ≡ Some front = ap as_front found ∙ a_front front in
       let is : front_at next node ≡ Some (front_does front input).front =
-      ap (λ (w : World). front_at w node) (front_comes world node input front whole there)
+      looks_then world node input as_front node ∙ ap (λ (w : World). front_at w node) (front_all_come world node input front there)
       ∙ (front_moved world node front (front_does front input) there).own in
       absurd (let no : None ≡ Some (front_does front input).front = sym none ∙ is in cc)
   silent_here conn (Some (state.Back home)) found at none silent =
       let there : home_at world node ≡ Some home = ap as_back found ∙ a_back home in
       let nothing : given_out conn (home_does home input).outs ≡ [] = back_gives home (IsClientOf world node) input conn (own node (state.Back home) found) in
       let same : client_at next conn ≡ client_at world conn =
-      ap (λ (w : World). client_at w conn) (home_comes world node input home whole there)
+      client_then world node input conn ∙ ap (λ (w : World). client_at w conn) (home_all_come world node input home there)
       ∙ given_made (wrote world node (state.Back home) input) node (state.Back (home_does home input).state) (home_does home input).outs conn
       ∙ ap (λ g. option_map (gets g) (client_at world conn)) nothing ∙ gets_none (client_at world conn) in
       ap given_by same ∙ silent node at (ap as_front found ∙ no_front home)

@@ -5,7 +5,7 @@ use Rattle.std.specs.Cmp.Lexicographic.{slice_cmp}
 use Rattle.std.proofs.Math.Logic.{⊎_elim}
 use Rattle.cluster_core.specs.Headline.OneNode.{node_of, node_of as node_there}
 use Rattle.cluster_core.specs.Headline.Outside.{is_master, at_master, by_client, by_delivery, by_opening, guest_after, happening_of, seen_by}
-use Rattle.cluster_core.specs.World.{master_of, client_at, client_does, comes, deliver_first, master_at, opens, stepped, steps_by, taken_from_link, takes, with_client}
+use Rattle.cluster_core.specs.World.{master_of, client_at, client_does, comes, cuts_if, deliver_first, joins_if, master_at, may_cut, may_join, opens, stepped, steps_by, taken_from_link, takes, with_client}
 use Rattle.cluster_core.specs.declared.world.Client.{Client}
 use Rattle.feed_links.specs.Spelled.{CanBeTold}
 use Rattle.guest_links.specs.Guests.{Guest, arrived}
@@ -25,18 +25,20 @@ use Rattle.node_step.specs.declared.node.NodeState.TheVariants as state
 use Rattle.node_step.specs.NodeStep.{as_front, as_master}
 use Rattle.node_step.proofs.OwnOuts.{ComesFrom}
 use Rattle.schedule_text.specs.declared.event.Event.{Event}
-use Rattle.schedule_text.specs.declared.event.Event.TheVariants.{Open, Data, Hang, Deliver}
+use Rattle.schedule_text.specs.declared.event.Event.TheVariants.{Open, Data, Hang, Deliver, Cut, Join}
 use Rattle.cluster_core.specs.declared.world.World.{World}
 use Rattle.cluster_core.specs.Shown.{given_by, given_to}
 use Rattle.cluster_core.proofs.Runs.OwnClientsLaw.{Anyone, HaveOwnClients, IsClientOf, anyone_speaks, joins_here, joins_own, joins_same}
 use Rattle.cluster_core.proofs.Guests.AtMaster.{comes_so, guest_joins, guest_next, happening_by, law_next}
 use Rattle.cluster_core.proofs.Guests.AtOthers.{other_guest, other_master}
 use Rattle.cluster_core.proofs.Guests.GuestLaw.{GuestIs, GuestsLaw, IsElsewhere, IsPlacedSo, placed_same}
+use Rattle.cluster_core.proofs.Nodes.AllCome.{all_come}
 use Rattle.cluster_core.proofs.Nodes.Comes.{with_master, wrote}
+use Rattle.cluster_core.proofs.Nodes.Relinks.{cut_relinks, join_relinks}
+use Rattle.cluster_core.proofs.Nodes.Thins.{comes_thinned}
 
 -- what each world has
 pub record Fits (config : Config) (world : World) : Type 0 where
-  pub whole : world.broken ≡ []
   pub only : (node : List ℕ) (other : Master) → master_at world node ≡ Some other → node ≡ master_of config
   pub own : HaveOwnClients world
 
@@ -101,18 +103,20 @@ module _ (config : Config) (knows : KnowsMaster config) (world : World) (master 
       → ((conn : ℕ) → GuestIs config acts_so (step_of master happens).master conn (next_seen master conn (guests conn) happens))
       → GuestsLaw config (seen_at master guests (Some happens)) (comes world node input)
   master_comes here each =
-      subst (GuestsLaw config (seen_at master guests (Some happens)))
-      (sym (ap (λ n. comes world n input) here ∙ comes_so world (master_of config) input master fits.whole there))
-      (law_next config put master there order told happens (seen_at master guests (Some happens)) each)
+      subst (λ n. GuestsLaw config (seen_at master guests (Some happens)) (comes world n input)) (sym here)
+      (law_alike config (seen_at master guests (Some happens)) (all_come world (master_of config) input) (comes world (master_of config) input)
+      (comes_thinned world (master_of config) input).clients (comes_thinned world (master_of config) input).nodes
+      (subst (GuestsLaw config (seen_at master guests (Some happens))) (sym (comes_so world (master_of config) input master there))
+      (law_next config put master there order told happens (seen_at master guests (Some happens)) each)))
 
   -- it is another node
   other_comes : node ≢ master_of config → ((conn : ℕ) → GuestIs config world master conn (guests conn)) → GuestsLaw config guests (comes world node input)
   other_comes apart each = record {
     master = master;
-    there = other_master config world node input apart fits.whole fits.only fits.own from ∙ there;
+    there = other_master config world node input apart fits.only fits.own from ∙ there;
     order = order;
     told = told;
-    each = λ conn. other_guest config world node input apart fits.whole fits.only fits.own from master conn (guests conn) (each conn);
+    each = λ conn. other_guest config world node input apart fits.only fits.own from master conn (guests conn) (each conn);
   }
 
   comes_by : (here : Bool) → is_master config node ≡ here
@@ -154,7 +158,7 @@ module _ (config : Config) (knows : KnowsMaster config) (world : World) (fits : 
   joined = with_client world node conn
 
   joined_fits : Fits config joined
-  joined_fits = record { whole = fits.whole; only = fits.only; own = joins_own world node conn none fits.own }
+  joined_fits = record { only = fits.only; own = joins_own world node conn none fits.own }
 
   is_new : guests conn ≡ None
   is_new = nobody_seen config world conn (guests conn) none (law.each conn).placed
@@ -239,7 +243,7 @@ module _ (config : Config) (knows : KnowsMaster config) (world : World) (fits : 
   deliver_guests from to (message ∷ rest) =
       let taken : World = taken_from_link world from to in
       acts_guests config knows taken law.master law.there law.order law.told to (From from message)
-      (record { whole = fits.whole; only = fits.only; own = fits.own }) (anyone_speaks from message) guests (λ conn. refl)
+      (record { only = fits.only; own = fits.own }) (anyone_speaks from message) guests (λ conn. refl)
       (λ conn. guest_alike config world taken law.master conn (guests conn) refl refl (law.each conn))
 
   takes_guests : (event : Event) → GuestsLaw config (seen_at law.master guests (happening_of config world event)) (takes world event)
@@ -248,6 +252,12 @@ module _ (config : Config) (knows : KnowsMaster config) (world : World) (fits : 
   takes_guests (Data conn bytes) = client_guests (Piece conn bytes) (client_at world conn) (λ client is. ap node_there is) (λ other. refl)
   takes_guests (Hang conn) = client_guests (Hung conn) (client_at world conn) (λ client is. ap node_there is) (λ other. refl)
   takes_guests (Deliver from to) = deliver_guests from to (on_link world.links from to)
+  takes_guests (Cut one other kept kept_back) =
+      let is = cut_relinks (may_cut world one other) world one other kept kept_back in
+      law_alike config guests world (cuts_if (may_cut world one other) world one other kept kept_back) is.clients is.nodes law
+  takes_guests (Join one other) =
+      let is = join_relinks (may_join world one other) world one other in
+      law_alike config guests world (joins_if (may_join world one other) world one other) is.clients is.nodes law
   takes_guests event = law
 
 -- the count of steps is nothing that a client sees
@@ -268,4 +278,4 @@ step_guests config knows world fits guests law event =
     (steps_by world event)
     (λ conn. ap (λ m. seen_by conn (guests conn) m (happening_of config world event)) law.there
     ∙ ap (λ h. seen_by conn (guests conn) (Some law.master) h) (sym (happens_alike config world event)))
-    (takes_guests config knows (stepped world) (record { whole = fits.whole; only = fits.only; own = fits.own }) guests begun event)
+    (takes_guests config knows (stepped world) (record { only = fits.only; own = fits.own }) guests begun event)

@@ -7,6 +7,7 @@ use Rattle.cluster_core.specs.Heard.{heard, heard_from}
 use Rattle.cluster_core.specs.World.{master_of, client_at, start, steps_by}
 use Rattle.guest_links.specs.Guests.{Guest}
 use Rattle.guest_links.specs.Reading.{HasTheTable}
+use Rattle.imap_talk.specs.Transcript.{Stop}
 use Rattle.imap_talk.specs.Heard.{Heard, nobody}
 use Rattle.mur_config.specs.declared.config.Config.{Config}
 use Rattle.mur_config.specs.Nodes.{AreNodes}
@@ -18,7 +19,7 @@ use Rattle.cluster_core.specs.Shown.{given_by, given_to}
 use Rattle.cluster_core.proofs.Runs.OneNodeLaw.{one_more_step}
 use Rattle.cluster_core.proofs.Runs.OwnClientsLaw.{run_own, start_own}
 use Rattle.cluster_core.proofs.Connections.KeepsLaw.{ConnectionIs, KeepsLaw, fixed_of}
-use Rattle.cluster_core.proofs.Connections.KeepsLaw.ConnectionIs.{is_nobody, is_elsewhere, is_open, is_closed}
+use Rattle.cluster_core.proofs.Connections.KeepsLaw.ConnectionIs.{is_nobody, is_elsewhere, is_open, is_cut_off, is_closed}
 use Rattle.cluster_core.proofs.Guests.GuestLaw.{GuestIs, GuestsLaw, IsPlacedSo}
 use Rattle.cluster_core.proofs.Guests.GuestSteps.{Fits, KnowsMaster, law_same, step_guests}
 use Rattle.cluster_core.proofs.Guests.StartGuests.{start_nobody}
@@ -47,7 +48,6 @@ knows_master config are = record {
 
 fits_behind : (config : Config) (steps : List Event) → LawBehind config steps → Fits config (run_steps (start config) steps)
 fits_behind config steps law = record {
-  whole = law.whole;
   only = law.nodes.only;
   own = run_own (start config) steps (start_own config);
 }
@@ -56,19 +56,20 @@ fits_behind config steps law = record {
 abbrev GuestsBehind : Config → List Event → Type 0
 GuestsBehind config steps = GuestsLaw config (λ conn. guest_of config conn steps) (run_steps (start config) steps)
 
-no_client : (config : Config) (all : ℕ → Heard) (world : World) (law : KeepsLaw config all world) (conn : ℕ) (came : Heard) → came ≡ nobody
-    → ConnectionIs (fixed_of config) conn world law.story came → client_at world conn ≡ None
-no_client config all world law conn came e (is_nobody none fronts untold) = none
-no_client config all world law conn came e (is_elsewhere node given at none untold) = cc
-no_client config all world law conn came e (is_open bytes node front connection at reader standing) = cc
-no_client config all world law conn came e (is_closed bytes node front connection at gone) = cc
+no_client : (config : Config) (all : ℕ → Heard) (world : World) (law : KeepsLaw config all world) (conn : ℕ) (stop : Stop) (came : Heard)
+    → came ≡ nobody → ConnectionIs (fixed_of config) conn world law.story stop came → client_at world conn ≡ None
+no_client config all world law conn stop came e (is_nobody none fronts untold) = none
+no_client config all world law conn stop came e (is_elsewhere node given at none untold) = cc
+no_client config all world law conn stop came e (is_open bytes node front connection at reader standing) = cc
+no_client config all world law conn stop came e (is_cut_off bytes node front connection at gone unanswered) = cc
+no_client config all world law conn stop came e (is_closed _ bytes node front connection at gone) = cc
 
 guests_first : (config : Config) → LawBehind config [] → GuestsBehind config []
 unfolding run_steps guest_from heard_from given_to
 guests_first config law =
     let yet = start_nobody config (master_of config) law.master law.nodes.is_there in
     let none : (conn : ℕ) → client_at (start config) conn ≡ None =
-    λ conn. no_client config (λ c. heard config c []) (start config) law conn nobody refl (law.connections conn) in
+    λ conn. no_client config (λ c. heard config c []) (start config) law conn (law.stops conn) nobody refl (law.connections conn) in
     record {
       master = law.master;
       there = law.nodes.is_there;
@@ -146,8 +147,7 @@ serves_guests config events are each = record {
       (guests_at config (steps_of_run config events) are each before later parts) conn (guest_of config conn before) refl;
   tables = λ before event later parts is node.
       ap (λ (w : World). table_at w node) (one_more_step (start config) before event)
-      ∙ step_tables (run_steps (start config) before) event
-      ((kept_all config (steps_of_run config events) each).at before (event ∷ later) parts).law.whole is node;
+      ∙ step_tables (run_steps (start config) before) event is node;
 }
 
 -- a client that isn't connected to the master

@@ -17,6 +17,7 @@ use Rattle.many_links.proofs.FrontTable.{front_table}
 use Rattle.master_core.specs.declared.master.Master.{Master}
 use Rattle.master_core.specs.Linked.{node_says}
 use Rattle.mupdate_codec.proofs.StringsPrinted.{only_name}
+use Rattle.mur_base.specs.Map.{value_at}
 use Rattle.mur_base.proofs.MapLaws.{names_apart, same_or_other}
 use Rattle.mur_config.specs.declared.config.Config.{Config}
 use Rattle.mur_config.specs.Nodes.{AreNodes}
@@ -29,20 +30,23 @@ use Rattle.node_step.specs.declared.node.NodeState.TheVariants as state
 use Rattle.node_step.specs.NodeStep.{as_back, as_front, as_master}
 use Rattle.node_step.proofs.NodeKinds.{a_back, a_front}
 use Rattle.schedule_text.specs.declared.event.Event.{Event}
-use Rattle.schedule_text.specs.declared.event.Event.TheVariants.{Open, Data, Hang, Deliver}
+use Rattle.schedule_text.specs.declared.event.Event.TheVariants.{Open, Data, Hang, Deliver, Cut, Join}
 use Rattle.cluster_core.specs.declared.world.Client.{Client}
 use Rattle.cluster_core.specs.declared.world.World.{World}
 use Rattle.cluster_core.specs.Flow.{run_steps, steps_of_run}
 use Rattle.cluster_core.specs.Headline.Outside.{table_at, table_by}
 use Rattle.cluster_core.specs.Headline.Records.{IsAtBackend, RecordsStand, RecordsStandAtBackends, StandsAtBackend}
 use Rattle.cluster_core.specs.Heard.{heard}
-use Rattle.cluster_core.specs.World.{master_of, client_at, client_does, comes, deliver_first, front_at, home_at, master_at, node_at, opens, start, stepped}
+use Rattle.cluster_core.specs.World.{master_of, client_at, client_does, comes, deliver_first, front_at, home_at, master_at, may_cut, may_join, node_at, opens, start, stepped}
 use Rattle.cluster_core.specs.World.{steps_by, taken_from_link, takes, with_client}
 use Rattle.cluster_core.proofs.Connections.KeepsLaw.{KeepsLaw}
 use Rattle.cluster_core.proofs.Feeds.AtMaster.{master_takes_placed, outside_same}
 use Rattle.cluster_core.proofs.Feeds.Backends.{ArePlaced}
-use Rattle.cluster_core.proofs.Nodes.Comes.{IsOfClient, a_master, front_comes, front_does, front_moved, home_comes, home_does, home_moved}
-use Rattle.cluster_core.proofs.Nodes.Comes.{master_comes, master_does, master_moved, none_comes, with_front, with_home, with_master, wrote}
+use Rattle.cluster_core.proofs.Nodes.AllCome.{all_come, front_all_come, home_all_come, master_all_come, none_all_come}
+use Rattle.cluster_core.proofs.Nodes.Comes.{IsOfClient, a_master, front_does, front_moved, home_does, home_moved}
+use Rattle.cluster_core.proofs.Nodes.Comes.{master_does, master_moved, with_front, with_home, with_master, wrote}
+use Rattle.cluster_core.proofs.Nodes.Relinks.{cut_relinks, join_relinks}
+use Rattle.cluster_core.proofs.Nodes.Thins.{comes_thinned}
 use Rattle.cluster_core.proofs.OneServer.EachStep.{EachKeeps, LawBehind, kept_all, kept_behind}
 use Rattle.cluster_core.proofs.Runs.OneNodeLaw.{one_more_step}
 use Rattle.cluster_core.proofs.Starts.StartLaw.{home_place, start_table}
@@ -53,12 +57,19 @@ pub record PlacesHold (config : Config) (world : World) : Type 0 where
   pub homes : (name : List ℕ) (home : BackNode) → home_at world name ≡ Some home → IsAtBackend config home.flows.me
   pub table : ArePlaced (IsAtBackend config) (table_at world (master_of config))
 
+-- so it is whatever else changes than the nodes
+places_alike : (config : Config) (world next : World) → next.nodes ≡ world.nodes → PlacesHold config world → PlacesHold config next
+places_alike config world next nodes holds = record {
+  homes = λ name home at. holds.homes name home (ap (λ n. as_back (value_at (slice_cmp nat_cmp) n name)) (sym nodes) ∙ at);
+  table = subst (ArePlaced (IsAtBackend config)) (ap (λ n. table_by (as_master (value_at (slice_cmp nat_cmp) n (master_of config)))) (sym nodes)) holds.table;
+}
+
 -- ---- what comes to a node
 
 abbrev AtHome : Config → MailboxTable → Type 0
 AtHome config table = ArePlaced (IsAtBackend config) table
 
-module _ (config : Config) (world : World) (whole : world.broken ≡ []) (holds : PlacesHold config world) (node : List ℕ) (input : NodeInput)
+module _ (config : Config) (world : World) (holds : PlacesHold config world) (node : List ℕ) (input : NodeInput)
     (me_stays : (home : BackNode) → home_at world node ≡ Some home → (home_does home input).state.flows.me ≡ home.flows.me)
     (placed : (master : Master) → master_at world node ≡ Some master → AtHome config (master_does master input).master.table) where
   abbrev Holds : World → Type 0
@@ -103,21 +114,22 @@ module _ (config : Config) (world : World) (whole : world.broken ≡ []) (holds 
             (same_or_other (slice_cmp nat_cmp) names_apart (master_of config) node);
       }
 
-  by_node : (found : Option NodeState) → node_at world node ≡ found → Holds (comes world node input)
-  by_node None found = subst Holds (sym (none_comes world node input found)) holds
+  -- where nothing is lost
+  by_node : (found : Option NodeState) → node_at world node ≡ found → Holds (all_come world node input)
+  by_node None found = subst Holds (sym (none_all_come world node input found)) holds
   by_node (Some (state.Front front)) found =
       let there : front_at world node ≡ Some front = ap as_front found ∙ a_front front in
       let moved = front_moved world node front (front_does front input) there in
-      subst Holds (sym (front_comes world node input front whole there)) (still (with_front world node (front_does front input)) moved.homes moved.masters)
+      subst Holds (sym (front_all_come world node input front there)) (still (with_front world node (front_does front input)) moved.homes moved.masters)
   by_node (Some (state.Back home)) found =
       let there : home_at world node ≡ Some home = ap as_back found ∙ a_back home in
-      subst Holds (sym (home_comes world node input home whole there)) (home_step home there)
+      subst Holds (sym (home_all_come world node input home there)) (home_step home there)
   by_node (Some (state.Master master)) found =
       let there : master_at world node ≡ Some master = ap as_master found ∙ a_master master in
-      subst Holds (sym (master_comes world node input master whole there)) (master_step master there)
+      subst Holds (sym (master_all_come world node input master there)) (master_step master there)
 
   comes_hold : Holds (comes world node input)
-  comes_hold = by_node (node_at world node) refl
+  comes_hold = places_alike config (all_come world node input) (comes world node input) (comes_thinned world node input).nodes (by_node (node_at world node) refl)
 
 -- ---- an event
 
@@ -139,7 +151,7 @@ module _ (config : Config) (came : ℕ → Heard) (world : World) (law : KeepsLa
   client_does_so : (clients : List (ℕ × Client)) (node : List ℕ) (input : NodeInput) → IsOfClient input
       → PlacesHold config (comes (record world { clients = clients; steps = world.steps + 1 }) node input)
   client_does_so clients node input is =
-      comes_hold config (record world { clients = clients; steps = world.steps + 1 }) law.whole (record { homes = holds.homes; table = holds.table }) node input
+      comes_hold config (record world { clients = clients; steps = world.steps + 1 }) (record { homes = holds.homes; table = holds.table }) node input
       (λ home there. client_leaves home input is)
       (λ master there. subst (λ (m : Master). AtHome config (master_does m input).master.table) (the_master node master there)
       (subst (AtHome config) (sym (outside_same law.master input is).1) its_table))
@@ -169,7 +181,7 @@ module _ (config : Config) (came : ℕ → Heard) (world : World) (law : KeepsLa
 
     delivered : PlacesHold config (comes (taken_from_link (stepped world) from to) to (From from message))
     delivered =
-        comes_hold config (taken_from_link (stepped world) from to) law.whole (record { homes = holds.homes; table = holds.table }) to (From from message)
+        comes_hold config (taken_from_link (stepped world) from to) (record { homes = holds.homes; table = holds.table }) to (From from message)
         me_stays
         (λ master there. subst (λ (m : Master). AtHome config (node_says m from message).master.table) (the_master to master there)
         (by_sender (law.nodes.only to master there) (home_at world from) refl))
@@ -196,6 +208,11 @@ module _ (config : Config) (came : ℕ → Heard) (world : World) (law : KeepsLa
   step_holds (Data conn bytes) = client_holds (Piece conn bytes) (client_at world conn) tt
   step_holds (Hang conn) = client_holds (Hung conn) (client_at world conn) tt
   step_holds (Deliver from to) = deliver_holds from to (on_link world.links from to) refl
+  step_holds (Cut one other kept kept_back) =
+      places_alike config world (steps_by world (Cut one other kept kept_back))
+      (cut_relinks (may_cut (stepped world) one other) (stepped world) one other kept kept_back).nodes holds
+  step_holds (Join one other) =
+      places_alike config world (steps_by world (Join one other)) (join_relinks (may_join (stepped world) one other) (stepped world) one other).nodes holds
   step_holds event = record { homes = holds.homes; table = holds.table }
 
 -- ---- a run

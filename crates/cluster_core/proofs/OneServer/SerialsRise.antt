@@ -6,7 +6,7 @@ use Rattle.std.proofs.Math.Logic.{⊎_elim}
 use Rattle.std.proofs.lemmas.List.Elements.{All-weaker}
 use Rattle.std.specs.Prelude.{All}
 use Rattle.cluster_core.specs.Headline.Outside.{is_master, table_by, at_master, by_delivery, happening_of, table_at}
-use Rattle.cluster_core.specs.World.{master_of, comes, deliver_first, front_at, home_at, master_at, node_at, start, stepped, steps_by, taken_from_link, takes}
+use Rattle.cluster_core.specs.World.{master_of, comes, deliver_first, front_at, home_at, master_at, may_cut, may_join, node_at, start, stepped, steps_by, taken_from_link, takes}
 use Rattle.guest_links.specs.Happenings.{Happening, change_of, connects, leaves, says, sends, step_of}
 use Rattle.guest_links.proofs.ServedLaw.{changes_are_of_the_table}
 use Rattle.link_msg.specs.declared.message.LinkMsg.{LinkMsg}
@@ -26,6 +26,7 @@ use Rattle.mupdate_codec.specs.declared.command.MCommand.{MCommand}
 use Rattle.mupdate_codec.specs.declared.command.MCommand.TheVariants as command
 use Rattle.mupdate_codec.specs.declared.tag.Tag.{Tag}
 use Rattle.mupdate_codec.specs.Whole.{command_in}
+use Rattle.mur_base.specs.Map.{value_at}
 use Rattle.mur_base.proofs.MapLaws.{names_apart, same_or_other}
 use Rattle.mur_base.specs.declared.home.Location.{Location}
 use Rattle.mur_config.specs.declared.config.Config.{Config}
@@ -48,9 +49,10 @@ use Rattle.cluster_core.specs.Headline.Serials.{is_reserve, last_serial, reserve
 use Rattle.cluster_core.proofs.Starts.Ups.{one_if}
 use Rattle.cluster_core.proofs.Guests.AtMaster.{comes_so, happening_by}
 use Rattle.cluster_core.proofs.Guests.TablesStay.{step_tables}
-use Rattle.cluster_core.proofs.Keeps.Always.{HoldsAlways}
-use Rattle.cluster_core.proofs.Keeps.AlwaysRuns.{start_holds, step_holds}
-use Rattle.cluster_core.proofs.Nodes.Comes.{a_master, front_comes, front_does, front_moved, home_comes, home_does, home_moved, master_moved, none_comes, wrote}
+use Rattle.cluster_core.proofs.Nodes.AllCome.{all_come, front_all_come, home_all_come, none_all_come}
+use Rattle.cluster_core.proofs.Nodes.Comes.{a_master, front_does, front_moved, home_does, home_moved, master_moved, wrote}
+use Rattle.cluster_core.proofs.Nodes.Relinks.{OnlyRelinks, cut_relinks, join_relinks}
+use Rattle.cluster_core.proofs.Nodes.Then.{looks_then}
 use Rattle.cluster_core.proofs.OneServer.EachStep.{LawBehind}
 use Rattle.cluster_core.proofs.Starts.Kinds.{master_named}
 use Rattle.cluster_core.proofs.Starts.StartLaw.{start_table}
@@ -151,74 +153,88 @@ module _ (config : Config) (here : is_master config (master_of config) ≡ true)
       → Rises world next happening
   same_rises world next happening same = omega (arith, ap (λ (t : MailboxTable). t.serial) same)
 
-  at_it : (world : World) (node : List ℕ) (input : NodeInput) (master : Master) → world.broken ≡ [] → master_at world node ≡ Some master
-      → node ≡ master_of config → Rises world (comes world node input) (at_master config node (happening_by input))
-  at_it world node input master whole there e =
+  -- where nothing is lost
+  at_it : (world : World) (node : List ℕ) (input : NodeInput) (master : Master) → master_at world node ≡ Some master
+      → node ≡ master_of config → Rises world (all_come world node input) (at_master config node (happening_by input))
+  at_it world node input master there e =
       let acted = step_of master (happening_by input) in
       let at : table_at world (master_of config) ≡ master.table = ap table_by (ap (master_at world) (sym e) ∙ there) in
-      let now : table_at (comes world node input) (master_of config) ≡ acted.master.table =
-      ap (λ n. table_at (comes world node input) n) (sym e) ∙ ap (λ (w : World). table_at w node) (comes_so world node input master whole there)
+      let now : table_at (all_come world node input) (master_of config) ≡ acted.master.table =
+      ap (λ n. table_at (all_come world node input) n) (sym e) ∙ ap (λ (w : World). table_at w node) (comes_so world node input master there)
       ∙ ap table_by (master_moved (wrote world node (state.Master master) input) node master acted there).own in
       let happens : at_master config node (happening_by input) ≡ Some (happening_by input) =
       ap (λ b. cond b (Some (happening_by input)) None) (ap (is_master config) e ∙ here) in
-      subst (λ h. Rises world (comes world node input) h) (sym happens)
+      subst (λ h. Rises world (all_come world node input) h) (sym happens)
       (omega (arith, step_rises master (happening_by input), ap (λ (t : MailboxTable). t.serial) at, ap (λ (t : MailboxTable). t.serial) now))
 
-  comes_by : (world : World) (node : List ℕ) (input : NodeInput) (found : Option NodeState) → node_at world node ≡ found → world.broken ≡ []
-      → Rises world (comes world node input) (at_master config node (happening_by input))
-  comes_by world node input None found whole =
-      same_rises world (comes world node input) _ (ap (λ (w : World). table_at w (master_of config)) (none_comes world node input found))
-  comes_by world node input (Some (state.Front front)) found whole =
+  all_by : (world : World) (node : List ℕ) (input : NodeInput) (found : Option NodeState) → node_at world node ≡ found
+      → Rises world (all_come world node input) (at_master config node (happening_by input))
+  all_by world node input None found =
+      same_rises world (all_come world node input) _ (ap (λ (w : World). table_at w (master_of config)) (none_all_come world node input found))
+  all_by world node input (Some (state.Front front)) found =
       let there : front_at world node ≡ Some front = ap as_front found ∙ a_front front in
-      same_rises world (comes world node input) _ (ap (λ (w : World). table_at w (master_of config)) (front_comes world node input front whole there)
+      same_rises world (all_come world node input) _ (ap (λ (w : World). table_at w (master_of config)) (front_all_come world node input front there)
       ∙ ap table_by ((front_moved world node front (front_does front input) there).masters (master_of config)))
-  comes_by world node input (Some (state.Back home)) found whole =
+  all_by world node input (Some (state.Back home)) found =
       let there : home_at world node ≡ Some home = ap as_back found ∙ a_back home in
-      same_rises world (comes world node input) _ (ap (λ (w : World). table_at w (master_of config)) (home_comes world node input home whole there)
+      same_rises world (all_come world node input) _ (ap (λ (w : World). table_at w (master_of config)) (home_all_come world node input home there)
       ∙ ap table_by ((home_moved (wrote world node (state.Back home) input) node home (home_does home input) there).masters (master_of config)))
-  comes_by world node input (Some (state.Master master)) found whole =
+  all_by world node input (Some (state.Master master)) found =
       let there : master_at world node ≡ Some master = ap as_master found ∙ a_master master in
       ⊎_elim
-      (λ (e : node ≡ master_of config). at_it world node input master whole there e)
+      (λ (e : node ≡ master_of config). at_it world node input master there e)
       (λ (ne : node ≢ master_of config).
-      same_rises world (comes world node input) _ (ap (λ (w : World). table_at w (master_of config)) (comes_so world node input master whole there)
+      same_rises world (all_come world node input) _ (ap (λ (w : World). table_at w (master_of config)) (comes_so world node input master there)
       ∙ ap table_by ((master_moved (wrote world node (state.Master master) input) node master (step_of master (happening_by input)) there).masters
       (master_of config) (λ e. ne (sym e)))))
       (same_or_other (slice_cmp nat_cmp) names_apart node (master_of config))
 
-  deliver_rises : (world : World) (from to : List ℕ) (queue : List LinkMsg) → world.broken ≡ []
+  comes_rises : (world : World) (node : List ℕ) (input : NodeInput) → Rises world (comes world node input) (at_master config node (happening_by input))
+  comes_rises world node input =
+      omega (
+        arith,
+        all_by world node input (node_at world node) refl,
+        ap (λ (t : MailboxTable). t.serial) (looks_then world node input (λ n. table_by (as_master n)) (master_of config)),
+      )
+
+  deliver_rises : (world : World) (from to : List ℕ) (queue : List LinkMsg)
       → Rises world (deliver_first world from to queue) (by_delivery config from to queue)
   unfolding deliver_first
-  deliver_rises world from to [] whole = omega arith
-  deliver_rises world from to (message ∷ rest) whole =
-      comes_by (taken_from_link world from to) to (From from message) (node_at world to) refl whole
+  deliver_rises world from to [] = omega arith
+  deliver_rises world from to (message ∷ rest) = comes_rises (taken_from_link world from to) to (From from message)
 
-  event_rises : (world : World) (event : Event) → world.broken ≡ [] → Rises world (steps_by world event) (happening_of config world event)
+  -- a link that breaks or comes up is nothing to the table
+  relink_rises : (world next : World) → OnlyRelinks world next → Rises world next None
+  relink_rises world next is = same_rises world next None (ap (λ n. table_by (as_master (value_at (slice_cmp nat_cmp) n (master_of config)))) is.nodes)
+
+  event_rises : (world : World) (event : Event) → Rises world (steps_by world event) (happening_of config world event)
   unfolding takes happening_of
-  event_rises world (Open node conn) whole =
+  event_rises world (Open node conn) =
       same_rises world (steps_by world (Open node conn)) (happening_of config world (Open node conn))
-      (step_tables world (Open node conn) whole refl (master_of config))
-  event_rises world (Data conn bytes) whole =
+      (step_tables world (Open node conn) refl (master_of config))
+  event_rises world (Data conn bytes) =
       same_rises world (steps_by world (Data conn bytes)) (happening_of config world (Data conn bytes))
-      (step_tables world (Data conn bytes) whole refl (master_of config))
-  event_rises world (Hang conn) whole =
+      (step_tables world (Data conn bytes) refl (master_of config))
+  event_rises world (Hang conn) =
       same_rises world (steps_by world (Hang conn)) (happening_of config world (Hang conn))
-      (step_tables world (Hang conn) whole refl (master_of config))
-  event_rises world (Deliver from to) whole = deliver_rises (stepped world) from to (on_link world.links from to) whole
-  event_rises world (Cut one other kept left) whole = omega arith
-  event_rises world (Join one other) whole = omega arith
-  event_rises world (Crash node image kept) whole = omega arith
-  event_rises world (Arm node call image kept) whole = omega arith
-  event_rises world (Start node) whole = omega arith
-  event_rises world (Flow n) whole = omega arith
-  event_rises world Heal whole = omega arith
+      (step_tables world (Hang conn) refl (master_of config))
+  event_rises world (Deliver from to) = deliver_rises (stepped world) from to (on_link world.links from to)
+  event_rises world (Cut one other kept left) =
+      relink_rises (stepped world) (steps_by world (Cut one other kept left))
+      (cut_relinks (may_cut (stepped world) one other) (stepped world) one other kept left)
+  event_rises world (Join one other) =
+      relink_rises (stepped world) (steps_by world (Join one other)) (join_relinks (may_join (stepped world) one other) (stepped world) one other)
+  event_rises world (Crash node image kept) = omega arith
+  event_rises world (Arm node call image kept) = omega arith
+  event_rises world (Start node) = omega arith
+  event_rises world (Flow n) = omega arith
+  event_rises world Heal = omega arith
 
-  steps_rise : (world : World) (steps : List Event) → HoldsAlways world
+  steps_rise : (world : World) (steps : List Event)
       → last_serial config (run_steps world steps) ≤ last_serial config world + reserves_from config world steps
   unfolding run_steps reserves_from
-  steps_rise world [] holds = omega arith
-  steps_rise world (event ∷ steps) holds =
-      omega (arith, event_rises world event holds.whole, steps_rise (steps_by world event) steps (step_holds world event holds))
+  steps_rise world [] = omega arith
+  steps_rise world (event ∷ steps) = omega (arith, event_rises world event, steps_rise (steps_by world event) steps)
 
 -- behind all steps of a run
 pub serial_is_low : (config : Config) → AreNodes config.nodes → (steps : List Event)
@@ -227,7 +243,7 @@ serial_is_low config are steps =
     omega (
       arith,
       ap (λ (t : MailboxTable). t.serial) (start_table config are),
-      steps_rise config (master_named config.nodes are.names (omega (arith, are.master))) (start config) steps (start_holds config),
+      steps_rise config (master_named config.nodes are.names (omega (arith, are.master))) (start config) steps,
     )
 
 -- and so is each UIDVALIDITY that the store has given

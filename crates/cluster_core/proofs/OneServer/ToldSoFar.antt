@@ -5,7 +5,7 @@ use Rattle.std.proofs.lemmas.List.{append-nil}
 use Rattle.imap_command.specs.Ruled.{IsDate}
 use Rattle.imap_talk.specs.Heard.{Heard, bytes_heard, frames_heard}
 use Rattle.imap_talk.specs.Requests.{AreRequests}
-use Rattle.imap_talk.specs.Transcript.Stop.{silent as to_the_end}
+use Rattle.imap_talk.specs.Transcript.Stop.{is_lost, silent as silent_stop}
 use Rattle.imap_talk.proofs.ReadLaw.{heard_sound, read_of_legal}
 use Rattle.imap_talk.proofs.RequestsOf.{asks_all}
 use Rattle.imap_talk.proofs.SoundStores.{empty_is}
@@ -85,7 +85,8 @@ told_so_far config steps talk before later are date_is silent earlier fits now l
     let whole : World = run_steps (start config) (before ++ later) in
     let came : ℕ → Heard = λ conn. heard config conn before in
     let all : ℕ → Heard = λ conn. heard config conn (before ++ later) in
-    let says : (conn : ℕ) → SaysOf (law_setting config) world conn (came conn) (law.story.told conn) = λ conn. says_of config came world law conn in
+    let says : (conn : ℕ) → SaysOf (law_setting config) world conn (law.stops conn) (came conn) (law.story.told conn) =
+    λ conn. says_of config came world law (links_stand config before are) conn in
     let history = history_is config came world law in
     let legal = history.legal in
     let on : GoOn world.steps world.marks whole.marks =
@@ -102,14 +103,16 @@ told_so_far config steps talk before later are date_is silent earlier fits now l
       so_far = talk_told law.story;
       goes_on = now.more;
       asked = asked;
+      stops = law.stops;
       given = λ conn mail. (says conn).given (λ _. silent conn mail);
       read = λ conn mail. read_of_legal (law_setting config) first_course (talk_told law.story) (history_of world) legal.last legal.legal date_is empty_is
-          (λ other. heard_sound (law_setting config) (came other) (law.story.talk.requests other) (asked other)) conn to_the_end (given_to world conn)
+          (λ other. heard_sound (law_setting config) (came other) (law.story.talk.requests other) (asked other)) conn (law.stops conn) (given_to world conn)
           (bytes_heard (came conn)) ((says conn).given (λ _. silent conn mail));
       ends_only_last = λ conn. (says conn).lasts;
       last = legal.last;
       legal = legal.legal;
-      reached = reached_in world law.is_told.reached;
+      stops_late = before_cut ((conn : ℕ) → law.stops conn ≡ silent_stop) (λ whole conn. (says conn).cut whole) (uncut config before);
+      reached = before_cut (All IsReached (history_of world)) (λ whole. reached_in world (law.is_told.reached whole)) (uncut config before);
       refusals = have_causes (law_setting config) first_course (talk_told law.story) (history_of world) legal.last legal.legal;
       one_content = subst (λ (s : Store). HasBoxesOf config s world) (sym legal.same_store) (has_boxes config came world law);
       rights = subst (λ (s : Store). HasItsRights config s world) (sym legal.same_store) (has_rights config came world law);
@@ -134,10 +137,15 @@ told_so_far config steps talk before later are date_is silent earlier fits now l
           (λ front back parts. (earlier front back parts).more);
       counted = steps_made config before;
       nothing_waits = λ empty conn stays.
-          subst (λ r. IsAnsweredThrough r (law.story.told conn)) (sym (law.requests conn)) ((says conn).waits_not empty stays);
-      next_waits = λ conn stays unanswered. next_waits config came world law conn stays
+          subst (λ r. IsAnsweredThrough r (law.story.told conn) ⊎ (law.stops conn ≡ is_lost)) (sym (law.requests conn)) ((says conn).waits_not empty stays);
+      next_waits = λ conn stays quiet unanswered. next_waits config came world law conn stays quiet
           (λ through. unanswered (subst (λ r. IsAnsweredThrough r (law.story.told conn)) (sym (law.requests conn)) through));
     }
+  where
+    before_cut : (P : Type 0) → ((run_steps (start config) before).broken ≡ [] → P)
+        → HasCut config before ⊎ ((run_steps (start config) before).broken ≡ []) → HasCut config before ⊎ P
+    before_cut P so (inl cut) = inl cut
+    before_cut P so (inr whole) = inr (so whole)
 
 told_at : (config : Config) (talk : Talk) (steps before later : List Event) → steps ≡ before ++ later → AreNodes config.nodes → IsDate config.date
     → OthersAreSilent config before → KeepsEarlier config steps talk steps → NumbersFitAll config steps → IsKeptAt config steps talk before → LawBehind config steps

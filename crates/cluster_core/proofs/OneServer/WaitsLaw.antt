@@ -5,7 +5,8 @@ use Rattle.front_core.specs.Front.{is_asked}
 use Rattle.front_core.specs.declared.connection.Connection.{Connection}
 use Rattle.imap_talk.specs.Heard.{Heard, frames_heard, has_closed}
 use Rattle.imap_talk.specs.Inputs.{inputs_of, requests_in}
-use Rattle.imap_talk.specs.Transcript.{ends}
+use Rattle.imap_talk.specs.Transcript.{Stop, ends}
+use Rattle.imap_talk.specs.Transcript.Stop.{silent}
 use Rattle.imap_talk.specs.declared.inputs.Input.{Input}
 use Rattle.imap_talk.proofs.RequestsOf.{answered_lengths, requests_of}
 use Rattle.imap_types.specs.declared.request.Answer.{Answer}
@@ -20,7 +21,7 @@ use Rattle.cluster_core.proofs.Commands.Place.{Place}
 use Rattle.cluster_core.proofs.Commands.Standing.{Fixed, Stands, next_id}
 use Rattle.cluster_core.proofs.Commands.Standing.Stands.{reads, waits, lists, faulted, finished}
 use Rattle.cluster_core.proofs.Connections.KeepsLaw.{ConnectionIs, KeepsLaw, fixed_of}
-use Rattle.cluster_core.proofs.Connections.KeepsLaw.ConnectionIs.{is_nobody, is_elsewhere, is_open, is_closed}
+use Rattle.cluster_core.proofs.Connections.KeepsLaw.ConnectionIs.{is_nobody, is_elsewhere, is_open, is_cut_off, is_closed}
 use Rattle.cluster_core.proofs.OneServer.SaysOf.{last_ends}
 
 -- a connection was answered through, or its next command waits
@@ -34,14 +35,14 @@ through_or_waits fixed front conn inputs held connection told said session here 
 through_or_waits fixed front conn inputs held connection told said session here (finished passed more asking before last a b c all ended f at) =
     inl (inr (subst (λ t. list_any (λ (answer : Answer). ends answer.reply) t ≡ true) (sym all) (last_ends before last ended)))
 
-waits_by : (config : Config) (all : ℕ → Heard) (world : World) (law : KeepsLaw config all world) (conn : ℕ) (heard : Heard)
-    → ConnectionIs (fixed_of config) conn world law.story heard → has_closed heard ≡ false
+waits_by : (config : Config) (all : ℕ → Heard) (world : World) (law : KeepsLaw config all world) (conn : ℕ) (stop : Stop) (heard : Heard)
+    → ConnectionIs (fixed_of config) conn world law.story stop heard → has_closed heard ≡ false → stop ≡ silent
     → (IsAnsweredThrough (requests_of (law_setting config) (frames_heard heard)) (law.story.told conn) → ⊥)
     → IsWaitedFor world (next_id conn (law.story.told conn))
 unfolding frames_heard has_closed requests_in inputs_of
-waits_by config all world law conn heard (is_nobody none fronts untold) stays unanswered = absurd (unanswered (inl (ap length untold.told)))
-waits_by config all world law conn heard (is_elsewhere node given at none untold) stays unanswered = absurd (unanswered (inl (ap length untold.told)))
-waits_by config all world law conn heard (is_open bytes node front connection at reader standing) stays unanswered =
+waits_by config all world law conn stop heard (is_nobody none fronts untold) stays quiet unanswered = absurd (unanswered (inl (ap length untold.told)))
+waits_by config all world law conn stop heard (is_elsewhere node given at none untold) stays quiet unanswered = absurd (unanswered (inl (ap length untold.told)))
+waits_by config all world law conn stop heard (is_open bytes node front connection at reader standing) stays quiet unanswered =
     by (through_or_waits (fixed_of config) node conn _ _ connection (law.story.told conn) (law.story.talk.answers conn) (law.story.course.sessions conn)
     standing.here standing.stands)
   where
@@ -58,9 +59,11 @@ waits_by config all world law conn heard (is_open bytes node front connection at
       number = ap (λ n. n + 1) (sym standing.count);
       waits = waiting;
     }
-waits_by config all world law conn heard (is_closed bytes node front connection at gone) stays unanswered = cc
+waits_by config all world law conn stop heard (is_cut_off bytes node front connection at gone waiting) stays quiet unanswered = cc
+waits_by config all world law conn stop heard (is_closed _ bytes node front connection at gone) stays quiet unanswered = cc
 
 pub next_waits : (config : Config) (heard : ℕ → Heard) (world : World) (law : KeepsLaw config heard world) (conn : ℕ) → has_closed (heard conn) ≡ false
-    → (IsAnsweredThrough (requests_of (law_setting config) (frames_heard (heard conn))) (law.story.told conn) → ⊥)
+    → law.stops conn ≡ silent → (IsAnsweredThrough (requests_of (law_setting config) (frames_heard (heard conn))) (law.story.told conn) → ⊥)
     → IsWaitedFor world (next_id conn (law.story.told conn))
-next_waits config heard world law conn stays unanswered = waits_by config heard world law conn (heard conn) (law.connections conn) stays unanswered
+next_waits config heard world law conn stays quiet unanswered =
+    waits_by config heard world law conn (law.stops conn) (heard conn) (law.connections conn) stays quiet unanswered

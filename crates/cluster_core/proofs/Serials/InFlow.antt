@@ -9,6 +9,7 @@ use Rattle.front_core.specs.declared.connection.Connection.{Connection}
 use Rattle.front_core.specs.declared.front.Front.{Front}
 use Rattle.home_law.proofs.SameName.{is_the_same}
 use Rattle.imap_talk.specs.Heard.{Heard}
+use Rattle.imap_talk.specs.Transcript.{Stop}
 use Rattle.mark_history.specs.Marked.{Tale}
 use Rattle.mupdate_codec.specs.declared.command.MResponse.{MResponse}
 use Rattle.mupdate_codec.specs.declared.command.MResponse.TheVariants as response

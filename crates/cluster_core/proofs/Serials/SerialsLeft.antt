@@ -19,6 +19,7 @@ use Rattle.cluster_core.proofs.Connections.KeepsLaw.{KeepsLaw, KeepsOn}
 use Rattle.cluster_core.proofs.Connections.KeepsStill.{stepped_law}
 use Rattle.cluster_core.proofs.OneServer.EachStep.{EachKeeps, LawBehind, TellsMoves, at_an_event, at_the_end}
 use Rattle.cluster_core.proofs.Runs.NumbersLaw.{bytes_of_steps}
+use Rattle.cluster_core.proofs.Runs.NeverMoved.{WorldIsQuiet, never_moved}
 use Rattle.cluster_core.proofs.Runs.OneNodeLaw.{one_more_step}
 use Rattle.cluster_core.proofs.Serials.Counting.{no_longer, times, times_joined}
 use Rattle.cluster_core.proofs.Serials.InFlow.{waits_in_flow}
@@ -64,18 +65,19 @@ record HasCounted (config : Config) (world : World) (story : Tale) : Type 0 wher
   few : last_serial config world ≤ length reserved
   each : (conn : ℕ) → CountedIn config world story conn (times conn reserved)
 
-module _ (config : Config) (came : ℕ → Heard) (world : World) (law : KeepsLaw config came world) (fits : NumbersFit came) where
+module _ (config : Config) (came : ℕ → Heard) (world : World) (quiet : WorldIsQuiet (master_of config) world) (law : KeepsLaw config came world)
+    (fits : NumbersFit came) where
   step_on : (event : Event) (then : ℕ → Heard) (next : World) → next ≡ steps_by world event → (on : KeepsOn config law.story law.stops then next)
       → HasCounted config world law.story → HasCounted config next on.law.story
   step_on event then next same on counted =
       let step = stepped_law config came world law in
-      let counts : Counts config came world step.then fits (stepped world) counted.reserved = record {
+      let counts : Counts config came world quiet step.then fits (stepped world) counted.reserved = record {
         few = counted.few;
         each = λ conn. subst (λ (s : Tale). CountedIn config (stepped world) s conn (times conn counted.reserved)) (sym step.same)
             (counted_stepped (master_of config) (length (law.story.told conn)) (length (law.story.talk.answers conn)) world conn
             (times conn counted.reserved) (counted.each conn));
       } in
-      let more = step_counts config came world step.then fits counted.reserved counts event in
+      let more = step_counts config came world quiet step.then fits counted.reserved counts event in
       record {
         reserved = more.0;
         few = subst (λ (w : World). last_serial config w ≤ length more.0) (sym same) (more.1).few;
@@ -110,22 +112,22 @@ begun config are law = record {
   each = λ conn. replied (omega arith);
 }
 
-counts_from : (config : Config) (steps before rest : List Event) → EachKeeps config steps → NumbersFitAll config steps → steps ≡ before ++ rest
+counts_from : (config : Config) (steps before rest : List Event) → AreNodes config.nodes → EachKeeps config steps → NumbersFitAll config steps → steps ≡ before ++ rest
     → (law : LawBehind config before) → TellsMoves config steps before law → HasCounted config (run_steps (start config) before) law.story
     → (front back : List Event) → rest ≡ front ++ back → CountsBehind config (before ++ front)
-counts_from config steps before [] each fits e law moves counted = at_the_end (CountsBehind config) before (law, counted)
-counts_from config steps before (event ∷ rest) each fits e law moves counted =
+counts_from config steps before [] are each fits e law moves counted = at_the_end (CountsBehind config) before (law, counted)
+counts_from config steps before (event ∷ rest) are each fits e law moves counted =
     let on = each.next before event rest e law moves in
     at_an_event (CountsBehind config) before event rest (law, counted)
-    (counts_from config steps (before ++ event ∷ []) rest each fits (e ∙ sym (append_assoc before (event ∷ []) rest)) on.law (on.more.moving ∙ moves)
-    (step_on config (λ conn. heard config conn before) (run_steps (start config) before) law (fits before (event ∷ rest) e) event
+    (counts_from config steps (before ++ event ∷ []) rest are each fits (e ∙ sym (append_assoc before (event ∷ []) rest)) on.law (on.more.moving ∙ moves)
+    (step_on config (λ conn. heard config conn before) (run_steps (start config) before) (never_moved config before are) law (fits before (event ∷ rest) e) event
     (λ conn. heard config conn (before ++ event ∷ [])) (run_steps (start config) (before ++ event ∷ [])) (one_more_step (start config) before event) on
     counted))
 
 counts_behind : (config : Config) (steps : List Event) → AreNodes config.nodes → EachKeeps config steps → NumbersFitAll config steps
     → (before later : List Event) → steps ≡ before ++ later → CountsBehind config before
 counts_behind config steps are each fits before later parts =
-    counts_from config steps [] steps each fits refl each.first each.moves (begun config are each.first) before later parts
+    counts_from config steps [] steps are each fits refl each.first each.moves (begun config are each.first) before later parts
 
 -- THE SERIAL IS AT MOST HALF OF THE BYTES
 pub serials_are_few : (config : Config) (steps : List Event) → AreNodes config.nodes → EachKeeps config steps → NumbersFitAll config steps
@@ -139,7 +141,7 @@ serials_are_few config steps are each fits before later parts =
     (λ conn. omega (
       arith,
       times_joined conn reserved reserved,
-      asked_so config (λ c. heard config c before) (run_steps (start config) before) law (fits before later parts) conn (times conn reserved)
+      asked_so config (λ c. heard config c before) (run_steps (start config) before) (never_moved config before are) law (fits before later parts) conn (times conn reserved)
           ((counts.1).each conn),
       commands_few config (setting_of config) conn before,
     )) in

@@ -1,5 +1,5 @@
 -- What a step makes of the RESERVEs that the master has answered OK: each is of a command that the one store has replied to, or of one that waits.
-use Rattle.std.proofs.Common.{◌≡◌, ◌≢◌, ◌⊎◌, inl, ℕ, ◌+◌, ◌≤◌, Bool, true, false, cond, List, [], ◌∷◌, length, Option, None, Some, refl, sym, ◌∙◌, ap, subst}
+use Rattle.std.proofs.Common.{◌≡◌, ◌≢◌, ◌⊎◌, inl, inr, ℕ, ◌+◌, ◌≤◌, Bool, true, false, cond, List, [], ◌∷◌, length, Option, None, Some, refl, sym, ◌∙◌, ap, subst}
 use Rattle.std.proofs.Common.{arith}
 use Rattle.std.specs.Ordering.{nat_cmp}
 use Rattle.std.specs.Cmp.Lexicographic.{slice_cmp}
@@ -8,10 +8,12 @@ use Rattle.std.proofs.lemmas.Bool.{cases_eq}
 use Rattle.guest_links.specs.Happenings.{sends, step_of}
 use Rattle.imap_talk.specs.Heard.{Heard}
 use Rattle.link_msg.specs.declared.message.LinkMsg.{LinkMsg}
+use Rattle.link_queue.specs.Broken.{Broken, is_broken}
 use Rattle.link_queue.specs.Links.{on_link}
 use Rattle.master_core.specs.declared.master.Master.{Master}
 use Rattle.master_core.specs.Linked.{node_says}
 use Rattle.master_core.specs.Outside.{Stepped}
+use Rattle.mur_base.specs.Map.{value_at}
 use Rattle.mur_base.proofs.MapLaws.{names_apart, same_or_other}
 use Rattle.mur_config.specs.declared.config.Config.{Config}
 use Rattle.node_record.specs.Table.{MailboxTable}
@@ -19,34 +21,48 @@ use Rattle.node_step.specs.declared.input.NodeInput.{NodeInput}
 use Rattle.node_step.specs.declared.input.NodeInput.TheVariants.{Opened, Piece, Hung, From}
 use Rattle.node_step.specs.declared.node.NodeState.{NodeState}
 use Rattle.node_step.specs.declared.node.NodeState.TheVariants as state
-use Rattle.node_step.specs.NodeStep.{as_master}
+use Rattle.node_step.specs.NodeStep.{as_back, as_master, takes as node_takes}
 use Rattle.schedule_text.specs.declared.event.Event.{Event}
 use Rattle.schedule_text.specs.declared.event.Event.TheVariants.{Open, Data, Hang, Deliver, Cut, Join, Crash, Arm, Start, Flow, Heal}
 use Rattle.cluster_core.specs.declared.world.Client.{Client}
 use Rattle.cluster_core.specs.declared.world.World.{World}
-use Rattle.cluster_core.specs.Headline.OneNode.{node_of, worker}
+use Rattle.cluster_core.specs.Headline.OneNode.{node_of, relinked, relinks, worker}
 use Rattle.cluster_core.specs.Headline.Outside.{table_at, table_by}
 use Rattle.cluster_core.specs.Headline.Serials.{asks_reserve, last_serial}
 use Rattle.cluster_core.specs.Numbers.{NumbersFit}
-use Rattle.cluster_core.specs.World.{client_at, client_does, comes, deliver_first, master_of, opens, stepped, taken_from_link, takes, with_client}
+use Rattle.cluster_core.specs.World.{client_at, client_does, comes, deliver_first, master_of, may_cut, may_join, node_at, opens, stepped, taken_from_link, takes, with_client}
 use Rattle.cluster_core.proofs.Connections.KeepsLaw.{KeepsLaw}
 use Rattle.cluster_core.proofs.Connections.KeepsStill.{disks_law}
 use Rattle.cluster_core.proofs.Guests.TablesStay.{step_tables}
-use Rattle.cluster_core.proofs.Nodes.Comes.{IsOfClient, home_comes, master_comes, master_moved, with_master, wrote}
+use Rattle.cluster_core.proofs.Nodes.AllCome.{all_come, all_come_to, home_all_come, master_all_come}
+use Rattle.cluster_core.proofs.Nodes.Carried.{is_made}
+use Rattle.cluster_core.proofs.Nodes.Comes.{IsOfClient, master_moved, with_master, wrote}
+use Rattle.cluster_core.proofs.Nodes.Relinks.{cut_relinks, join_relinks}
+use Rattle.cluster_core.proofs.Nodes.Then.{looks_then}
+use Rattle.cluster_core.proofs.Nodes.Thins.{comes_thinned}
 use Rattle.cluster_core.proofs.OneServer.SerialsRise.{step_rises}
+use Rattle.cluster_core.proofs.Runs.NeverMoved.{WorldIsQuiet}
 use Rattle.cluster_core.proofs.Runs.OneNodeLaw.{takes_works}
 use Rattle.cluster_core.proofs.Serials.AtHome.{home_goes}
 use Rattle.cluster_core.proofs.Serials.AtMaster.{Gives, IsGiven, master_gives}
 use Rattle.cluster_core.proofs.Serials.AtMaster.Gives.{gives_none, gives_one}
 use Rattle.cluster_core.proofs.Serials.Counting.{times, times_else, times_first}
-use Rattle.cluster_core.proofs.Serials.Reserved.{IsReserved, beside, client_leaves, reserved_so}
+use Rattle.cluster_core.proofs.Serials.MasterLinks.{master_links_stay}
+use Rattle.cluster_core.proofs.Serials.Reserved.{HasReserved, IsReserved, beside, client_leaves, reserved_so}
 
 -- so many are of a connection's commands: the one store has replied to as many, or there is one more, which waits in this world
 pub data IsCounted (master : List ℕ) (told said : ℕ) (world : World) (conn n : ℕ) : Type 0 where
   replied : n ≤ said → IsCounted master told said world conn n
   waiting : IsReserved master world conn → n ≤ told + 1 → IsCounted master told said world conn n
 
-module _ (config : Config) (heard : ℕ → Heard) (before : World) (law : KeepsLaw config heard (stepped before)) (fits : NumbersFit heard) where
+-- what comes to a node breaks no link
+all_come_broken : (world : World) (node : List ℕ) (input : NodeInput) (found : Option NodeState) → (all_come_to world node input found).broken ≡ world.broken
+unfolding all_come_to
+all_come_broken world node input None = refl
+all_come_broken world node input (Some it) = (is_made (wrote world node it input) node (node_takes it input).state (node_takes it input).outs).broken
+
+module _ (config : Config) (heard : ℕ → Heard) (before : World) (quiet : WorldIsQuiet (master_of config) before)
+    (law : KeepsLaw config heard (stepped before)) (fits : NumbersFit heard) where
   abbrev world : World
   world = stepped before
 
@@ -71,7 +87,7 @@ module _ (config : Config) (heard : ℕ → Heard) (before : World) (law : Keeps
     -- the backend does what a client wants of it
     by_client : (input : NodeInput) (node : List ℕ) → IsOfClient input → node ≡ is.server → Goes (comes world node input) conn
     by_client input node of same =
-        inl (subst (λ n. IsReserved name (comes world n input) conn) (sym same) (client_leaves name world conn is input of law.whole))
+        inl (subst (λ n. IsReserved name (comes world n input) conn) (sym same) (client_leaves name world conn is input of))
 
     opening : (node : List ℕ) (other : ℕ) (found : Option Client) → node ≡ is.server → Goes (opens world node other found) conn
     unfolding opens
@@ -88,7 +104,7 @@ module _ (config : Config) (heard : ℕ → Heard) (before : World) (law : Keeps
           reserved = is.reserved;
         } in
         inl (subst (λ n. IsReserved name (comes (with_client world node other) n (Opened other)) conn) (sym same)
-        (client_leaves name (with_client world node other) conn there (Opened other) tt law.whole))
+        (client_leaves name (with_client world node other) conn there (Opened other) tt))
 
     does : (input : NodeInput) (found : Option Client) → IsOfClient input → node_of found ≡ Some is.server → Goes (client_does world input found) conn
     unfolding client_does
@@ -102,9 +118,15 @@ module _ (config : Config) (heard : ℕ → Heard) (before : World) (law : Keeps
         let first_there = ap (on_link world.links from) (sym same) ∙ first in
         let put : World = wrote world is.server (state.Back is.node) (From from message) in
         subst (λ n. Goes (comes (taken_from_link world from n) n (From from message)) conn) (sym same)
-        (subst (λ w. Goes w conn) (sym (home_comes (taken_from_link world from is.server) is.server (From from message) is.node law.whole is.there))
+        (goes_really from message
+        (subst (λ w. Goes w conn) (sym (home_all_come (taken_from_link world from is.server) is.server (From from message) is.node is.there))
         (home_goes config heard put (disks_law config heard world put.disks law) fits is.server is.node is.there conn is.name is.flow is.runs is.own is.reserved
-        from message rest first_there))
+        from message rest first_there)))
+      where
+        goes_really : (from : List ℕ) (message : LinkMsg) → Goes (all_come (taken_from_link world from is.server) is.server (From from message)) conn
+            → Goes (comes (taken_from_link world from is.server) is.server (From from message)) conn
+        goes_really from message (inl on) = inl (comes_reserved (taken_from_link world from is.server) is.server (From from message) conn refl on)
+        goes_really from message (inr more) = inr more
 
     at_itself : (event : Event) → worker world event ≡ Some is.server → Goes (next event) conn
     unfolding takes
@@ -112,18 +134,22 @@ module _ (config : Config) (heard : ℕ → Heard) (before : World) (law : Keeps
     at_itself (Data other bytes) at = does (Piece other bytes) (client_at world other) tt at
     at_itself (Hang other) at = does (Hung other) (client_at world other) tt at
     at_itself (Deliver from to) at = delivered from to (on_link world.links from to) refl (let same : to ≡ is.server = cc in same)
-    at_itself event at = inl is
+    at_itself event at = cc
 
     some_name : {one other : List ℕ} → Some one ≡ Some other → one ≡ other
     some_name e = cc
 
+    keeps_down : (event : Event) → relinks world event ≡ true
+        → relinked event name is.server (on_link world.links name is.server) ≡ on_link world.links name is.server
+    keeps_down event may = master_links_stay name is.server world begun_quiet event (on_link world.links name is.server) may
+
     goes_by : (event : Event) (at : Option (List ℕ)) → worker world event ≡ at → Goes (next event) conn
     goes_by event None at =
-        inl (beside name world conn is event (next event) (λ some. (let no : None ≡ Some is.server = sym at ∙ some in cc)) (takes_works world event))
+        inl (beside name world conn is event (next event) (λ some. (let no : None ≡ Some is.server = sym at ∙ some in cc)) (keeps_down event) (takes_works world event))
     goes_by event (Some node) at = ⊎_elim
         (λ (same : node ≡ is.server). at_itself event (at ∙ ap (λ (n : List ℕ). Some n) same))
         (λ (ne : node ≢ is.server).
-        inl (beside name world conn is event (next event) (λ some. ne (some_name (sym at ∙ some))) (takes_works world event)))
+        inl (beside name world conn is event (next event) (λ some. ne (some_name (sym at ∙ some))) (keeps_down event) (takes_works world event)))
         (same_or_other (slice_cmp nat_cmp) names_apart node is.server)
 
     goes : (event : Event) → Goes (next event) conn
@@ -169,11 +195,13 @@ module _ (config : Config) (heard : ℕ → Heard) (before : World) (law : Keeps
       abbrev put_law : KeepsLaw config heard put
       put_law = disks_law config heard world put.disks law
 
-      takes_it : next (Deliver from name) ≡ with_master (taken_from_link put from name) name says
+      takes_it : next (Deliver from name) ≡ comes (taken_from_link world from name) name (From from message)
       unfolding takes deliver_first
-      takes_it =
-          ap (deliver_first world from name) first
-          ∙ master_comes (taken_from_link world from name) name (From from message) law.master law.whole law.nodes.is_there
+      takes_it = ap (deliver_first world from name) first
+
+      -- where nothing is lost
+      all_of_it : all_come (taken_from_link world from name) name (From from message) ≡ with_master (taken_from_link put from name) name says
+      all_of_it = master_all_come (taken_from_link world from name) name (From from message) law.master law.nodes.is_there
 
       serial_now : last_serial config world ≡ law.master.table.serial
       serial_now = ap (λ (m : Option Master). (table_by m).serial) law.nodes.is_there
@@ -181,6 +209,8 @@ module _ (config : Config) (heard : ℕ → Heard) (before : World) (law : Keeps
       serial_then : last_serial config (next (Deliver from name)) ≡ says.master.table.serial
       serial_then =
           ap (last_serial config) takes_it
+          ∙ looks_then (taken_from_link world from name) name (From from message) (λ n. (table_by (as_master n)).serial) name
+          ∙ ap (last_serial config) all_of_it
           ∙ ap (λ (m : Option Master). (table_by m).serial) (master_moved (taken_from_link put from name) name law.master says law.nodes.is_there).own
 
       rises : (asks : Bool) → asks_reserve message ≡ asks → says.master.table.serial ≤ law.master.table.serial + cond asks 1 0
@@ -196,7 +226,9 @@ module _ (config : Config) (heard : ℕ → Heard) (before : World) (law : Keeps
         one_more other = ⊎_elim
             (λ (same : other ≡ conn).
             subst (λ c. Counted (next (Deliver from name)) c (times c (conn ∷ reserved))) (sym same)
-            (waiting (subst (λ w. IsReserved name w conn) (sym takes_it) given.reserved)
+            (waiting (subst (λ w. IsReserved name w conn) (sym takes_it)
+            (comes_reserved (taken_from_link world from name) name (From from message) conn refl
+            (subst (λ w. IsReserved name w conn) (sym all_of_it) given.reserved)))
             (omega (arith, once (times conn reserved) (counts.each conn), times_first conn reserved))))
             (λ (ne : other ≢ conn).
             subst (Counted (next (Deliver from name)) other) (sym (times_else other conn reserved ne))
@@ -235,15 +267,19 @@ module _ (config : Config) (heard : ℕ → Heard) (before : World) (law : Keeps
     -- A STEP COUNTS ON
     pub step_counts : (event : Event) → CountsThen event
     unfolding takes
-    step_counts (Open node conn) = same_table (Open node conn) (step_tables before (Open node conn) law.whole refl name)
-    step_counts (Data conn bytes) = same_table (Data conn bytes) (step_tables before (Data conn bytes) law.whole refl name)
-    step_counts (Hang conn) = same_table (Hang conn) (step_tables before (Hang conn) law.whole refl name)
+    step_counts (Open node conn) = same_table (Open node conn) (step_tables before (Open node conn) refl name)
+    step_counts (Data conn bytes) = same_table (Data conn bytes) (step_tables before (Data conn bytes) refl name)
+    step_counts (Hang conn) = same_table (Hang conn) (step_tables before (Hang conn) refl name)
     step_counts (Deliver from to) = ⊎_elim
         (λ (same : name ≡ to). subst (λ n. CountsThen (Deliver from n)) same (to_master from (on_link world.links from name) refl))
         (λ (ne : name ≢ to). to_another from to ne)
         (same_or_other (slice_cmp nat_cmp) names_apart name to)
-    step_counts (Cut one other kept left) = same_table (Cut one other kept left) refl
-    step_counts (Join one other) = same_table (Join one other) refl
+    step_counts (Cut one other kept left) =
+        same_table (Cut one other kept left)
+        (ap (λ n. table_by (as_master (value_at (slice_cmp nat_cmp) n name))) (cut_relinks (may_cut world one other) world one other kept left).nodes)
+    step_counts (Join one other) =
+        same_table (Join one other)
+        (ap (λ n. table_by (as_master (value_at (slice_cmp nat_cmp) n name))) (join_relinks (may_join world one other) world one other).nodes)
     step_counts (Crash node image kept) = same_table (Crash node image kept) refl
     step_counts (Arm node call image kept) = same_table (Arm node call image kept) refl
     step_counts (Start node) = same_table (Start node) refl

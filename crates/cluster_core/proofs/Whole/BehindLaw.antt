@@ -32,7 +32,7 @@ behind_steps : (config : Config) (steps : List Event) → AreNodes config.nodes 
     → NothingWaits config steps (run_steps (start config) steps)
 behind_steps config steps are fit =
     let each = law_of_run config steps are fit in
-    at_rest config steps ((kept_all config steps each).at steps [] (sym (append-nil steps))).law (silent_behind config steps are each)
+    at_rest config steps are ((kept_all config steps each).at steps [] (sym (append-nil steps))).law (silent_behind config steps are each)
 
 pub nothing_waits : (layout : Layout) (world : World) (event : Event) → NothingWaitsBehind layout world event
 nothing_waits layout world event = λ config steps are e fit.

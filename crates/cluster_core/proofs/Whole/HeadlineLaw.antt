@@ -67,14 +67,15 @@ one_mail_server config events are dated fit each =
       own_clients = serves_its_own_each config (steps_of_run config events);
       over_links = goes_over_links config events are known;
       one_store = one_store_tells config events are dated fit each;
-      closed = gives_no_more config events each;
+      closed = gives_no_more config events are each;
       guests = serves_guests config events are each;
       master = master_named config.nodes are.names (omega (arith, are.master));
       replicas = λ before later parts.
           replicas_follow config (λ conn. heard config conn before) (run_steps (start config) before) (law_at before later parts);
       asks = asks_by_records config events are
-          (λ before later parts node front at. (((law_at before later parts).nodes).fronts node front at).first_is);
-      asks_once = asks_once config events (λ before later parts. (law_at before later parts).whole);
+          (λ before later parts node front at.
+          (let its = ((law_at before later parts).nodes).fronts node front at in (its.first_is, its.master_is)));
+      asks_once = asks_once config events are (λ before later parts node front at. (((law_at before later parts).nodes).fronts node front at).master_is);
       lines = begins_only_as_asked config events are fit each;
       records = records_stand_each config events are each;
       disks = stands_on_disks config events each;
