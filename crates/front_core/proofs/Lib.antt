@@ -14,3 +14,5 @@ pub mod Counts
 pub mod EndLaws
 pub mod StrangerLaw
 pub mod OwnOuts
+pub mod UpsLaws
+pub mod WaitsUp
