@@ -1,6 +1,7 @@
-"""Faults for random schedules: Faults(dice, frontends, backends) gives lines of cuts, crashes, and what mends them, at the first backend and the master most of
-all, and the lines behind which all is mended; narrow(dice, config) gives schedules about one name or two, in which a message comes only where one is on its
-way, so that rare orders of the master's lines come often.
+"""Links that break and nodes that crash, for random schedules. Breaks(dice, frontends, backends) gives lines of cuts, joins and heals of the links of frontends
+with the first backend most of all, now and then one of the master's, by which the program changes nothing; Faults(..) also those of the master as often, and of
+crashes and what mends them, at the first backend and the master most of all; both the lines behind which all is mended. narrow(dice, config) gives schedules about
+one name or two, in which a message comes only where one is on its way, so that rare orders of the master's lines come often.
 """
 import json
 
@@ -8,23 +9,56 @@ from cluster import Cluster
 from model import spelled, take
 
 
+class Breaks:
+    CHANCE = 12  # of a hundred turns
 
-class Faults:
     def __init__(self, dice, frontends, backends):
-        self.dice, self.fronts, self.backs, self.down = dice, frontends, backends, []
+        self.dice, self.fronts, self.backs = dice, frontends, backends
 
     def one(self, *some):
         return self.dice.choice(some)
 
+    def links(self):
+        """Links, of which one is taken."""
+        front, back = self.one(*self.fronts), self.one(self.backs[0], self.backs[0], *self.backs)
+        return [(front, self.backs[0])] * 4 + [(front, back)] * 4 + [self.one(('m', front), ('m', back))] + self.between_backends()
+
+    def between_backends(self):
+        others = [(a, b) for a in self.backs for b in self.backs if a != b]
+        return [self.one(*others)] if others else []
+
     def link(self):
         """The two ends of a link, in either order."""
-        front, back = self.one(*self.fronts), self.one(self.backs[0], self.backs[0], *self.backs)
-        others = [(a, b) for a in self.backs for b in self.backs if a != b]
-        ends = self.one(('m', back), ('m', back), ('m', front), (front, back), (front, back), self.one(*others) if others else ('m', back))
+        ends = self.one(*self.links())
         return self.one(ends, ends[::-1])
 
     def kept(self):
         return self.one(0, 0, 0, 1, 1, 2, 3, 2**64 - 1)
+
+    def cut(self):
+        return 'cut %s %s %d %d' % (*self.link(), self.kept(), self.kept())
+
+    def joins(self):
+        return self.one(['heal'], ['flow 40', 'heal'], ['flow 40', 'heal'], ['join %s %s' % self.link()])
+
+    def lines(self):
+        """A link breaks, or comes up if it may."""
+        return self.joins() if self.dice.randrange(100) < 45 else [self.cut(), *self.one([], [], ['flow 2'], ['flow 40', 'heal'])]
+
+    def mends(self):
+        return ['flow 2000', 'heal', 'flow 2000']
+
+
+class Faults(Breaks):
+    CHANCE = 15
+
+    def __init__(self, dice, frontends, backends):
+        super().__init__(dice, frontends, backends)
+        self.down = []
+
+    def links(self):
+        front, back = self.one(*self.fronts), self.one(self.backs[0], self.backs[0], *self.backs)
+        return [('m', back), ('m', back), ('m', front), (front, back), (front, back), *(self.between_backends() or [('m', back)])]
 
     def choice(self):
         return self.one(0, 1, 2, 3, 0, 1, self.dice.randrange(2**64))
@@ -51,9 +85,9 @@ class Faults:
         if self.down and kind < 40:
             return [self.start(), *self.one([], ['flow 40', 'heal'])]
         if kind < 60:
-            return ['cut %s %s %d %d' % (*self.link(), self.kept(), self.kept()), *self.one([], ['flow 40', 'heal'])]
+            return [self.cut(), *self.one([], ['flow 40', 'heal'])]
         if kind < 85:
-            return self.one(['heal'], ['flow 40', 'heal'], ['flow 40', 'heal'], ['join %s %s' % self.link()])
+            return self.joins()
         return [self.crash() if kind < 92 else self.arm()]
 
     def mends(self):
