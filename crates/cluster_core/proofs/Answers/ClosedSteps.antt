@@ -62,7 +62,7 @@ pub record ClosedStep (fixed : Fixed) (world : World) (story : Tale) (from node 
 few_more : (answer : AnswerOf) → length (answer ∷ []) ≤ 1
 few_more answer = omega arith
 
-left_by : (fixed : Fixed) (front : List ℕ) (conn : ℕ) (requests : List Request) (told said : List AnswerOf) (session : Sess) (c : ClientCommand) (tag : Tag)
+pub left_by : (fixed : Fixed) (front : List ℕ) (conn : ℕ) (requests : List Request) (told said : List AnswerOf) (session : Sess) (c : ClientCommand) (tag : Tag)
     (here : Place) → Knows fixed.master fixed.first front c tag told said session here → IsLeft fixed front conn requests told said session place.nowhere
 left_by fixed front conn requests told said session c tag here (undecided same was tells) =
     nothing [] (same ∙ sym (append-nil told)) (omega arith) refl
@@ -97,7 +97,7 @@ unfolding ok_comes
 ok_ended setting ways conn connection id stage =
     ap (ok_by setting ways conn connection _) stage ∙ ended_still setting ways conn connection _
 
-ended_released : (connection : Connection) → connection.stage ≡ Ended → (released connection).stage ≡ Ended
+pub ended_released : (connection : Connection) → connection.stage ≡ Ended → (released connection).stage ≡ Ended
 unfolding released_at
 ended_released connection stage = ap (λ s. (released_at connection s).stage) stage
 

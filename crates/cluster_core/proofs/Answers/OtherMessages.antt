@@ -1,5 +1,5 @@
 -- A frontend takes any other message than an answer or the OK to a command: a line of the master that tells of its table, or one that changes nothing.
-use Rattle.std.proofs.Common.{◌≡◌, ◌≢◌, ℕ, nat_eq, Bool, true, false, List, None, Some, refl, sym, ◌∙◌, ap, subst}
+use Rattle.std.proofs.Common.{◌≡◌, ◌≢◌, inl, inr, ℕ, nat_eq, Bool, true, false, List, None, Some, refl, sym, ◌∙◌, ap, subst}
 use Rattle.std.specs.Cmp.Lexicographic.{pointwise}
 use Rattle.std.proofs.Math.Logic.{⊎_elim}
 use Rattle.std.proofs.lemmas.Cmp.{nat_list_eq_equiv}
@@ -10,6 +10,7 @@ use Rattle.feed_links.proofs.Names.{other_name}
 use Rattle.feed_links.specs.Replicas.{hears}
 use Rattle.front_core.specs.declared.front.Front.{Front}
 use Rattle.front_core.specs.Front.{deliver, hearing, line_by, line_from, still}
+use Rattle.front_core.specs.Ups.{Ups}
 use Rattle.imap_talk.specs.Heard.{Heard}
 use Rattle.link_msg.specs.declared.message.LinkMsg.{LinkMsg}
 use Rattle.link_msg.specs.declared.message.LinkMsg.TheVariants.{Up, End, Line, Ask, Answer}
@@ -24,11 +25,16 @@ use Rattle.cluster_core.proofs.Commands.Place.{Place}
 use Rattle.cluster_core.proofs.Commands.Standing.{Fixed}
 use Rattle.cluster_core.proofs.Connections.ConnectionLaw.{IsInPlaceOf, says_same}
 use Rattle.cluster_core.proofs.Connections.KeepsFront.{fronts_at_other}
-use Rattle.cluster_core.proofs.Connections.KeepsLaw.{FeedsHold, KeepsLaw, KeepsOn, fixed_of, murder_of}
+use Rattle.cluster_core.proofs.Connections.KeepsLaw.{AreNodesOf, FeedsHold, KeepsLaw, KeepsOn, fixed_of, murder_of}
 use Rattle.cluster_core.proofs.Connections.Stays.{StaysInPlace, connection_stays}
 use Rattle.cluster_core.proofs.Nodes.AllCome.{front_all_come}
 use Rattle.cluster_core.proofs.Nodes.Comes.{FrontMoved, front_moved, with_front}
-use Rattle.cluster_core.proofs.Nodes.Stay.{front_cores}
+use Rattle.cluster_core.proofs.Nodes.Stay.{front_cores, same_nodes}
+use Rattle.cluster_core.proofs.Feeds.Beside.{still_fed, still_feeds}
+use Rattle.cluster_core.proofs.Feeds.Many.{front_is_one, front_keeps_many, passing_many}
+use Rattle.cluster_core.proofs.Connections.StillFed.{feeds_alike, fronts_were}
+use Rattle.many_links.proofs.Carried.{taken_else}
+use Rattle.mur_model.specs.declared.store.Store.{Store}
 use Rattle.cluster_core.proofs.Places.FrontFirst.{IsIdle}
 use Rattle.cluster_core.proofs.Places.FrontTakes.{idle_leaves_all, news_leave_others, none_stays, takes_news}
 use Rattle.cluster_core.proofs.Places.FrontWorlds.{in_none_alike, moves_with}
@@ -43,28 +49,28 @@ module _ (config : Config) (heard : ℕ → Heard) (world : World) (law : KeepsL
   abbrev fixed : Fixed
   fixed = fixed_of config
 
-  -- the world in which the frontend has another replica, and nothing was let out
-  abbrev with_replica : Replica → World
-  with_replica replica = with_front (taken_from_link world from to) to (still (record front { replica = replica }))
+  -- the world in which the frontend has another replica and other links, and nothing was let out
+  abbrev pub with_replica : Replica → Ups → World
+  with_replica replica ups = with_front (taken_from_link world from to) to (still (record front { replica = replica; ups = ups }))
 
-  moved_so : (replica : Replica) → FrontMoved world to (record front { replica = replica }) (with_replica replica)
-  moved_so replica =
-      let step = front_moved (taken_from_link world from to) to front (still (record front { replica = replica })) there in
+  moved_so : (replica : Replica) (ups : Ups) → FrontMoved world to (record front { replica = replica; ups = ups }) (with_replica replica ups)
+  moved_so replica ups =
+      let step = front_moved (taken_from_link world from to) to front (still (record front { replica = replica; ups = ups })) there in
       record { own = step.own; fronts = step.fronts; homes = step.homes; masters = step.masters }
 
   -- each connection is as it was, if its command is where it was
-  replica_keeps : (replica : Replica) → ((conn : ℕ) → StaysInPlace fixed conn world (with_replica replica))
-      → ManyHold (murder_of (with_replica replica) law.master) law.given law.story.course.store → FeedsHold config (with_replica replica) law.master
-      → KeepsOn config law.story law.stops heard (with_replica replica)
+  pub replica_keeps : (replica : Replica) (ups : Ups) → ((conn : ℕ) → StaysInPlace fixed conn world (with_replica replica ups))
+      → ManyHold (murder_of (with_replica replica ups) law.master) law.given law.story.course.store → FeedsHold config (with_replica replica ups) law.master
+      → KeepsOn config law.story law.stops heard (with_replica replica ups)
   unfolding carry_all
-  replica_keeps replica stays many feeds =
-      let later : Front = record front { replica = replica } in
-      let next : World = with_replica replica in
+  replica_keeps replica ups stays many feeds =
+      let later : Front = record front { replica = replica; ups = ups } in
+      let next : World = with_replica replica ups in
       record {
         law = record {
           master = law.master;
           nodes = front_cores config world next law.master law.nodes to front later there (record { me = refl; master = refl; first = refl; setting = refl })
-              (moved_so replica);
+              (moved_so replica ups);
           story = law.story;
           stops = law.stops;
           given = law.given;
@@ -74,10 +80,10 @@ module _ (config : Config) (heard : ℕ → Heard) (world : World) (law : KeepsL
           requests = law.requests;
           connections = λ conn. connection_stays fixed conn world next law.story law.story (law.stops conn) (heard conn)
               (record {
-                fronts = fronts_at_other world next to front later conn there (moved_so replica) refl;
+                fronts = fronts_at_other world next to front later conn there (moved_so replica ups) refl;
                 client = refl;
                 in_place = stays conn;
-                in_none = λ is. in_none_alike (home_at world) (home_at next) (moved_so replica).homes fixed.master next.links conn
+                in_none = λ is. in_none_alike (home_at world) (home_at next) (moved_so replica ups).homes fixed.master next.links conn
                     (none_stays fixed.master (home_at world) world.links from to message taken.rest conn (frontend_of config heard world law to front there)
                     taken.first is);
                 marks = λ command. refl;
@@ -95,22 +101,22 @@ module _ (config : Config) (heard : ℕ → Heard) (world : World) (law : KeepsL
       }
 
   -- its own connections with the new replica, those of others with theirs
-  stays_by : (replica : Replica) (conn : ℕ)
+  stays_by : (replica : Replica) (ups : Ups) (conn : ℕ)
       → ((command : ℕ) (here : Place) → IsInPlaceOf fixed world to front.replica (record { conn = conn; command = command }) here
       → IsInPlaceOf fixed (taken_from_link world from to) to replica (record { conn = conn; command = command }) here)
       → ((node : List ℕ) (other : Replica) (command : ℕ) (here : Place) → node ≢ to
       → IsInPlaceOf fixed world node other (record { conn = conn; command = command }) here
       → IsInPlaceOf fixed (taken_from_link world from to) node other (record { conn = conn; command = command }) here)
-      → StaysInPlace fixed conn world (with_replica replica)
+      → StaysInPlace fixed conn world (with_replica replica ups)
   unfolding carry_all
-  stays_by replica conn own others node was now before after command here is =
-      let next : World = with_replica replica in
+  stays_by replica ups conn own others node was now before after command here is =
+      let next : World = with_replica replica ups in
       let id : AskId = record { conn = conn; command = command } in
-      let moved = moved_so replica in
+      let moved = moved_so replica ups in
       ⊎_elim
       (λ (e : node ≡ to).
       let one : was ≡ front = just_front (sym before ∙ (ap (front_at world) e ∙ there)) in
-      let two : record front { replica = replica } ≡ now = just_front (sym moved.own ∙ (ap (front_at next) (sym e) ∙ after)) in
+      let two : record front { replica = replica; ups = ups } ≡ now = just_front (sym moved.own ∙ (ap (front_at next) (sym e) ∙ after)) in
       subst (λ n. IsInPlaceOf fixed next n now.replica id here) (sym e)
       (subst (λ (f : Front). IsInPlaceOf fixed next to f.replica id here) two
       (moves_with fixed (taken_from_link world from to) next to replica id here moved.homes
@@ -123,14 +129,14 @@ module _ (config : Config) (heard : ℕ → Heard) (world : World) (law : KeepsL
       (same_name_or node to)
 
   -- what the frontend does is that alone
-  keeps_by : (replica : Replica) → deliver front from message ≡ still (record front { replica = replica })
-      → ((conn : ℕ) → StaysInPlace fixed conn world (with_replica replica))
+  keeps_by : (replica : Replica) (ups : Ups) → deliver front from message ≡ still (record front { replica = replica; ups = ups })
+      → ((conn : ℕ) → StaysInPlace fixed conn world (with_replica replica ups))
       → KeepsOn config law.story law.stops heard (taken_by config heard world law from message to)
-  keeps_by replica does stays =
-      let is : taken_by config heard world law from message to ≡ with_replica replica =
+  keeps_by replica ups does stays =
+      let is : taken_by config heard world law from message to ≡ with_replica replica ups =
       front_all_come (taken_from_link world from to) to (From from message) front there ∙ ap (with_front (taken_from_link world from to) to) does in
       subst (λ w. KeepsOn config law.story law.stops heard w) (sym is)
-      (replica_keeps replica stays (subst (λ w. ManyHold (murder_of w law.master) law.given law.story.course.store) is taken.many)
+      (replica_keeps replica ups stays (subst (λ w. ManyHold (murder_of w law.master) law.given law.story.course.store) is taken.many)
       (subst (λ w. FeedsHold config w law.master) is taken.feeds))
 
 -- ---- a line of the master that is no OK
@@ -150,9 +156,9 @@ news_stand config heard world law to front bytes there taken none =
     let me : List ℕ = master_of config in
     let frontend = frontend_of config heard world law to front there in
     let replica : Replica = hears front.replica (Line bytes) in
-    keeps_by config heard world law me to front (Line bytes) there taken replica
+    keeps_by config heard world law me to front (Line bytes) there taken replica front.ups
     (hears_news front me bytes (sym ((law.nodes).fronts to front there).master_is) none)
-    (λ conn. stays_by config heard world law me to front (Line bytes) there taken replica conn
+    (λ conn. stays_by config heard world law me to front (Line bytes) there taken replica front.ups conn
     (λ command here is. takes_news me (home_at world) world.links to bytes taken.rest front.replica (record { conn = conn; command = command }) here frontend
     taken.first none is)
     (λ node other command here ne is. news_leave_others me (home_at world) world.links to bytes taken.rest node other
@@ -165,7 +171,20 @@ unfolding line_from
 not_line front bytes false e = refl
 not_line front bytes true e = cc
 
-pub idles : (front : Front) (from : List ℕ) (message : LinkMsg) → from ≢ front.master → IsIdle front.master from message → deliver front from message ≡ still front
+-- one that tells of no link
+abbrev pub IsIgnored : List ℕ → List ℕ → LinkMsg → Type 0
+IsIgnored master from (Ask ask) = Unit {0}
+IsIgnored master from (Line bytes) = from ≢ master
+IsIgnored master from message = ⊥
+
+ignored_idle : (master from : List ℕ) (message : LinkMsg) → IsIgnored master from message → IsIdle master from message
+ignored_idle master from Up is = absurd is
+ignored_idle master from End is = absurd is
+ignored_idle master from (Ask ask) is = tt
+ignored_idle master from (Line bytes) is = is
+ignored_idle master from (Answer answer) is = absurd is
+
+pub idles : (front : Front) (from : List ℕ) (message : LinkMsg) → from ≢ front.master → IsIgnored front.master from message → deliver front from message ≡ still front
 unfolding deliver
 idles front from Up ne idle = absurd idle
 idles front from End ne idle = absurd idle
@@ -176,14 +195,48 @@ idles front from (Answer answer) ne idle = absurd idle
 -- ANY OTHER MESSAGE OF ANOTHER NODE KEEPS THE LAW
 pub idle_stands : (config : Config) (heard : ℕ → Heard) (world : World) (law : KeepsLaw config heard world) (from to : List ℕ) (front : Front)
     (message : LinkMsg) → front_at world to ≡ Some front → IsTakenBy config heard world law from message to → from ≢ master_of config
-    → IsIdle (master_of config) from message → KeepsOn config law.story law.stops heard (taken_by config heard world law from message to)
+    → IsIgnored (master_of config) from message → KeepsOn config law.story law.stops heard (taken_by config heard world law from message to)
 idle_stands config heard world law from to front message there taken ne idle =
     let me : List ℕ = master_of config in
     let frontend = frontend_of config heard world law to front there in
     let master_is : front.master ≡ me = ((law.nodes).fronts to front there).master_is in
-    let all = λ (conn : ℕ). idle_leaves_all me (home_at world) world.links from to message taken.rest conn frontend taken.first idle in
-    keeps_by config heard world law from to front message there taken front.replica
-    (idles front from message (λ e. ne (e ∙ master_is)) (subst (λ m. IsIdle m from message) (sym master_is) idle))
-    (λ conn. stays_by config heard world law from to front message there taken front.replica conn
+    let all = λ (conn : ℕ). idle_leaves_all me (home_at world) world.links from to message taken.rest conn frontend taken.first
+    (ignored_idle me from message idle) in
+    keeps_by config heard world law from to front message there taken front.replica front.ups
+    (idles front from message (λ e. ne (e ∙ master_is)) (subst (λ m. IsIgnored m from message) (sym master_is) idle))
+    (λ conn. stays_by config heard world law from to front message there taken front.replica front.ups conn
     (λ command here is. (all conn).in_place to front.replica command here is)
     (λ node other command here apart is. (all conn).in_place node other command here is))
+
+-- ---- what tells of a link
+
+-- A MESSAGE OF ANOTHER NODE THAT CHANGES ALONE TO WHOM THE LINKS ARE UP KEEPS THE LAW
+pub relinked_stands : (config : Config) (heard : ℕ → Heard) (world : World) (law : KeepsLaw config heard world) (from to : List ℕ) (front : Front)
+    (message : LinkMsg) (there : front_at world to ≡ Some front) (taken : IsTakenBy config heard world law from message to) (ups : Ups)
+    → from ≢ master_of config → IsIdle (master_of config) from message
+    → KeepsOn config law.story law.stops heard (with_replica config heard world law from to front message there taken front.replica ups)
+unfolding carry_all
+relinked_stands config heard world law from to front message there taken ups ne idle =
+    let me : List ℕ = master_of config in
+    let base : World = taken_from_link world from to in
+    let later : Front = record front { ups = ups } in
+    let next : World = with_front base to (still later) in
+    let frontend = frontend_of config heard world law to front there in
+    let all = λ (conn : ℕ). idle_leaves_all me (home_at world) world.links from to message taken.rest conn frontend taken.first idle in
+    let store : Store = law.story.course.store in
+    let nodes : AreNodesOf config base law.master = same_nodes config world base law.master refl law.nodes in
+    let many : ManyHold (murder_of base law.master) law.given store =
+    passing_many config world law.master law.given store law.nodes law.many from to
+    (inr (front_is_one config world law.master law.given store law.nodes law.many to front there)) in
+    let feeds : FeedsHold config base law.master =
+    still_feeds config world law.master law.nodes law.feeds base (λ server. refl)
+    (λ any f at. still_fed config world law.master law.nodes law.feeds base any f at
+    (taken_else world.links from to any me (inr (λ e. frontend.no_master (sym e))))
+    (taken_else world.links from to me any (inl (λ e. ne (sym e)))) (λ server. refl)) in
+    let step = front_moved base to front (still later) there in
+    replica_keeps config heard world law from to front message there taken front.replica ups
+    (λ conn. stays_by config heard world law from to front message there taken front.replica ups conn
+    (λ command here is. (all conn).in_place to front.replica command here is)
+    (λ node other command here apart is. (all conn).in_place node other command here is))
+    (front_keeps_many config base law.master law.given store nodes many to front (still later) there)
+    (feeds_alike config base next law.master step.homes refl (fronts_were base next to front later there step refl) feeds)

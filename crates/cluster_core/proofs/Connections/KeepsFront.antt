@@ -259,3 +259,25 @@ gone_after fixed world node front conn connection all stop replica story at is =
       left = is.left;
       cut = is.cut;
     }
+
+-- whatever it let out
+pub gone_then : (fixed : Fixed) (world : World) (node : List ℕ) (front : Front) (conn : ℕ) (connection : Connection) (outs : List Out) (all : List Input)
+    (stop : Stop) (replica : Replica) (story : Tale) → front_at world node ≡ Some front → (carry_all node world outs).nodes ≡ world.nodes
+    → IsGone fixed node replica conn all stop connection (carry_all node world outs) story
+    → IsGone fixed node replica conn all stop connection (world_after world node front conn connection outs) story
+gone_then fixed world node front conn connection outs all stop replica story at nodes is =
+    let carried : World = carry_all node world outs in
+    let next : World = world_after world node front conn connection outs in
+    record {
+      stage_is = is.stage_is;
+      count = is.count;
+      lasts = is.lasts;
+      client = same_clients world node front conn connection outs conn ∙ is.client;
+      here = is.here;
+      placed = (alike_stay fixed conn carried next (same_homes world node front conn connection outs at nodes)
+          (same_links world node front conn connection outs)).in_place node replica _ is.here is.placed;
+      marked = marked_stays story.talk.moving (next_id conn (story.told conn)) carried.marks next.marks
+          (ap (λ (m : List Mark). last_mark (next_id conn (story.told conn)) m) (same_marks world node front conn connection outs)) is.here is.marked;
+      left = is.left;
+      cut = λ lost none. is.cut lost (sym (same_broken world node front conn connection outs) ∙ none);
+    }

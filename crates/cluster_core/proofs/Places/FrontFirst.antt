@@ -62,10 +62,10 @@ NewsAreNobodys = (master : List ℕ) (nodes : Nodes) (links : Links LinkMsg) (fr
     (replica : Replica) (id : AskId) (here : Place) → IsFrontend master nodes to → on_link links from to ≡ Line bytes ∷ rest
     → barrier_answered bytes ≡ None → IsInPlace master nodes links front replica id here → about (Line bytes) ≢ of_connection id.conn
 
--- a message that no command of a frontend waits for: an ask, or a line of a node that isn't the master
+-- a message that no command of a frontend waits for: an ask, a line of a node that isn't the master, or what tells of a link
 abbrev pub IsIdle : List ℕ → List ℕ → LinkMsg → Type 0
-IsIdle master from Up = ⊥
-IsIdle master from End = ⊥
+IsIdle master from Up = Unit {0}
+IsIdle master from End = Unit {0}
 IsIdle master from (Ask ask) = Unit {0}
 IsIdle master from (Line bytes) = from ≢ master
 IsIdle master from (Answer answer) = ⊥

@@ -271,8 +271,8 @@ news_leave_others master nodes links to bytes rest front replica id here fronten
 -- ---- a message that no command waits for
 
 idle_no_news : (master from : List ℕ) (message : LinkMsg) → IsIdle master from message → (from ≢ master) ⊎ IsNoNews message
-idle_no_news master from Up idle = absurd idle
-idle_no_news master from End idle = absurd idle
+idle_no_news master from Up idle = inr (λ any. refl)
+idle_no_news master from End idle = inr (λ any. refl)
 idle_no_news master from (Ask ask) idle = inr (λ any. refl)
 idle_no_news master from (Line bytes) idle = inl idle
 idle_no_news master from (Answer answer) idle = absurd idle
