@@ -115,8 +115,8 @@ module _ (config : Config) (heard : ℕ → Heard) (world : World) (law : KeepsL
 
   none_dropped : (node server : List ℕ) (front : Front) (conn : ℕ) → front_at world node ≡ Some front → is_broken world.broken server node ≡ true
       → waits_for (connection_at front conn) server ≡ true → ⊥
-  none_dropped node server front conn at cut waits =
-      none_down (on_link world.links server node) (is_up front.ups server) (empty server node) (links.waits_up node server front conn at waits)
+  none_dropped node server front conn at cut asked =
+      none_down (on_link world.links server node) (is_up front.ups server) (empty server node) (links.waits_up node server front conn at asked)
       (links.down node server front at cut)
 
   -- its frontend waits for the answer of the server to which it was dropped

@@ -1,5 +1,5 @@
 -- What is told at every step of a run.
-use Rattle.std.proofs.Common.{◌≡◌, ℕ, Bool, ◌≤◌, false, List, [], ◌++◌, length, refl, sym, ◌∙◌, ap, subst, append_assoc}
+use Rattle.std.proofs.Common.{◌≡◌, ◌⊎◌, inl, inr, ℕ, Bool, ◌≤◌, false, List, [], ◌++◌, length, refl, sym, ◌∙◌, ap, subst, append_assoc}
 use Rattle.std.specs.Prelude.{All, IfSome}
 use Rattle.std.proofs.lemmas.List.{append-nil}
 use Rattle.imap_command.specs.Ruled.{IsDate}
@@ -40,7 +40,7 @@ use Rattle.cluster_core.specs.LawSetting.{law_setting}
 use Rattle.cluster_core.specs.declared.world.World.{World}
 use Rattle.cluster_core.specs.Flow.{run_steps, steps_of_run}
 use Rattle.cluster_core.specs.Headline.Homes.{ShowsBoxesOf}
-use Rattle.cluster_core.specs.Headline.OneStore.{HasBoxesOf, HasItsRights, IsAnsweredThrough, IsToldByOneStore, IsToldSoFar}
+use Rattle.cluster_core.specs.Headline.OneStore.{HasBoxesOf, HasCut, HasItsRights, IsAnsweredThrough, IsToldByOneStore, IsToldSoFar}
 use Rattle.cluster_core.specs.Headline.Outside.{guest_of, is_guest}
 use Rattle.cluster_core.specs.Headline.Serials.{reserves_taken}
 use Rattle.cluster_core.specs.History.{history_of}
@@ -60,6 +60,7 @@ use Rattle.mark_history.proofs.Reached.{TellsReached, all_reached}
 use Rattle.cluster_core.proofs.OneServer.SerialsRise.{serials_are_low}
 use Rattle.cluster_core.proofs.OneServer.ShownHomes.{shows_boxes}
 use Rattle.cluster_core.proofs.OneServer.UidsBelow.{some_below}
+use Rattle.cluster_core.proofs.Links.StandLaw.{links_stand, uncut}
 use Rattle.cluster_core.proofs.Routing.RoutedLaw.{are_routed}
 
 -- a client that is connected where no frontend is, and doesn't talk with the master, was given nothing

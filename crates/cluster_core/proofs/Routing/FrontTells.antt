@@ -73,9 +73,11 @@ at_most_one (Waits tag it) = omega arith
 at_most_one (Lists tag it) = omega arith
 at_most_one Ended = omega arith
 
--- a command that is answered by the frontend alone is of this connection and beyond so many, and none is marked
+-- a command that is answered by the frontend alone is of this connection and beyond so many, one that is refused as a node isn't reached is of this
+-- connection, and none is marked
 abbrev pub TellsBeyond : ℕ → ℕ → Out → Type 0
 TellsBeyond conn most (tell ask Here) = (ask.conn ≡ conn) × (most < ask.command)
+TellsBeyond conn most (tell ask (Unreached node)) = ask.conn ≡ conn
 TellsBeyond conn most (mark ask counts) = ⊥
 TellsBeyond conn most out = ⊤
 
@@ -86,7 +88,7 @@ one_less : (conn most less : ℕ) (out : Out) → less ≤ most → TellsBeyond 
 one_less conn most less (tell ask Here) le is = (is.0, omega (arith, le, is.1))
 one_less conn most less (tell ask Behind) le is = tt
 one_less conn most less (tell ask Reserved) le is = tt
-one_less conn most less (tell ask (Unreached node)) le is = tt
+one_less conn most less (tell ask (Unreached node)) le is = is
 one_less conn most less (mark ask counts) le is = is
 one_less conn most less (Client other bytes) le is = tt
 one_less conn most less (Close other) le is = tt
@@ -129,13 +131,13 @@ module _ (setting : Setting) (ways : Ways) (conn : ℕ) where
       → Goes conn was (begins_if up conn connection tag begun_so)
   unfolding told_now
   begins_go true was connection tag begun_so same one = record { outs = (tt, tt); more = omega (arith, same, one) }
-  begins_go false was connection tag begun_so same one = record { outs = (tt, (tt, tt)); more = omega (arith, same, one) }
+  begins_go false was connection tag begun_so same one = record { outs = (tt, (refl, tt)); more = omega (arith, same, one) }
 
   lists_go : (up : Bool) (was connection : Connection) (tag : Tag) (it : Listing) → connection.answered ≡ was.answered → begun_at was.stage ≤ 1
       → Goes conn was (lists_if up ways.master conn connection tag it)
   unfolding told_now
   lists_go true was connection tag it same one = record { outs = (tt, tt); more = omega (arith, same, one) }
-  lists_go false was connection tag it same one = record { outs = (tt, (tt, tt)); more = omega (arith, same, one) }
+  lists_go false was connection tag it same one = record { outs = (tt, (refl, tt)); more = omega (arith, same, one) }
 
   need_goes : (connection : Connection) (tag : Tag) (need : Need) → connection.stage ≡ Reading
       → Goes conn connection (turned_by_need ways conn connection tag need)
@@ -191,11 +193,11 @@ module _ (setting : Setting) (ways : Ways) (conn : ℕ) where
   IsBehind Here = ⊥
   IsBehind how = ⊤
 
-  tells_behind : (most : ℕ) (ask : AskId) (how : How) → IsBehind how → TellsBeyond conn most (tell ask how)
-  tells_behind most ask Here is = absurd is
-  tells_behind most ask Behind is = tt
-  tells_behind most ask Reserved is = tt
-  tells_behind most ask (Unreached node) is = tt
+  tells_behind : (most : ℕ) (ask : AskId) (how : How) → IsBehind how → ask.conn ≡ conn → TellsBeyond conn most (tell ask how)
+  tells_behind most ask Here is own = absurd is
+  tells_behind most ask Behind is own = tt
+  tells_behind most ask Reserved is own = tt
+  tells_behind most ask (Unreached node) is own = own
 
   refused_behind_it : (cause : What) → IsBehind (how_for cause)
   refused_behind_it (unreached node) = tt
@@ -209,7 +211,7 @@ module _ (setting : Setting) (ways : Ways) (conn : ℕ) where
         outs = (
           tt,
           (
-            tells_behind (begun connection) _ how is,
+            tells_behind (begun connection) _ how is refl,
             all_less conn (begun (reading_again connection)) (begun connection)
                 (inputs_come setting ways conn (reading_again connection) connection.waiting).outs (omega (arith, waits)) rest.outs,
           ),
@@ -232,7 +234,7 @@ module _ (setting : Setting) (ways : Ways) (conn : ℕ) where
       → Goes conn connection (need_behind setting ways conn connection tag how need)
   behind_goes connection tag how (needs.Reply reply) waits is = reads_on_goes connection how _ waits is
   behind_goes connection tag how (needs.Leave reply) waits is =
-      record { outs = (tt, (tells_behind (begun connection) _ how is, (tt, tt))); more = omega (arith, waits) }
+      record { outs = (tt, (tells_behind (begun connection) _ how is refl, (tt, tt))); more = omega (arith, waits) }
   behind_goes connection tag how (needs.Home name asking) waits is =
       let reads : Connection = record connection { stage = Reading } in
       come_goes connection (asks ways conn reads tag name asking) (begins_go (is_up ways.ups _) connection reads tag _ refl (omega (arith, waits)))
@@ -337,8 +339,14 @@ pub record AnswersAlone (front : Front) (ask : AskId) : Type 0 where
   pub at : connection_at front ask.conn ≡ Some connection
   pub beyond : begun connection < ask.command
 
+-- a command's connection is there
+pub record HasItsConnection (front : Front) (ask : AskId) : Type 0 where
+  pub connection : Connection
+  pub at : connection_at front ask.conn ≡ Some connection
+
 abbrev pub FrontTells : Front → Out → Type 0
 FrontTells front (tell ask Here) = AnswersAlone front ask
+FrontTells front (tell ask (Unreached node)) = HasItsConnection front ask
 FrontTells front (mark ask counts) = ⊥
 FrontTells front out = ⊤
 
@@ -367,7 +375,7 @@ module _ (front : Front) (conn : ℕ) (connection : Connection) (at : connection
   out_tells (tell ask Here) is = record { connection = connection; at = ap (connection_at front) is.0 ∙ at; beyond = is.1 }
   out_tells (tell ask Behind) is = tt
   out_tells (tell ask Reserved) is = tt
-  out_tells (tell ask (Unreached node)) is = tt
+  out_tells (tell ask (Unreached node)) is = record { connection = connection; at = ap (connection_at front) is ∙ at }
   out_tells (mark ask counts) is = is
   out_tells (Client other bytes) is = tt
   out_tells (Close other) is = tt
@@ -426,7 +434,14 @@ module _ (front : Front) (conn : ℕ) (connection : Connection) (at : connection
       }
   told_before turned goes (tell ask Behind) is = tt
   told_before turned goes (tell ask Reserved) is = tt
-  told_before turned goes (tell ask (Unreached node)) is = tt
+  told_before turned goes (tell ask (Unreached node)) is = by (same_or_other nat_cmp numbers_apart ask.conn conn)
+    where
+      by : (ask.conn ≡ conn) ⊎ (ask.conn ≢ conn) → HasItsConnection front ask
+      by (inl e) = record { connection = connection; at = ap (connection_at front) e ∙ at }
+      by (inr ne) = record {
+        connection = is.connection;
+        at = sym (value_at-with_value-other nat_cmp numbers_apart front.connections conn ask.conn (released turned.connection) ne) ∙ is.at;
+      }
   told_before turned goes (mark ask counts) is = is
   told_before turned goes (Client other bytes) is = tt
   told_before turned goes (Close other) is = tt
@@ -470,7 +485,7 @@ noted_goes front ups = record {
     before (tell ask Here) is = record { connection = is.connection; at = is.at; beyond = is.beyond }
     before (tell ask Behind) is = tt
     before (tell ask Reserved) is = tt
-    before (tell ask (Unreached node)) is = tt
+    before (tell ask (Unreached node)) is = record { connection = is.connection; at = is.at }
     before (mark ask counts) is = is
     before (Client other bytes) is = tt
     before (Close other) is = tt

@@ -24,6 +24,7 @@ use Rattle.link_msg.specs.declared.message.LinkMsg.{LinkMsg}
 use Rattle.link_msg.specs.declared.message.LinkMsg.TheVariants.{Ask, Answer}
 use Rattle.link_msg.specs.declared.out.Out.{Out}
 use Rattle.link_msg.specs.declared.out.Out.TheVariants.{Link, Mark as mark}
+use Rattle.link_queue.specs.Broken.{Broken, is_broken}
 use Rattle.link_queue.specs.Links.{Links, on_link, same_link, sent, without_first}
 use Rattle.link_queue.proofs.Wires.{on_link-sent, on_link-taken, same_itself, same_names}
 use Rattle.many_links.specs.Murder.{put_all, put_out}
@@ -39,6 +40,7 @@ use Rattle.mur_model.specs.Asking.{asked_for}
 use Rattle.mur_model.specs.Needed.{Delete, IsOfHome, Make, Work}
 use Rattle.node_step.specs.declared.input.NodeInput.TheVariants.{From}
 use Rattle.node_step.specs.declared.node.NodeState.TheVariants as state
+use Rattle.node_step.specs.NodeStep.{as_master}
 use Rattle.name_flows.specs.Phases.{pointer_in}
 use Rattle.node_record.specs.declared.held.Held.{Held}
 use Rattle.point_links.specs.AtHome.{its_ask}
@@ -51,10 +53,14 @@ use Rattle.cluster_core.specs.declared.world.World.{World}
 use Rattle.cluster_core.specs.Headline.OpenAt.{IsOpenAt}
 use Rattle.cluster_core.specs.Headline.Routing.{is_of_name, says_done}
 use Rattle.cluster_core.specs.Shown.{held_by}
-use Rattle.cluster_core.specs.World.{deliver_first, home_at, stepped, steps_by, taken_from_link, takes}
+use Rattle.cluster_core.specs.World.{comes, deliver_first, home_at, stepped, steps_by, taken_from_link, takes}
 use Rattle.cluster_core.proofs.Connections.KeepsLaw.{KeepsLaw, murder_of}
 use Rattle.cluster_core.proofs.Nodes.Carried.{IsMade, is_made, marks_made}
-use Rattle.cluster_core.proofs.Nodes.Comes.{home_comes, home_moved, with_home, wrote}
+use Rattle.cluster_core.proofs.Links.Thinned.{IsThinned}
+use Rattle.cluster_core.proofs.Nodes.AllCome.{all_come, home_all_come}
+use Rattle.cluster_core.proofs.Nodes.Comes.{home_moved, with_home, wrote}
+use Rattle.cluster_core.proofs.Nodes.Then.{looks_then}
+use Rattle.cluster_core.proofs.Nodes.Thins.{comes_thinned}
 use Rattle.cluster_core.proofs.OneServer.OpenLaw.{HasIt, has_it, open_found, open_test}
 use Rattle.cluster_core.proofs.Routing.Works.{AskTells, ask_tells, backend_is}
 
@@ -134,7 +140,9 @@ pub record IsServed (config : Config) (world : World) (from to : List ℕ) (ask 
   pub is_home : IsBackend config to
   pub body : AnswerBody
   pub counts : Counts
-  pub answers : on_link (steps_by world (Deliver from to)).links to from ≡ on_link world.links to from ++ Answer (record { id = ask.id; body = body }) ∷ []
+  -- on a broken link the answer is lost
+  pub answers : is_broken world.broken to from ≡ false
+      → on_link (steps_by world (Deliver from to)).links to from ≡ on_link world.links to from ++ Answer (record { id = ask.id; body = body }) ∷ []
   pub marks : (steps_by world (Deliver from to)).marks ≡ world.marks ++ (record { step = world.steps + 1; ask = ask.id; kind = Home counts }) ∷ []
   pub table : (any : List ℕ) → table_at (steps_by world (Deliver from to)) any ≡ table_at world any
   pub done : says_done body ≡ true → (counts ≡ Always) × IsOpenAt world ask.name to
@@ -236,11 +244,19 @@ module _ (config : Config) (heard : ℕ → Heard) (world : World) (are : AreNod
   abbrev begun : World
   begun = wrote (taken_from_link (stepped world) from to) to (state.Back home) (From from (Ask ask))
 
-  next_is : steps_by world (Deliver from to) ≡ with_home begun to acted
+  abbrev taken : World
+  taken = taken_from_link (stepped world) from to
+
+  next_is : steps_by world (Deliver from to) ≡ comes taken to (From from (Ask ask))
   unfolding takes deliver_first
-  next_is =
-      ap (deliver_first (stepped world) from to) first
-      ∙ home_comes (taken_from_link (stepped world) from to) to (From from (Ask ask)) home law.whole tells.there
+  next_is = ap (deliver_first (stepped world) from to) first
+
+  -- where nothing is lost
+  all_is : all_come taken to (From from (Ask ask)) ≡ with_home begun to acted
+  all_is = home_all_come taken to (From from (Ask ask)) home tells.there
+
+  lost : IsThinned (all_come taken to (From from (Ask ask))) (comes taken to (From from (Ask ask)))
+  lost = comes_thinned taken to (From from (Ask ask))
 
   made : IsMade begun to (state.Back acted.state) acted.outs (with_home begun to acted)
   made = is_made begun to (state.Back acted.state) acted.outs
@@ -255,13 +271,16 @@ module _ (config : Config) (heard : ℕ → Heard) (world : World) (are : AreNod
     is_home = backend_is config heard world are law to home tells.there;
     body = so.body;
     counts = so.counts;
-    answers = ap (λ (w : World). on_link w.links to from) next_is
+    answers = λ reached. ap (λ (w : World). on_link w.links to from) next_is
+        ∙ lost.whole to from (ap (λ (w : World). is_broken w.broken to from) all_is ∙ ap (λ (b : Broken). is_broken b to from) made.broken ∙ reached)
+        ∙ ap (λ (w : World). on_link w.links to from) all_is
         ∙ ap (λ (l : Links LinkMsg). on_link l to from)
         (made.links ∙ ap (put_all to (without_first world.links from to)) so.outs
         ∙ answer_put to (without_first world.links from to) from ask (Answer (record { id = ask.id; body = so.body })) so.counts)
         ∙ back_behind world.links from to (Answer (record { id = ask.id; body = so.body })) apart;
-    marks = ap (λ (w : World). w.marks) next_is ∙ made.marks ∙ ap (λ (outs : List Out). world.marks ++ marks_made (world.steps + 1) outs) so.outs;
-    table = λ any. ap (λ (w : World). table_at w any) next_is ∙ ap table_by ((home_moved begun to home acted tells.there).masters any);
+    marks = ap (λ (w : World). w.marks) next_is ∙ lost.marks ∙ ap (λ (w : World). w.marks) all_is ∙ made.marks ∙ ap (λ (outs : List Out). world.marks ++ marks_made (world.steps + 1) outs) so.outs;
+    table = λ any. ap (λ (w : World). table_at w any) next_is ∙ looks_then taken to (From from (Ask ask)) (λ n. table_by (as_master n)) any
+        ∙ ap (λ (w : World). table_at w any) all_is ∙ ap table_by ((home_moved begun to home acted tells.there).masters any);
     done = λ said.
         (let here : is_here ≡ true = sym so.so.done ∙ said in
         (so.so.always here, opened_by (held_at home.home ask.name) refl here));

@@ -3,13 +3,15 @@ use Rattle.std.proofs.Common.{◌≡◌, ℕ, ◌+◌, false, List, [], ◌∷�
 use Rattle.std.specs.Prelude.{All}
 use Rattle.std.proofs.lemmas.List.{append-nil}
 use Rattle.std.proofs.lemmas.List.Elements.{All-append, All-nil}
+use Rattle.front_core.specs.declared.connection.Connection.{Connection}
+use Rattle.front_core.specs.Front.{connection_at}
 use Rattle.imap_types.specs.declared.op.Op.{Op}
 use Rattle.imap_types.specs.declared.op.Op.TheVariants.{Create, Delete}
 use Rattle.cluster_core.specs.Heard.{heard}
 use Rattle.back_node.specs.Takes.{name_kind}
 use Rattle.link_msg.specs.declared.counts.Counts.{Counts}
 use Rattle.link_msg.specs.declared.how.How.{How}
-use Rattle.link_msg.specs.declared.how.How.TheVariants.{Here}
+use Rattle.link_msg.specs.declared.how.How.TheVariants.{Here, Unreached}
 use Rattle.link_msg.specs.declared.message.LinkMsg.{LinkMsg}
 use Rattle.link_msg.specs.declared.out.Out.{Out}
 use Rattle.link_queue.specs.Links.{on_link}
@@ -55,7 +57,8 @@ pub record IsToldAlone (config : Config) (steps : List Event) (made : Mark) : Ty
 pub data IsMadeSo (config : Config) (steps : List Event) (made : Mark) : Type 0 where
   is_taken : (counts : Counts) → made.kind ≡ Home counts → (taken : Taken config steps) → IsStepOf config steps made.ask taken
       → made.step ≡ length taken.before + 1 → IsMadeSo config steps made
-  is_told : (how : How) → made.kind ≡ Told how → (how ≡ Here → IsToldAlone config steps made) → IsMadeSo config steps made
+  is_told : (how : How) → made.kind ≡ Told how → (how ≡ Here → IsToldAlone config steps made)
+      → ((node : List ℕ) → how ≡ Unreached node → IsAtItsNode config steps (made.ask).conn made.step) → IsMadeSo config steps made
 
 no_name : (op : Op) → name_kind op ≡ None → is_of_name op ≡ false
 unfolding is_of_name
@@ -115,25 +118,32 @@ module _ (config : Config) (are : AreNodes config.nodes) (steps : List Event) wh
         (law.nodes.only node master (master_there (node_at world node) master (there ∙ ap (λ i. Some i) at)))) step
     mark_is made _ (of_client input comes of) step (by_home home name ask counts at same none its kind) = absurd (subst IsOfClient same of)
     mark_is made _ (of_client input comes of) step (by_master master name line counts at same its kind) = absurd (subst IsOfClient same of)
-    mark_is made input comes step (by_front front how at kind so) = is_told how kind (λ here. told_alone (so here))
+    mark_is made input comes step (by_front front how at kind so refuses) =
+        is_told how kind (λ here. told_alone (so here)) (λ node unreached. let there = refuses node unreached in its_node there.connection there.at)
       where
+        is_front : node_at world node ≡ Some (state.Front front)
+        is_front = there ∙ ap (λ i. Some i) at
+
+        its_client : (connection : Connection) → connection_at front (made.ask).conn ≡ Some connection → node_of (client_at world (made.ask).conn) ≡ Some node
+        its_client connection has = run_own (start config) before (start_own config) node (state.Front front) is_front (made.ask).conn connection has
+
+        its_node : (connection : Connection) → connection_at front (made.ask).conn ≡ Some connection → IsAtItsNode config steps (made.ask).conn made.step
+        its_node connection has = record {
+          before = before;
+          event = event;
+          later = later;
+          parts = parts;
+          step_is = step;
+          node = node;
+          client = its_client connection has;
+          works = worker_is input comes;
+        }
+
         told_alone : AnswersAlone front made.ask → IsToldAlone config steps made
         told_alone alone =
-            let is_front : node_at world node ≡ Some (state.Front front) = there ∙ ap (λ i. Some i) at in
-            let client : node_of (client_at world (made.ask).conn) ≡ Some node =
-            run_own (start config) before (start_own config) node (state.Front front) is_front (made.ask).conn alone.connection alone.at in
             record {
-              at = record {
-                before = before;
-                event = event;
-                later = later;
-                parts = parts;
-                step_is = step;
-                node = node;
-                client = client;
-                works = worker_is input comes;
-              };
-              alone = record { node = node; front = front; at = is_front; client = client; alone = alone };
+              at = its_node alone.connection alone.at;
+              alone = record { node = node; front = front; at = is_front; client = its_client alone.connection alone.at; alone = alone };
             }
 
   abbrev AllMade : List Mark → Type 0

@@ -9,7 +9,7 @@ use Rattle.std.proofs.lemmas.List.Elements.{All-cons, All-nil, Contains-append_r
 use Rattle.back_links.specs.MasterEvents.{given_in}
 use Rattle.back_node.specs.declared.node.BackNode.{BackNode}
 use Rattle.cluster_core.specs.Headline.Outside.{table_by, table_at}
-use Rattle.cluster_core.specs.World.{master_of, deliver_first, home_at, stepped, steps_by, taken_from_link, takes}
+use Rattle.cluster_core.specs.World.{master_of, comes, deliver_first, home_at, stepped, steps_by, taken_from_link, takes}
 use Rattle.imap_talk.specs.Heard.{Heard}
 use Rattle.link_msg.specs.declared.counts.Counts.{Counts}
 use Rattle.link_msg.specs.declared.counts.Counts.TheVariants.{Always, IfAnswered}
@@ -44,6 +44,7 @@ use Rattle.mur_model.specs.Store.{box_at, without_box}
 use Rattle.mur_model.proofs.BoxGone.{box_gone}
 use Rattle.node_step.specs.declared.input.NodeInput.TheVariants.{From}
 use Rattle.node_step.specs.declared.node.NodeState.TheVariants as state
+use Rattle.node_step.specs.NodeStep.{as_master}
 use Rattle.name_links.specs.Serials.{Given}
 use Rattle.node_record.specs.Table.{MailboxTable, is_mailbox_if, record_at}
 use Rattle.schedule_text.specs.declared.event.Event.TheVariants.{Deliver}
@@ -53,7 +54,10 @@ use Rattle.store_links.proofs.BoxesLaw.{each_is_a_box}
 use Rattle.cluster_core.specs.declared.world.World.{World}
 use Rattle.cluster_core.proofs.Connections.KeepsLaw.{KeepsLaw, murder_of}
 use Rattle.cluster_core.proofs.Nodes.Carried.{is_made, marks_made}
-use Rattle.cluster_core.proofs.Nodes.Comes.{master_comes, master_moved, with_master, wrote}
+use Rattle.cluster_core.proofs.Nodes.AllCome.{all_come, master_all_come}
+use Rattle.cluster_core.proofs.Nodes.Comes.{master_moved, with_master, wrote}
+use Rattle.cluster_core.proofs.Nodes.Then.{looks_then}
+use Rattle.cluster_core.proofs.Nodes.Thins.{comes_thinned}
 use Rattle.cluster_core.proofs.OneServer.Boxes.{table_is}
 use Rattle.cluster_core.proofs.Routing.MasterMarks.{TellsStep, line_marks, marks_of_it}
 
@@ -147,18 +151,24 @@ module _ (config : Config) (heard : ℕ → Heard) (world : World) (law : KeepsL
   abbrev next : World
   next = steps_by world (Deliver from (master_of config))
 
-  next_is : next ≡ with_master begun (master_of config) says
+  next_is : next ≡ comes taken (master_of config) (From from message)
   unfolding takes deliver_first
-  next_is =
-      ap (deliver_first (stepped world) from (master_of config)) first
-      ∙ master_comes taken (master_of config) (From from message) law.master law.whole law.nodes.is_there
+  next_is = ap (deliver_first (stepped world) from (master_of config)) first
+
+  -- where nothing is lost
+  all_is : all_come taken (master_of config) (From from message) ≡ with_master begun (master_of config) says
+  all_is = master_all_come taken (master_of config) (From from message) law.master law.nodes.is_there
 
   marks_are : next.marks ≡ world.marks ++ marks_made (world.steps + 1) says.outs
-  marks_are = ap (λ (w : World). w.marks) next_is ∙ (is_made begun (master_of config) (state.Master says.master) says.outs).marks
+  marks_are =
+      ap (λ (w : World). w.marks) next_is ∙ (comes_thinned taken (master_of config) (From from message)).marks ∙ ap (λ (w : World). w.marks) all_is
+      ∙ (is_made begun (master_of config) (state.Master says.master) says.outs).marks
 
   table_behind : table_at next (master_of config) ≡ says.master.table
   table_behind =
       ap (λ (w : World). table_at w (master_of config)) next_is
+      ∙ looks_then taken (master_of config) (From from message) (λ n. table_by (as_master n)) (master_of config)
+      ∙ ap (λ (w : World). table_at w (master_of config)) all_is
       ∙ ap table_by (master_moved begun (master_of config) law.master says law.nodes.is_there).own
 
   -- the command that is carried out in it

@@ -39,7 +39,7 @@ use Rattle.name_flows.specs.declared.ask.AskKind.{AskKind}
 use Rattle.cluster_core.proofs.Nodes.Carried.{marks_made}
 use Rattle.cluster_core.proofs.Points.Marks.{asks_messages, asks_messages_by, backend_marks_none}
 use Rattle.cluster_core.proofs.Routing.MasterMarks.{TellsStep, line_marks, marks_of_it}
-use Rattle.cluster_core.proofs.Routing.FrontTells.{AnswersAlone, FrontTells, HasBegun, bytes_in_go, connect_goes, hang_goes, message_goes}
+use Rattle.cluster_core.proofs.Routing.FrontTells.{AnswersAlone, FrontTells, HasBegun, HasItsConnection, bytes_in_go, connect_goes, hang_goes, message_goes}
 
 -- which mark a node makes
 pub data MarkIs (it : NodeState) (input : NodeInput) (made : Mark) : Type 0 where
@@ -47,7 +47,8 @@ pub data MarkIs (it : NodeState) (input : NodeInput) (made : Mark) : Type 0 wher
       → name_kind ask.op ≡ None → made.ask ≡ ask.id → made.kind ≡ Home counts → MarkIs it input made
   by_master : (master : Master) (name line : List ℕ) (counts : Counts) → it ≡ state.Master master → input ≡ From name (Line line)
       → line_ask line ≡ Some made.ask → made.kind ≡ Home counts → MarkIs it input made
-  by_front : (front : Front) (how : How) → it ≡ state.Front front → made.kind ≡ Told how → (how ≡ Here → AnswersAlone front made.ask) → MarkIs it input made
+  by_front : (front : Front) (how : How) → it ≡ state.Front front → made.kind ≡ Told how → (how ≡ Here → AnswersAlone front made.ask)
+      → ((node : List ℕ) → how ≡ Unreached node → HasItsConnection front made.ask) → MarkIs it input made
 
 -- no output marks or tells
 abbrev IsMute : Out → Type 0
@@ -96,10 +97,10 @@ module _ (now : ℕ) (front : Front) (input : NodeInput) where
   FrontIs made = MarkIs (state.Front front) input made
 
   told_is : (ask : AskId) (how : How) → FrontTells front (tell ask how) → FrontIs (record { step = now; ask = ask; kind = Told how })
-  told_is ask Here is = by_front front Here refl refl (λ e. is)
-  told_is ask Behind is = by_front front Behind refl refl (λ e. (let no : Behind ≡ Here = e in cc))
-  told_is ask Reserved is = by_front front Reserved refl refl (λ e. (let no : Reserved ≡ Here = e in cc))
-  told_is ask (Unreached node) is = by_front front (Unreached node) refl refl (λ e. (let no : Unreached node ≡ Here = e in cc))
+  told_is ask Here is = by_front front Here refl refl (λ e. is) (λ other e. cc)
+  told_is ask Behind is = by_front front Behind refl refl (λ e. (let no : Behind ≡ Here = e in cc)) (λ other e. cc)
+  told_is ask Reserved is = by_front front Reserved refl refl (λ e. (let no : Reserved ≡ Here = e in cc)) (λ other e. cc)
+  told_is ask (Unreached node) is = by_front front (Unreached node) refl refl (λ e. (let no : Unreached node ≡ Here = e in cc)) (λ other e. is)
 
   outs_have : (outs : List Out) → AllByRecursion (FrontTells front) outs → AllByRecursion (MarkHas now FrontIs) outs
   outs_have [] are = tt

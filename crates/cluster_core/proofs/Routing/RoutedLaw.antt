@@ -22,7 +22,6 @@ use Rattle.mark_history.specs.Marked.{talk_told}
 use Rattle.mark_history.specs.Moments.{GoOn}
 use Rattle.mark_history.proofs.Counted.{TellsPoint, always_lost, always_replied, each_counted, each_told, none_lost, told_points}
 use Rattle.mark_history.proofs.Counted.TellsPoint.{here_replies, here_unreached}
-use Rattle.mark_history.proofs.Reached.{TellsReached}
 use Rattle.mark_history.proofs.MarkLaw.{holds}
 use Rattle.mark_history.proofs.Tally.{command_of, conn_of}
 use Rattle.mark_history.proofs.Tellings.{has_tellings, tells_client}
@@ -43,7 +42,7 @@ use Rattle.cluster_core.specs.Headline.Routing.{AnswersAsk, AreRouted, ChangesMa
 use Rattle.cluster_core.specs.Headline.Routing.CarriesOut.{of_name, where_open}
 use Rattle.cluster_core.specs.Headline.Routing.Does.{carries_out, only_answers}
 use Rattle.cluster_core.specs.Headline.Routing.IsStepOf.{at_home, at_master}
-use Rattle.cluster_core.specs.Headline.Routing.StandsAt.{at_frontend, where_taken}
+use Rattle.cluster_core.specs.Headline.Routing.StandsAt.{at_frontend, not_reached, where_taken}
 use Rattle.cluster_core.specs.History.{history_of}
 use Rattle.cluster_core.specs.Numbers.{NumbersFitAll}
 use Rattle.cluster_core.proofs.Runs.OneNodeLaw.{one_more_step}
@@ -266,7 +265,7 @@ module _ (config : Config) (are : AreNodes config.nodes) (steps : List Event)
     answers = record {
       is_home = served.is_home;
       body = served.body;
-      answers = ap (λ (w : World). on_link w.links taken.to taken.from) (next_is taken.before event taken.later taken.parts) ∙ served.answers;
+      answers = λ reached. ap (λ (w : World). on_link w.links taken.to taken.from) (next_is taken.before event taken.later taken.parts) ∙ served.answers reached;
       where_open = λ said. (served.done said).1;
       is_done = λ opened. is_done opened (says_done served.body) refl;
       point = λ said. always_is its_mark mark_there (ap Home (served.done said).0);
@@ -366,13 +365,12 @@ module _ (config : Config) (are : AreNodes config.nodes) (steps : List Event)
       → StandsAt config steps (point_as made what)
   stands made next what (is_taken counts kind taken works step, there) e =
       where_taken taken works step (does made there next what counts kind e taken step works)
-  stands made next what (is_told how kind so, there) e =
+  stands made next what (is_told how kind so refuses, there) e =
       stands_told (told_points how next what (ap (λ k. counts_as k next) (sym kind) ∙ e))
     where
       stands_told : TellsPoint how what → StandsAt config steps (point_as made what)
       stands_told (here_replies here replies) = at_frontend replies (so here).at (no_step made how there kind (so here))
-      stands_told (here_unreached node unreached is) =
-          absurd (All-contains TellsReached whole.marks made law.is_told.reached there node (kind ∙ ap Told unreached))
+      stands_told (here_unreached node unreached is) = not_reached node is (refuses node unreached)
 
   points_stand : All (StandsAt config steps) (points_of whole.marks)
   points_stand = each_counted MadeHere (StandsAt config steps) stands whole.marks (λ k d h. (all k d h, All-contains_itself whole.marks k d h))
@@ -394,7 +392,7 @@ module _ (config : Config) (are : AreNodes config.nodes) (steps : List Event)
       → StandsAtNoop (point_as made what)
   at_noop made next what (is_taken counts kind taken works step, alone) e replies listed =
       record { taken = taken; at = step; takes = noop_of taken made.ask listed.is_list works }
-  at_noop made next what (is_told how kind so, alone) e replies listed =
+  at_noop made next what (is_told how kind so refuses, alone) e replies listed =
       by (told_points how next what (ap (λ k. counts_as k next) (sym kind) ∙ e))
     where
       by : TellsPoint how what → IsAtItsNoop config steps (point_as made what)

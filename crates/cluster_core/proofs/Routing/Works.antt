@@ -13,6 +13,7 @@ use Rattle.front_core.specs.declared.connection.Connection.{Connection}
 use Rattle.front_core.specs.declared.front.Front.{Front}
 use Rattle.front_core.specs.Front.{connection_at}
 use Rattle.imap_talk.proofs.RequestsOf.{requests_of}
+use Rattle.imap_talk.specs.Transcript.{Stop}
 use Rattle.imap_talk.specs.Heard.{Heard, frames_heard}
 use Rattle.imap_types.specs.declared.command.Command.{Command}
 use Rattle.imap_types.specs.declared.command.Tag.{Tag}
@@ -56,7 +57,7 @@ use Rattle.cluster_core.proofs.OneServer.BackendsLaw.{are_backends}
 use Rattle.cluster_core.proofs.OneServer.NamesHeld.{same_bytes}
 use Rattle.cluster_core.proofs.Points.Acts.{KnowsOf}
 use Rattle.cluster_core.proofs.Points.Found.{IsFoundIn, found_in, in_answer, in_ask, in_line, in_noop, in_ok, in_response}
-use Rattle.cluster_core.proofs.Points.Waits.{IsClientOf, TellsPlace, Whose, closed_lists, closed_waits, each_command_waits, first_tells, its_client, of_command, of_list, open_lists, open_waits, waits_fit}
+use Rattle.cluster_core.proofs.Points.Waits.{IsClientOf, TellsPlace, Whose, ended_lists, ended_waits, each_command_waits, first_tells, its_client, of_command, of_list, open_lists, open_waits, waits_fit}
 use Rattle.cluster_core.proofs.Routing.Begun.{IsBegun}
 use Rattle.cluster_core.proofs.Routing.FrontTells.{begun_at}
 
@@ -89,12 +90,12 @@ data IsAsked (fixed : Fixed) (conn : ℕ) (node : List ℕ) (story : Tale) (requ
       → IsAsked fixed conn node story requests here
   for_names : (at : Barrier) → here ≡ place.is_barred at → IsAsked fixed conn node story requests here
 
-module _ (fixed : Fixed) (conn : ℕ) (node : List ℕ) (connection : Connection) (world : World) (story : Tale) (heard : Heard) (here : Place) where
-  has_begun : Whose fixed conn node connection world story heard here → begun_at connection.stage ≡ 1
-  has_begun (of_command (open_waits bytes e reader given waiting)) = ap begun_at waiting.stage
-  has_begun (of_command (closed_waits bytes e stage lasts given waiting)) = ap begun_at stage
-  has_begun (of_list (open_lists bytes e reader given waiting)) = ap begun_at waiting.stage
-  has_begun (of_list (closed_lists bytes e stage lasts given waiting)) = ap begun_at stage
+module _ (fixed : Fixed) (conn : ℕ) (node : List ℕ) (connection : Connection) (world : World) (story : Tale) (stop : Stop) (heard : Heard) (here : Place) where
+  has_begun : Whose fixed conn node connection world story stop heard here → begun_at connection.stage ≡ 1
+  has_begun (of_command (open_waits bytes silently e reader given waiting)) = ap begun_at waiting.stage
+  has_begun (of_command (ended_waits bytes shut e ended stage lasts given cut waiting)) = ap begun_at stage
+  has_begun (of_list (open_lists bytes silently e reader given waiting)) = ap begun_at waiting.stage
+  has_begun (of_list (ended_lists bytes shut e ended stage lasts given cut waiting)) = ap begun_at stage
 
   barred : {tag : Tag} {it : Listing} {was : Sess} {told said : List Replied} {session : Sess} → KnowsNames tag it was told said session here
       → IsAsked fixed conn node story (requests_of fixed.setting (frames_heard heard)) here
@@ -102,11 +103,11 @@ module _ (fixed : Fixed) (conn : ℕ) (node : List ℕ) (connection : Connection
   barred (is_listed table said was at) = for_names (barrier.answered table) at
 
   asked_so : (front : Front) → IsAt world conn node front connection → connection.answered ≡ length (story.told conn)
-      → Whose fixed conn node connection world story heard here → IsAsked fixed conn node story (requests_of fixed.setting (frames_heard heard)) here
+      → Whose fixed conn node connection world story stop heard here → IsAsked fixed conn node story (requests_of fixed.setting (frames_heard heard)) here
   asked_so front at count (of_command who) =
-      let its = each_command_waits fixed conn node front connection world story heard here at count who in for_mailbox its.tag its.c its.its its.asked its.knows
-  asked_so front at count (of_list (open_lists bytes e reader given waiting)) = barred waiting.knows
-  asked_so front at count (of_list (closed_lists bytes e stage lasts given waiting)) = barred waiting.knows
+      let its = each_command_waits fixed conn node front connection world story stop heard here at count who in for_mailbox its.tag its.c its.its its.asked its.knows
+  asked_so front at count (of_list (open_lists bytes silently e reader given waiting)) = barred waiting.knows
+  asked_so front at count (of_list (ended_lists bytes shut e ended stage lasts given cut waiting)) = barred waiting.knows
 
 -- what its place tells, where nothing is decided there
 module _ (fixed : Fixed) (front : List ℕ) (conn : ℕ) (tag : Tag) (c : ClientCommand) (story : Tale) where

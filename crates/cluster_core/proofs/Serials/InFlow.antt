@@ -10,6 +10,7 @@ use Rattle.front_core.specs.declared.front.Front.{Front}
 use Rattle.home_law.proofs.SameName.{is_the_same}
 use Rattle.imap_talk.specs.Heard.{Heard}
 use Rattle.imap_talk.specs.Transcript.{Stop}
+use Rattle.imap_talk.specs.Transcript.Stop.{is_lost}
 use Rattle.mark_history.specs.Marked.{Tale}
 use Rattle.mupdate_codec.specs.declared.command.MResponse.{MResponse}
 use Rattle.mupdate_codec.specs.declared.command.MResponse.TheVariants as response
@@ -44,9 +45,9 @@ use Rattle.cluster_core.proofs.Commands.Place.{Place, at_backend, Place as place
 use Rattle.cluster_core.proofs.Commands.Standing.{Fixed, next_id}
 use Rattle.cluster_core.proofs.Connections.ConnectionLaw.{IsInPlaceOf}
 use Rattle.cluster_core.proofs.Connections.KeepsLaw.{ConnectionIs, IsAt, KeepsLaw, fixed_of}
-use Rattle.cluster_core.proofs.Connections.KeepsLaw.ConnectionIs.{is_nobody, is_elsewhere, is_open, is_closed}
+use Rattle.cluster_core.proofs.Connections.KeepsLaw.ConnectionIs.{is_nobody, is_elsewhere, is_open, is_cut_off, is_closed}
 use Rattle.cluster_core.proofs.Points.ListWaits.{list_barred}
-use Rattle.cluster_core.proofs.Points.Waits.{CommandWaits, Whose, each_command_waits, of_command, of_list, waits_ended, waits_open}
+use Rattle.cluster_core.proofs.Points.Waits.{CommandWaits, Whose, each_command_waits, of_command, of_list, closed_so, cut_so, waits_ended, waits_open}
 use Rattle.cluster_core.proofs.Serials.Reserved.{IsAmong, among_kept}
 use Rattle.cluster_core.proofs.Steps.Murders.{at_own}
 
@@ -183,13 +184,13 @@ module _ (config : Config) (heard : ℕ → Heard) (world : World) (law : KeepsL
       let here = gone.here in
       let shows = shown here (gone.placed).shows in
       waits_by stop was node front connection here shows at gone.count gone.placed
-      (waits_ended fixed conn node connection world story stop bytes here (not_nowhere server name flow here shows) false (cut_off unanswered) gone.stage_is
+      (waits_ended fixed conn node connection world story bytes here (not_nowhere server name flow here shows) is_lost false (cut_so unanswered) gone.stage_is
       gone.lasts gone.client gone.cut gone.left)
   connection_waits stop was (is_closed _ bytes node front connection at gone) =
       let here = gone.here in
       let shows = shown here (gone.placed).shows in
       waits_by stop was node front connection here shows at gone.count gone.placed
-      (waits_ended fixed conn node connection world story stop bytes here (not_nowhere server name flow here shows) true has_hung gone.stage_is gone.lasts
+      (waits_ended fixed conn node connection world story bytes here (not_nowhere server name flow here shows) _ true (closed_so _) gone.stage_is gone.lasts
       gone.client gone.cut gone.left)
 
   -- ITS CONNECTION'S COMMAND WAITS IN THE FLOW

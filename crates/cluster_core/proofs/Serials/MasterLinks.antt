@@ -3,13 +3,13 @@ use Rattle.std.proofs.Common.{◌≡◌, ◌≢◌, ℕ, ◌&&◌, Bool, true, f
 use Rattle.link_msg.specs.declared.message.LinkMsg.{LinkMsg}
 use Rattle.link_msg.specs.declared.message.LinkMsg.TheVariants.{Up, End}
 use Rattle.link_queue.specs.Broken.{is_broken}
-use Rattle.link_queue.specs.Links.{same_link}
+use Rattle.link_queue.specs.Links.{on_link, same_link}
 use Rattle.link_queue.proofs.Wires.{same_names}
 use Rattle.schedule_text.specs.declared.event.Event.{Event}
 use Rattle.schedule_text.specs.declared.event.Event.TheVariants.{Cut, Join}
 use Rattle.cluster_core.specs.declared.world.World.{World}
 use Rattle.cluster_core.specs.Headline.OneNode.{relinked, relinks, up_on}
-use Rattle.cluster_core.specs.World.{may_join}
+use Rattle.cluster_core.specs.World.{is_nothing, may_join}
 use Rattle.cluster_core.proofs.Runs.NeverMoved.{WorldIsQuiet, cut_apart}
 
 first_true : (one two : Bool) → one && two ≡ true → one ≡ true
@@ -40,7 +40,9 @@ module _ (master to : List ℕ) where
   module _ (world : World) (quiet : WorldIsQuiet master world) where
     joined_is_broken : (one other : List ℕ) → may_join world one other ≡ true → is_broken world.broken one other ≡ true
     unfolding may_join
-    joined_is_broken one other may = first_true (is_broken world.broken one other) _ may
+    joined_is_broken one other may =
+        first_true (is_broken world.broken one other) (is_nothing (on_link world.links one other))
+        (first_true (is_broken world.broken one other && is_nothing (on_link world.links one other)) (is_nothing (on_link world.links other one)) may)
 
     joined_apart : (one other : List ℕ) → is_broken world.broken one other ≡ true → (one ≢ master) × (other ≢ master)
     joined_apart one other cut = (

@@ -78,6 +78,31 @@ module _ (config : Config) (heard : ℕ → Heard) (before : World) (quiet : Wor
   abbrev next : Event → World
   next event = takes world event
 
+  begun_quiet : WorldIsQuiet name world
+  begun_quiet = record { nodes = quiet.nodes; links = quiet.links; whole = quiet.whole }
+
+  -- what the master sends is never lost
+  reserved_then : (all real : World) → real.nodes ≡ all.nodes
+      → ((server : List ℕ) → on_link real.links name server ≡ on_link all.links name server) → (conn : ℕ) → IsReserved name all conn → IsReserved name real conn
+  reserved_then all real nodes links conn is = record {
+    server = is.server;
+    node = is.node;
+    there = ap (λ n. as_back (value_at (slice_cmp nat_cmp) n is.server)) nodes ∙ is.there;
+    name = is.name;
+    flow = is.flow;
+    runs = is.runs;
+    own = is.own;
+    reserved = subst (HasReserved is.name is.flow) (sym (links is.server)) is.reserved;
+  }
+
+  comes_reserved : (there : World) (node : List ℕ) (input : NodeInput) (conn : ℕ) → there.broken ≡ world.broken
+      → IsReserved name (all_come there node input) conn → IsReserved name (comes there node input) conn
+  comes_reserved there node input conn same is =
+      let lost = comes_thinned there node input in
+      reserved_then (all_come there node input) (comes there node input) lost.nodes
+      (λ server. lost.whole name server
+      (ap (λ (b : Broken). is_broken b name server) (all_come_broken there node input (node_at there node) ∙ same) ∙ (quiet.whole server).0)) conn is
+
   -- ---- a command whose RESERVE was answered OK
 
   abbrev Goes : World → ℕ → Type 0
