@@ -1,4 +1,6 @@
 pub mod Stand
+pub mod StandLaw
+pub mod Tells
 pub mod Thinned
 pub mod ThinnedLaw
-pub mod StandLaw
+pub mod Events

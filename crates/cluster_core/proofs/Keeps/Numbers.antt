@@ -20,6 +20,7 @@ use Rattle.mur_model.specs.declared.commands.list.Listing.{Listing}
 use Rattle.mur_model.specs.declared.session.Sess.{Sess}
 use Rattle.point_links.specs.Commands.{ClientCommand}
 use Rattle.route_links.specs.Answered.{IsNumbered}
+use Rattle.imap_talk.specs.Transcript.{Stop}
 use Rattle.imap_wire.specs.Frames.{begun}
 use Rattle.cluster_core.specs.declared.world.World.{World}
 use Rattle.cluster_core.proofs.Commands.Knows.{Knows, KnowsNames, listed_by}
@@ -32,7 +33,7 @@ use Rattle.cluster_core.proofs.Commands.Standing.IsLeft.{left_listing, left_wait
 use Rattle.cluster_core.proofs.Commands.Standing.Stands.{faulted, finished, lists, reads, waits}
 use Rattle.cluster_core.proofs.Connections.BytesCome.{bytes_many, inputs_many, requests_few}
 use Rattle.cluster_core.proofs.Connections.KeepsLaw.{ConnectionIs, IsAt, KeepsLaw, fixed_of}
-use Rattle.cluster_core.proofs.Connections.KeepsLaw.ConnectionIs.{is_nobody, is_elsewhere, is_open, is_closed}
+use Rattle.cluster_core.proofs.Connections.KeepsLaw.ConnectionIs.{is_nobody, is_elsewhere, is_open, is_cut_off, is_closed}
 use Rattle.cluster_core.proofs.Feeds.AnsweredNoops.{HasRoomAt}
 use Rattle.cluster_core.proofs.Points.Waits.{AskedFit}
 use Rattle.cluster_core.specs.Numbers.{HeardFits, NumbersFit}
@@ -81,25 +82,28 @@ module _ (config : Config) (heard : ℕ → Heard) (world : World) (law : KeepsL
       omega (arith, told, said_few conn, ap length so, bytes_many (setting_of config) bytes, its.1) in
       (its.0, few)
 
-  fit_by : (conn : ℕ) (node : List ℕ) (front : Front) (connection : Connection) (was : Heard) → IsAt world conn node front connection
-      → (its : Client) → client_at world conn ≡ Some its → its.at ≡ node → heard conn ≡ was → ConnectionIs (fixed_of config) conn world law.story was
+  fit_by : (conn : ℕ) (node : List ℕ) (front : Front) (connection : Connection) (stop : Stop) (was : Heard) → IsAt world conn node front connection
+      → (its : Client) → client_at world conn ≡ Some its → its.at ≡ node → heard conn ≡ was → ConnectionIs (fixed_of config) conn world law.story stop was
       → IsNumbered (next_id conn (law.story.told conn))
-  fit_by conn node front connection was at its given its_at e (is_nobody none nowhere untold) =
+  fit_by conn node front connection _ was at its given its_at e (is_nobody none nowhere untold) =
       absurd (let no : None ≡ Some its = sym none ∙ given in cc)
-  fit_by conn node front connection was at its given its_at e (is_elsewhere there bytes found none untold) =
+  fit_by conn node front connection _ was at its given its_at e (is_elsewhere there bytes found none untold) =
       absurd (let same : record { at = there; given = bytes } ≡ its = (let both : Some (record { at = there; given = bytes }) ≡ Some its = sym found ∙ given in cc) in
       let here : there ≡ node = ap (λ (c : Client). c.at) same ∙ its_at in
       let no : None ≡ Some front = sym none ∙ ap (front_at world) here ∙ at.at in cc)
-  fit_by conn node front connection was at its given its_at e (is_open bytes there other it is_at reader standing) =
+  fit_by conn node front connection _ was at its given its_at e (is_open bytes there other it is_at reader standing) =
       numbers_by conn bytes false e
       (stands_few (fixed_of config) there conn (law.story.told conn) (law.story.talk.answers conn) (law.story.course.sessions conn) standing.here standing.stands)
-  fit_by conn node front connection was at its given its_at e (is_closed bytes there other it is_at gone) =
+  fit_by conn node front connection _ was at its given its_at e (is_cut_off bytes there other it is_at gone unanswered) =
+      numbers_by conn bytes false e
+      (left_few (fixed_of config) there conn (law.story.told conn) (law.story.talk.answers conn) (law.story.course.sessions conn) gone.here gone.left)
+  fit_by conn node front connection _ was at its given its_at e (is_closed stop bytes there other it is_at gone) =
       numbers_by conn bytes true e
       (left_few (fixed_of config) there conn (law.story.told conn) (law.story.talk.answers conn) (law.story.course.sessions conn) gone.here gone.left)
 
   pub asked_fit : AskedFit world law.story
   asked_fit conn node front connection at its given its_at =
-      fit_by conn node front connection (heard conn) at its given its_at refl (law.connections conn)
+      fit_by conn node front connection (law.stops conn) (heard conn) at its given its_at refl (law.connections conn)
 
 -- ---- numbers left for what waits
 

@@ -1,22 +1,29 @@
 -- WHAT COMES TO A FRONTEND KEEPS THE LAW, where a server that an answer names is a backend.
-use Rattle.std.proofs.Common.{◌≡◌, ◌≢◌, ℕ, ◌<◌, ◌^◌, Bool, true, false, is_some, List, ◌∷◌, length, Option, Some, refl, sym, ◌∙◌, ap, subst}
+use Rattle.std.proofs.Common.{◌≡◌, ◌≢◌, ℕ, ◌<◌, ◌^◌, Bool, true, false, is_some, nat_eq, List, [], ◌∷◌, length, Option, None, Some, refl, sym, ◌∙◌, ap, subst}
 use Rattle.std.proofs.Math.Logic.{⊎_elim}
+use Rattle.std.specs.Cmp.Lexicographic.{pointwise}
+use Rattle.std.specs.List.{AllByRecursion}
+use Rattle.std.specs.Option.{IsSome}
 use Rattle.ask_routes.specs.Barrier.{barrier_answered}
 use Rattle.back_node.specs.declared.node.BackNode.{BackNode}
-use Rattle.cluster_core.specs.World.{master_of, comes, front_at, home_at, taken_from_link}
+use Rattle.cluster_core.specs.World.{master_of, front_at, home_at, taken_from_link}
 use Rattle.feed_links.specs.Lines.{messages_to}
 use Rattle.feed_links.specs.OneFeed.{AreNoops}
+use Rattle.feed_links.proofs.Names.{other_name}
 use Rattle.front_core.specs.declared.connection.Connection.{Connection}
 use Rattle.front_core.specs.declared.connection.Stage.TheVariants.{Ended}
 use Rattle.front_core.specs.declared.front.Front.{Front}
-use Rattle.front_core.specs.Front.{Stepped, connection_at, deliver, still, ways_of}
+use Rattle.front_core.specs.Front.{Stepped, connection_at, deliver, end_from, still, up_from, ways_of, with_up, without_up}
 use Rattle.imap_talk.specs.Heard.{Heard, client}
+use Rattle.imap_talk.specs.Transcript.{Stop}
 use Rattle.link_msg.specs.declared.answer.AnswerBody.{AnswerBody}
 use Rattle.link_msg.specs.declared.answer.AnswerBody.TheVariants as answer
 use Rattle.link_msg.specs.declared.answer.BackAnswer.{BackAnswer}
 use Rattle.link_msg.specs.declared.ask.FrontAsk.{FrontAsk}
 use Rattle.link_msg.specs.declared.message.LinkMsg.{LinkMsg}
 use Rattle.link_msg.specs.declared.message.LinkMsg.TheVariants.{Up, End, Line, Ask, Answer}
+use Rattle.link_msg.specs.declared.out.Out.{Out}
+use Rattle.link_msg.specs.declared.out.Out.TheVariants.{Client as to_client, Close, Link as to_node, Mark as mark, Told as tell}
 use Rattle.link_queue.specs.Links.{on_link}
 use Rattle.many_links.specs.Murder.{Nodes}
 use Rattle.mur_base.specs.declared.point.AskId.{AskId}
@@ -26,16 +33,20 @@ use Rattle.cluster_core.specs.declared.world.World.{World}
 use Rattle.std.proofs.lemmas.Option.{same_Some}
 use Rattle.cluster_core.proofs.Commands.Standing.{Fixed, next_id}
 use Rattle.cluster_core.proofs.Connections.KeepsLaw.{ConnectionIs, IsAt, KeepsLaw, KeepsOn, fixed_of}
-use Rattle.cluster_core.proofs.Connections.KeepsLaw.ConnectionIs.{is_nobody, is_elsewhere, is_open, is_closed}
+use Rattle.cluster_core.proofs.Connections.KeepsLaw.ConnectionIs.{is_nobody, is_elsewhere, is_open, is_cut_off, is_closed}
 use Rattle.cluster_core.proofs.Feeds.AnsweredNoops.{HasRoomAt, IsWellAnswer}
 use Rattle.cluster_core.proofs.Feeds.Apart.{backend_apart, servers_apart}
 use Rattle.cluster_core.proofs.Feeds.DeliveredNoops.{HasNumbers, answer_noops, line_noops}
 use Rattle.cluster_core.proofs.Feeds.Kept.{IsKept, front_answered_kept, front_hears_kept}
 use Rattle.cluster_core.proofs.Feeds.Noops.{AreApart}
-use Rattle.cluster_core.proofs.Nodes.Known.{TellsNoLink}
+use Rattle.cluster_core.proofs.Asking.ServerEnds.{IsForClient, server_ends}
+use Rattle.cluster_core.proofs.Links.Stand.{LinksStand}
+use Rattle.cluster_core.proofs.Nodes.AllCome.{all_come}
+use Rattle.cluster_core.proofs.Nodes.Comes.{master_no_home_at}
 use Rattle.cluster_core.proofs.Places.FrontFirst.{about_ok, answer_tells, none_comes, ok_tells}
 use Rattle.cluster_core.proofs.Places.Stays.{same_name_or}
 use Rattle.cluster_core.proofs.Answers.AnswerComes.{NamesBackend}
+use Rattle.cluster_core.proofs.Answers.Ends.{OwnsClients}
 use Rattle.cluster_core.proofs.Answers.FrontTakes.{MessageNamesBackend, front_takes_keep}
 use Rattle.cluster_core.proofs.Answers.Keeps.{frontend_of}
 use Rattle.cluster_core.proofs.Answers.OtherMessages.{idles}
@@ -45,14 +56,16 @@ use Rattle.cluster_core.specs.Numbers.{HeardFits, NumbersFit}
 -- what the law says of the nodes, the names and the feeds
 pub law_kept : (config : Config) (heard : ℕ → Heard) (world : World) (law : KeepsLaw config heard world)
     → IsKept config world law.master law.given law.story.course.store
-law_kept config heard world law = record { nodes = law.nodes; whole = law.whole; many = law.many; feeds = law.feeds }
+law_kept config heard world law = record { nodes = law.nodes; many = law.many; feeds = law.feeds }
 
-no_link : (nodes : Nodes) (from : List ℕ) (message : LinkMsg) → MessageNamesBackend nodes message → TellsNoLink (From from message)
-no_link nodes from (Answer it) names = tt
-no_link nodes from (Line bytes) names = tt
-no_link nodes from (Ask ask) names = tt
-no_link nodes from Up names = names
-no_link nodes from End names = names
+-- what goes to clients alone
+clients_noops : (node : List ℕ) (outs : List Out) → AllByRecursion IsForClient outs → AreNoops (messages_to node outs)
+clients_noops node [] all = tt
+clients_noops node (to_client conn bytes ∷ outs) all = clients_noops node outs all.1
+clients_noops node (Close conn ∷ outs) all = clients_noops node outs all.1
+clients_noops node (to_node other message ∷ outs) all = absurd all.0
+clients_noops node (mark ask counts ∷ outs) all = absurd all.0
+clients_noops node (tell ask how ∷ outs) all = absurd all.0
 
 module _ (config : Config) (heard : ℕ → Heard) (world : World) (law : KeepsLaw config heard world) (from to : List ℕ) (front : Front)
     (rest : List LinkMsg) (there : front_at world to ≡ Some front) (fits : NumbersFit heard) where
@@ -84,13 +97,13 @@ module _ (config : Config) (heard : ℕ → Heard) (world : World) (law : KeepsL
   ended_room : (connection : Connection) → connection.stage ≡ Ended → HasRoomAt connection connection.stage
   ended_room connection stage = subst (HasRoomAt connection) (sym stage) tt
 
-  answer_numbers : (it : BackAnswer) (was : Heard) → on_link world.links from to ≡ Answer it ∷ rest → heard (it.id).conn ≡ was
-      → ConnectionIs fixed (it.id).conn world law.story was → HasNumbers front (it.id).conn
-  answer_numbers it was first e (is_nobody none fronts untold) =
+  answer_numbers : (it : BackAnswer) (stop : Stop) (was : Heard) → on_link world.links from to ≡ Answer it ∷ rest → heard (it.id).conn ≡ was
+      → ConnectionIs fixed (it.id).conn world law.story stop was → HasNumbers front (it.id).conn
+  answer_numbers it _ was first e (is_nobody none fronts untold) =
       absurd (none_comes fixed.master (home_at world) world.links from to (Answer it) rest (it.id).conn first untold.nothing refl)
-  answer_numbers it was first e (is_elsewhere node given at none untold) =
+  answer_numbers it _ was first e (is_elsewhere node given at none untold) =
       absurd (none_comes fixed.master (home_at world) world.links from to (Answer it) rest (it.id).conn first untold.nothing refl)
-  answer_numbers it was first e (is_open bytes node its connection at reader standing) =
+  answer_numbers it _ was first e (is_open bytes node its connection at reader standing) =
       let conn : ℕ = (it.id).conn in
       let tells = answer_tells fixed.master (home_at world) world.links from to it rest node its.replica (next_id conn (law.story.told conn))
       standing.here (frontend_of config heard world law to front there) first refl standing.placed in
@@ -101,7 +114,15 @@ module _ (config : Config) (heard : ℕ → Heard) (world : World) (law : KeepsL
             (open_has_room fixed node conn bytes connection (law.story.told conn) (law.story.talk.answers conn) (law.story.course.sessions conn) standing.here
             standing.count its_numbers.1 standing.stands);
       }
-  answer_numbers it was first e (is_closed bytes node its connection at gone) =
+  answer_numbers it _ was first e (is_cut_off bytes node its connection at gone unanswered) =
+      let conn : ℕ = (it.id).conn in
+      let tells = answer_tells fixed.master (home_at world) world.links from to it rest node its.replica (next_id conn (law.story.told conn))
+      gone.here (frontend_of config heard world law to front there) first refl gone.placed in
+      record {
+        fits = (its_fits conn bytes false e).0;
+        room = room_of conn node its connection tells.0 at (ended_room connection gone.stage_is);
+      }
+  answer_numbers it _ was first e (is_closed stop bytes node its connection at gone) =
       let conn : ℕ = (it.id).conn in
       let tells = answer_tells fixed.master (home_at world) world.links from to it rest node its.replica (next_id conn (law.story.told conn))
       gone.here (frontend_of config heard world law to front there) first refl gone.placed in
@@ -110,13 +131,13 @@ module _ (config : Config) (heard : ℕ → Heard) (world : World) (law : KeepsL
         room = room_of conn node its connection tells.0 at (ended_room connection gone.stage_is);
       }
 
-  ok_numbers : (bytes : List ℕ) (id : AskId) (was : Heard) → on_link world.links me to ≡ Line bytes ∷ rest → barrier_answered bytes ≡ Some id
-      → heard id.conn ≡ was → ConnectionIs fixed id.conn world law.story was → HasNumbers front id.conn
-  ok_numbers bytes id was first is e (is_nobody none fronts untold) =
+  ok_numbers : (bytes : List ℕ) (id : AskId) (stop : Stop) (was : Heard) → on_link world.links me to ≡ Line bytes ∷ rest → barrier_answered bytes ≡ Some id
+      → heard id.conn ≡ was → ConnectionIs fixed id.conn world law.story stop was → HasNumbers front id.conn
+  ok_numbers bytes id _ was first is e (is_nobody none fronts untold) =
       absurd (none_comes fixed.master (home_at world) world.links me to (Line bytes) rest id.conn first untold.nothing (about_ok bytes id is))
-  ok_numbers bytes id was first is e (is_elsewhere node given at none untold) =
+  ok_numbers bytes id _ was first is e (is_elsewhere node given at none untold) =
       absurd (none_comes fixed.master (home_at world) world.links me to (Line bytes) rest id.conn first untold.nothing (about_ok bytes id is))
-  ok_numbers bytes id was first is e (is_open text node its connection at reader standing) =
+  ok_numbers bytes id _ was first is e (is_open text node its connection at reader standing) =
       let conn : ℕ = id.conn in
       let tells = ok_tells fixed.master (home_at world) world.links to bytes id rest node its.replica (next_id conn (law.story.told conn))
       standing.here (frontend_of config heard world law to front there) first is refl standing.placed in
@@ -127,7 +148,15 @@ module _ (config : Config) (heard : ℕ → Heard) (world : World) (law : KeepsL
             (open_has_room fixed node conn text connection (law.story.told conn) (law.story.talk.answers conn) (law.story.course.sessions conn) standing.here
             standing.count its_numbers.1 standing.stands);
       }
-  ok_numbers bytes id was first is e (is_closed text node its connection at gone) =
+  ok_numbers bytes id _ was first is e (is_cut_off text node its connection at gone unanswered) =
+      let conn : ℕ = id.conn in
+      let tells = ok_tells fixed.master (home_at world) world.links to bytes id rest node its.replica (next_id conn (law.story.told conn))
+      gone.here (frontend_of config heard world law to front there) first is refl gone.placed in
+      record {
+        fits = (its_fits conn text false e).0;
+        room = room_of conn node its connection tells.at at (ended_room connection gone.stage_is);
+      }
+  ok_numbers bytes id _ was first is e (is_closed stop text node its connection at gone) =
       let conn : ℕ = id.conn in
       let tells = ok_tells fixed.master (home_at world) world.links to bytes id rest node its.replica (next_id conn (law.story.told conn))
       gone.here (frontend_of config heard world law to front there) first is refl gone.placed in
@@ -153,53 +182,73 @@ module _ (config : Config) (heard : ℕ → Heard) (world : World) (law : KeepsL
   still_noops : (message : LinkMsg) → from ≢ me → (e : from ≢ front.master → deliver front from message ≡ still front) → Noops message
   still_noops message ne e = subst (λ (s : Stepped). AreNoops (messages_to me s.outs)) (sym (e (λ same. ne (same ∙ master_is)))) tt
 
+  -- a backend isn't the master
+  no_master : IsSome (home_at world from) → from ≢ me
+  no_master home e =
+      (let none : home_at world from ≡ None = ap (home_at world) e ∙ master_no_home_at world me law.master law.nodes.is_there in
+      let no : true ≡ false = sym home ∙ ap is_some none in cc)
+
+  up_by : (same : Bool) → same ≡ false → AreNoops (messages_to me (up_from same (with_up front from)).outs)
+  unfolding up_from
+  up_by false e = tt
+  up_by true e = cc
+
+  up_noops : IsSome (home_at world from) → Noops Up
+  unfolding deliver
+  up_noops home = up_by (pointwise nat_eq from front.master) (other_name from front.master (λ e. no_master home (e ∙ master_is)))
+
+  end_noops : IsSome (home_at world from) → Noops End
+  unfolding deliver
+  end_noops home =
+      clients_noops me (end_from (without_up front from) from).outs (server_ends front from (λ e. no_master home (e ∙ master_is))).outs
+
   ask_noops : (ask : FrontAsk) → Noops (Ask ask)
   unfolding deliver
   ask_noops ask = tt
 
-  noops_by : (message : LinkMsg) → on_link world.links from to ≡ message ∷ rest → MessageNamesBackend (home_at world) message → Noops message
+  noops_by : (message : LinkMsg) → on_link world.links from to ≡ message ∷ rest → MessageNamesBackend (home_at world) from message → Noops message
   noops_by (Answer it) first names =
       subst (λ m. AreNoops (messages_to m (deliver front from (Answer it)).outs)) master_is
-      (answer_noops front apart from it (answer_numbers it (heard (it.id).conn) first refl (law.connections (it.id).conn)) (well_answer it.body names))
+      (answer_noops front apart from it (answer_numbers it (law.stops (it.id).conn) (heard (it.id).conn) first refl (law.connections (it.id).conn)) (well_answer it.body names))
   noops_by (Line bytes) first names = ⊎_elim
       (λ (e : from ≡ me). subst (λ m. AreNoops (messages_to m (deliver front from (Line bytes)).outs)) master_is
       (line_noops front apart from bytes
-      (λ id is. ok_numbers bytes id (heard id.conn) (ap (λ f. on_link world.links f to) (sym e) ∙ first) is refl (law.connections id.conn))))
+      (λ id is. ok_numbers bytes id (law.stops id.conn) (heard id.conn) (ap (λ f. on_link world.links f to) (sym e) ∙ first) is refl (law.connections id.conn))))
       (λ (ne : from ≢ me). still_noops (Line bytes) ne (λ other. idles front from (Line bytes) other other))
       (same_name_or from me)
-  noops_by Up first names = absurd names
-  noops_by End first names = absurd names
+  noops_by Up first names = up_noops names
+  noops_by End first names = end_noops names
   noops_by (Ask ask) first names = ask_noops ask
 
-  kept_by : (message : LinkMsg) → on_link world.links from to ≡ message ∷ rest → MessageNamesBackend (home_at world) message
-      → IsKept config (comes (taken_from_link world from to) to (From from message)) law.master law.given law.story.course.store
+  kept_by : (message : LinkMsg) → on_link world.links from to ≡ message ∷ rest → MessageNamesBackend (home_at world) from message
+      → IsKept config (all_come (taken_from_link world from to) to (From from message)) law.master law.given law.story.course.store
   kept_by message first names =
       let noops = noops_by message first names in
-      let none = no_link (home_at world) from message names in
       ⊎_elim
-      (λ (e : from ≡ me). subst (λ f. IsKept config (comes (taken_from_link world f to) to (From f message)) law.master law.given law.story.course.store) (sym e)
+      (λ (e : from ≡ me). subst (λ f. IsKept config (all_come (taken_from_link world f to) to (From f message)) law.master law.given law.story.course.store) (sym e)
       (front_hears_kept config world law.master law.given law.story.course.store (law_kept config heard world law) to front message rest
-      (subst (λ f. TellsNoLink (From f message)) e none) there (ap (λ f. on_link world.links f to) (sym e) ∙ first)
+      there (ap (λ f. on_link world.links f to) (sym e) ∙ first)
       (subst (λ f. AreNoops (messages_to me (deliver front f message).outs)) e noops)))
       (λ (ne : from ≢ me).
-      front_answered_kept config world law.master law.given law.story.course.store (law_kept config heard world law) from to front message none there ne
+      front_answered_kept config world law.master law.given law.story.course.store (law_kept config heard world law) from to front message there ne
       noops)
       (same_name_or from me)
 
-  keeps_by : (message : LinkMsg) → on_link world.links from to ≡ message ∷ rest → MessageNamesBackend (home_at world) message
-      → KeepsOn config law.story law.stops heard (comes (taken_from_link world from to) to (From from message))
-  keeps_by message first names =
+  keeps_by : LinksStand config world → OwnsClients world to front → (message : LinkMsg) → (message ≡ End → world.broken ≢ []) → on_link world.links from to ≡ message ∷ rest → MessageNamesBackend (home_at world) from message
+      → KeepsOn config law.story law.stops heard (all_come (taken_from_link world from to) to (From from message))
+  keeps_by links owns message cut first names =
       let kept = kept_by message first names in
-      front_takes_keep config heard world law from to front message there (record { rest = rest; first = first; many = kept.many; feeds = kept.feeds })
-      names fits
+      front_takes_keep config heard world law links from to front message there owns (record { rest = rest; first = first; many = kept.many; feeds = kept.feeds })
+      names cut fits
 
 -- A MESSAGE IS DELIVERED TO A FRONTEND
 abbrev pub ToFrontKeeps : Type 0
 ToFrontKeeps = (config : Config) (heard : ℕ → Heard) (world : World) (law : KeepsLaw config heard world) (from to : List ℕ) (front : Front)
     (message : LinkMsg) (rest : List LinkMsg) → front_at world to ≡ Some front → on_link world.links from to ≡ message ∷ rest
-    → MessageNamesBackend (home_at world) message → NumbersFit heard
-    → KeepsOn config law.story law.stops heard (comes (taken_from_link world from to) to (From from message))
+    → LinksStand config world → OwnsClients world to front → (message ≡ End → world.broken ≢ [])
+    → MessageNamesBackend (home_at world) from message → NumbersFit heard
+    → KeepsOn config law.story law.stops heard (all_come (taken_from_link world from to) to (From from message))
 
 pub to_front_keeps : ToFrontKeeps
-to_front_keeps config heard world law from to front message rest there first names fits =
-    keeps_by config heard world law from to front rest there fits message first names
+to_front_keeps config heard world law from to front message rest there first links owns cut names fits =
+    keeps_by config heard world law from to front rest there fits links owns message cut first names

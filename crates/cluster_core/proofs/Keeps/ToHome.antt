@@ -12,12 +12,12 @@ use Rattle.mur_config.specs.declared.config.Config.{Config}
 use Rattle.node_step.specs.declared.input.NodeInput.TheVariants.{From}
 use Rattle.node_step.specs.declared.node.NodeState.TheVariants as state
 use Rattle.cluster_core.specs.declared.world.World.{World}
-use Rattle.cluster_core.specs.World.{comes, home_at, taken_from_link}
+use Rattle.cluster_core.specs.World.{home_at, taken_from_link}
 use Rattle.cluster_core.proofs.Connections.KeepsLaw.{KeepsLaw, KeepsOn}
 use Rattle.cluster_core.proofs.Connections.KeepsStill.{disks_law}
 use Rattle.cluster_core.proofs.Feeds.Beside.{home_keeps_feeds}
-use Rattle.cluster_core.proofs.Nodes.Carried.{is_made}
-use Rattle.cluster_core.proofs.Nodes.Comes.{home_comes, with_home, wrote}
+use Rattle.cluster_core.proofs.Nodes.AllCome.{all_come, home_all_come}
+use Rattle.cluster_core.proofs.Nodes.Comes.{with_home, wrote}
 use Rattle.cluster_core.proofs.Nodes.Stay.{home_keeps_nodes, same_nodes}
 use Rattle.cluster_core.proofs.Points.HomeStep.{StepKeeps, home_step_keeps}
 use Rattle.cluster_core.proofs.Keeps.Numbers.{asked_fit}
@@ -44,8 +44,8 @@ module _ (config : Config) (heard : ℕ → Heard) (world : World) (law : KeepsL
     law = record {
       master = law.master;
       nodes = home_keeps_nodes config took law.master to node acted (same_nodes config world took law.master refl law.nodes) there;
-      whole = (is_made took to (state.Back acted.state) acted.outs).broken ∙ law.whole;
       story = step.later;
+      stops = law.stops;
       given = law.given;
       many = step.many;
       feeds = home_keeps_feeds config world law.master law.nodes law.feeds from to node acted there;
@@ -55,17 +55,17 @@ module _ (config : Config) (heard : ℕ → Heard) (world : World) (law : KeepsL
     };
     more = step.more;
     grows = step.grows;
-    closed = λ conn shut. ap (λ (t : ℕ → List Answer). t conn) step.told;
+    closed = λ conn shut. (ap (λ (t : ℕ → List Answer). t conn) step.told, refl);
   }
 
 -- A MESSAGE IS DELIVERED TO A BACKEND
 abbrev pub ToHomeKeeps : Type 0
 ToHomeKeeps = (config : Config) (heard : ℕ → Heard) (world : World) (law : KeepsLaw config heard world) (from to : List ℕ) (node : BackNode)
     (message : LinkMsg) (rest : List LinkMsg) → home_at world to ≡ Some node → on_link world.links from to ≡ message ∷ rest → NumbersFit heard
-    → KeepsOn config law.story law.stops heard (comes (taken_from_link world from to) to (From from message))
+    → KeepsOn config law.story law.stops heard (all_come (taken_from_link world from to) to (From from message))
 
 pub to_home_keeps : ToHomeKeeps
 to_home_keeps config heard world law from to node message rest there first fits =
     let put : World = wrote world to (state.Back node) (From from message) in
-    subst (λ w. KeepsOn config law.story law.stops heard w) (sym (home_comes (taken_from_link world from to) to (From from message) node law.whole there))
+    subst (λ w. KeepsOn config law.story law.stops heard w) (sym (home_all_come (taken_from_link world from to) to (From from message) node there))
     (keeps config heard put (disks_law config heard world put.disks law) from to node message rest there first fits)

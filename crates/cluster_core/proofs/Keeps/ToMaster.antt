@@ -1,7 +1,7 @@
 -- WHAT COMES TO THE MASTER KEEPS THE LAW, where it comes from a frontend or a backend, and whom the master tells of changes is connected to it.
 use Rattle.std.proofs.Common.{◌≡◌, ◌⊎◌, inl, inr, ℕ, List, ◌∷◌, Some, refl, sym, ◌∙◌, ap, subst}
 use Rattle.back_node.specs.declared.node.BackNode.{BackNode}
-use Rattle.cluster_core.specs.World.{master_of, comes, front_at, home_at, taken_from_link}
+use Rattle.cluster_core.specs.World.{master_of, front_at, home_at, taken_from_link}
 use Rattle.front_core.specs.declared.front.Front.{Front}
 use Rattle.imap_talk.specs.Heard.{Heard}
 use Rattle.imap_types.specs.declared.request.Answer.{Answer}
@@ -19,8 +19,8 @@ use Rattle.cluster_core.proofs.Connections.KeepsLaw.{FeedsHold, KeepsLaw, KeepsO
 use Rattle.cluster_core.proofs.Connections.KeepsStill.{disks_law}
 use Rattle.cluster_core.proofs.Feeds.AtMaster.{master_takes_feeds}
 use Rattle.cluster_core.proofs.Feeds.FrontAsks.{master_asked_feeds}
-use Rattle.cluster_core.proofs.Nodes.Carried.{is_made}
-use Rattle.cluster_core.proofs.Nodes.Comes.{master_comes, with_master, wrote}
+use Rattle.cluster_core.proofs.Nodes.AllCome.{all_come, master_all_come}
+use Rattle.cluster_core.proofs.Nodes.Comes.{with_master, wrote}
 use Rattle.cluster_core.proofs.Nodes.Stay.{master_keeps_nodes, same_nodes}
 use Rattle.cluster_core.proofs.Points.MasterStep.{MasterKeeps, master_step_keeps}
 use Rattle.cluster_core.proofs.Points.Outside.{WatchersAreIts, master_gives_its_own}
@@ -62,8 +62,8 @@ module _ (config : Config) (heard : ℕ → Heard) (world : World) (law : KeepsL
     law = record {
       master = says.master;
       nodes = master_keeps_nodes config took law.master (From from message) (same_nodes config world took law.master refl law.nodes);
-      whole = (is_made took name (state.Master says.master) says.outs).broken ∙ law.whole;
       story = step.later;
+      stops = law.stops;
       given = step.given;
       many = step.many;
       feeds = feeds_by is;
@@ -73,7 +73,7 @@ module _ (config : Config) (heard : ℕ → Heard) (world : World) (law : KeepsL
     };
     more = step.more;
     grows = step.grows;
-    closed = λ conn shut. ap (λ (t : ℕ → List Answer). t conn) step.told;
+    closed = λ conn shut. (ap (λ (t : ℕ → List Answer). t conn) step.told, refl);
   }
 
 -- A MESSAGE IS DELIVERED TO THE MASTER
@@ -81,12 +81,12 @@ abbrev pub ToMasterKeeps : Type 0
 ToMasterKeeps = (config : Config) (heard : ℕ → Heard) (world : World) (law : KeepsLaw config heard world) (from : List ℕ) (message : LinkMsg)
     (rest : List LinkMsg) → on_link world.links from (master_of config) ≡ message ∷ rest → NumbersFit heard → WatchersAreIts config world law.master
     → MovesBy law.story.talk.moving world.steps (node_says law.master from message).master.table → IsOne world from
-    → KeepsOn config law.story law.stops heard (comes (taken_from_link world from (master_of config)) (master_of config) (From from message))
+    → KeepsOn config law.story law.stops heard (all_come (taken_from_link world from (master_of config)) (master_of config) (From from message))
 
 pub to_master_keeps : ToMasterKeeps
 to_master_keeps config heard world law from message rest first fits watchers moves is =
     let name : List ℕ = master_of config in
     let put : World = wrote world name (state.Master law.master) (From from message) in
     subst (λ w. KeepsOn config law.story law.stops heard w)
-    (sym (master_comes (taken_from_link world from name) name (From from message) law.master law.whole law.nodes.is_there))
+    (sym (master_all_come (taken_from_link world from name) name (From from message) law.master law.nodes.is_there))
     (keeps config heard put (disks_law config heard world put.disks law) from message rest first fits watchers moves is)

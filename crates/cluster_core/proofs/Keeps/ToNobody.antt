@@ -1,6 +1,6 @@
 -- WHAT COMES TO A NODE THAT ISN'T THERE KEEPS THE LAW: it is lost.
 use Rattle.std.proofs.Common.{◌≡◌, ◌≢◌, ℕ, List, ◌∷◌, None, Some, refl, sym, ◌∙◌, ap, subst, arith}
-use Rattle.cluster_core.specs.World.{master_of, comes, front_at, home_at, node_at, taken_from_link}
+use Rattle.cluster_core.specs.World.{master_of, front_at, home_at, node_at, taken_from_link}
 use Rattle.front_core.specs.declared.front.Front.{Front}
 use Rattle.imap_talk.specs.Heard.{Heard}
 use Rattle.link_msg.specs.declared.message.LinkMsg.{LinkMsg}
@@ -18,7 +18,7 @@ use Rattle.cluster_core.proofs.Connections.KeepsLaw.{KeepsLaw, KeepsOn, fixed_of
 use Rattle.cluster_core.proofs.Connections.KeepsStill.{SeesAlike, same_client, still_kept}
 use Rattle.cluster_core.proofs.Connections.Stays.{StaysInPlace, same_front}
 use Rattle.cluster_core.proofs.Feeds.Others.{lost_feeds, lost_many, lost_nodes}
-use Rattle.cluster_core.proofs.Nodes.Comes.{none_comes}
+use Rattle.cluster_core.proofs.Nodes.AllCome.{all_come, none_all_come}
 use Rattle.cluster_core.proofs.Steps.Murders.{IsFirstOn}
 use Rattle.cluster_core.proofs.Steps.Nobody.{IsNobody, to_nobody_stays, to_nobody_stays_none}
 use Rattle.cluster_core.proofs.Steps.Worlds.{in_murder, none_in_murder}
@@ -84,14 +84,14 @@ module _ (config : Config) (heard : ℕ → Heard) (world : World) (law : KeepsL
       (lost_many config world law.master law.nodes from to front_none home_none apart law.given law.story.course.store law.many)
       (lost_feeds config world law.master law.nodes from to front_none home_none apart law.feeds)
 
-  comes_so : KeepsOn config law.story law.stops heard (comes next to (From from message))
-  comes_so = subst (λ w. KeepsOn config law.story law.stops heard w) (sym (none_comes next to (From from message) none)) keeps
+  comes_so : KeepsOn config law.story law.stops heard (all_come next to (From from message))
+  comes_so = subst (λ w. KeepsOn config law.story law.stops heard w) (sym (none_all_come next to (From from message) none)) keeps
 
 -- A MESSAGE IS DELIVERED WHERE NO NODE IS
 abbrev pub ToNobodyKeeps : Type 0
 ToNobodyKeeps = (config : Config) (heard : ℕ → Heard) (world : World) (law : KeepsLaw config heard world) (from to : List ℕ) (message : LinkMsg)
     (rest : List LinkMsg) → node_at world to ≡ None → on_link world.links from to ≡ message ∷ rest
-    → KeepsOn config law.story law.stops heard (comes (taken_from_link world from to) to (From from message))
+    → KeepsOn config law.story law.stops heard (all_come (taken_from_link world from to) to (From from message))
 
 pub to_nobody_keeps : ToNobodyKeeps
 to_nobody_keeps config heard world law from to message rest none first = comes_so config heard world law from to message rest none first
