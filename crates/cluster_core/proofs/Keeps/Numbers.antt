@@ -5,6 +5,7 @@ use Rattle.cluster_core.specs.declared.world.Client.{Client}
 use Rattle.front_core.proofs.OneConnection.Readings.{inputs_in}
 use Rattle.front_core.specs.declared.connection.Connection.{Connection}
 use Rattle.front_core.specs.declared.front.Front.{Front}
+use Rattle.imap_talk.specs.Transcript.{Stop}
 use Rattle.imap_talk.specs.Heard.{Heard, client, frames_heard}
 use Rattle.imap_talk.specs.Inputs.{requests_in}
 use Rattle.imap_talk.specs.declared.inputs.Input.{Input}

@@ -9,7 +9,7 @@ use Rattle.cluster_core.specs.World.{start}
 use Rattle.cluster_core.proofs.Links.Stand.{LinksStand}
 
 -- as long as no step cuts a link, none is broken
-pub uncut : (config : Config) (steps : List Event) → HasCut steps ⊎ ((run_steps (start config) steps).broken ≡ [])
+pub uncut : (config : Config) (steps : List Event) → HasCut config steps ⊎ ((run_steps (start config) steps).broken ≡ [])
 uncut config steps = ?
 
 pub links_stand : (config : Config) (steps : List Event) → AreNodes config.nodes → LinksStand config (run_steps (start config) steps)
