@@ -19,6 +19,7 @@ use Rattle.link_queue.specs.Broken.{Broken, breaking, is_broken, mending}
 use Rattle.link_queue.specs.Links.{Links, cut_short, on_link, same_link, sent, without_first}
 use Rattle.link_queue.proofs.BrokenLaws.{is_broken-breaking, is_broken-mending, none_broken}
 use Rattle.link_queue.proofs.Wires.{on_link-cut, on_link-sent, on_link-taken, same_names}
+use Rattle.mur_base.specs.Map.{value_at, with_entry}
 use Rattle.mur_base.proofs.MapLaws.{names_apart, same_or_other, value_at-with_entry, value_at-with_entry-other}
 use Rattle.mur_config.specs.declared.config.Config.{Config}
 use Rattle.mur_config.specs.declared.node.Kind.{Kind}
@@ -42,11 +43,18 @@ use Rattle.cluster_core.proofs.Runs.NotLost.{let_left}
 use Rattle.cluster_core.proofs.Runs.OneNodeLaw.{comes_broken}
 use Rattle.cluster_core.proofs.Runs.OwnNodes.{OfEachNode, comes_of_each}
 use Rattle.cluster_core.proofs.Runs.QuietFlows.{LooksForNone}
-use Rattle.cluster_core.proofs.Runs.QuietNodes.{AnyClient, AreQuietOuts, InputIsQuiet, IsQuietOn, NodeIsFresh, NodeIsQuiet, QuietTo, fresh_is_quiet, outs_quiet, quiet_on, stays_quiet, ups_fresh, ups_outs}
+use Rattle.cluster_core.proofs.Runs.QuietNodes.{AnyClient, AreQuietOuts, InputIsQuiet, IsQuiet, IsQuietOn, NodeIsFresh, NodeIsQuiet, QuietTo, fresh_is_quiet, outs_quiet, quiet_on, stays_quiet, ups_fresh, ups_outs}
 
--- all that is on its way is so
+-- all that is on its way is so, from where and wherever to
+abbrev pub AreAllOn : (List ℕ → List ℕ → LinkMsg → Type 0) → Links LinkMsg → Type 0
+AreAllOn P links = (from to : List ℕ) → AllByRecursion (P from to) (on_link links from to)
+
 abbrev pub AreQuietOn : List ℕ → Links LinkMsg → Type 0
-AreQuietOn master links = (from to : List ℕ) → AllByRecursion (IsQuietOn master from to) (on_link links from to)
+AreQuietOn master links = AreAllOn (IsQuietOn master) links
+
+-- and what nodes say alone
+abbrev pub Said : List ℕ → List ℕ → LinkMsg → Type 0
+Said from to message = IsQuiet message
 
 -- ---- what a node lets out
 
@@ -60,29 +68,28 @@ unfolding given_more
 given_links world conn bytes None = refl
 given_links world conn bytes (Some client) = refl
 
-module _ (master : List ℕ) where
-  carry_quiet : (marks : Type 0) (node : List ℕ) (world : World) (out : Out) → IsLetOut AnyClient QuietTo marks out → AreQuietOn master world.links
-      → AreQuietOn master (carry node world out).links
+module _ (P : List ℕ → List ℕ → LinkMsg → Type 0) (said : (from to : List ℕ) (message : LinkMsg) → IsQuiet message → P from to message) where
+  carry_quiet : (marks : Type 0) (node : List ℕ) (world : World) (out : Out) → IsLetOut AnyClient QuietTo marks out → AreAllOn P world.links
+      → AreAllOn P (carry node world out).links
   unfolding carry
-  carry_quiet marks node world (to_client conn bytes) is on = subst (AreQuietOn master) (sym (given_links world conn bytes (client_at world conn))) on
+  carry_quiet marks node world (to_client conn bytes) is on = subst (AreAllOn P) (sym (given_links world conn bytes (client_at world conn))) on
   carry_quiet marks node world (Close conn) is on = on
   carry_quiet marks node world (mark_out ask counts) is on = on
   carry_quiet marks node world (tell ask how) is on = on
   carry_quiet marks node world (to_node other message) is on = λ from to.
-      subst (AllByRecursion (IsQuietOn master from to)) (sym (on_link-sent world.links node other from to message))
-      (one_more (IsQuietOn master from to) (on_link world.links from to) message (same_link from to node other)
-      (λ _. quiet_on master from to message is) (on from to))
+      subst (AllByRecursion (P from to)) (sym (on_link-sent world.links node other from to message))
+      (one_more (P from to) (on_link world.links from to) message (same_link from to node other) (λ _. said from to message is) (on from to))
 
-  carry_all_quiet : (marks : Type 0) (node : List ℕ) (world : World) (outs : List Out) → AreQuietOuts marks outs → AreQuietOn master world.links
-      → AreQuietOn master (carry_all node world outs).links
+  carry_all_quiet : (marks : Type 0) (node : List ℕ) (world : World) (outs : List Out) → AreQuietOuts marks outs → AreAllOn P world.links
+      → AreAllOn P (carry_all node world outs).links
   unfolding carry_all
   carry_all_quiet marks node world [] are on = on
   carry_all_quiet marks node world (out ∷ outs) are on =
       carry_all_quiet marks node (carry node world out) outs are.1 (carry_quiet marks node world out are.0 on)
 
   comes_links : (world : World) (node : List ℕ) (input : NodeInput) (found : Option NodeState)
-      → ((it : NodeState) → found ≡ Some it → AreQuietOuts (MayMark it) (node_takes it input).outs) → AreQuietOn master world.links
-      → AreQuietOn master (comes_to world node input found).links
+      → ((it : NodeState) → found ≡ Some it → AreQuietOuts (MayMark it) (node_takes it input).outs) → AreAllOn P world.links
+      → AreAllOn P (comes_to world node input found).links
   unfolding comes_to
   comes_links world node input None lets on = on
   comes_links world node input (Some it) lets on =
@@ -99,6 +106,22 @@ pub record WorldIsQuiet (master : List ℕ) (world : World) : Type 0 where
   pub nodes : OfEachNode (NodeIsQuiet master) world
   pub links : AreQuietOn master world.links
   pub whole : AreWhole master world.broken
+  -- before any link breaks nothing tells of one
+  pub calm : world.broken ≡ [] → AreAllOn Said world.links
+
+-- behind a link that breaks, or comes up, something is noted
+some_entry : {X : Type 0} (es : List (List ℕ × X)) (k : List ℕ) (v : X) → with_entry (slice_cmp nat_cmp) es k v ≢ []
+some_entry {X} es k v none =
+    let found : Some v ≡ None = sym (value_at-with_entry (slice_cmp nat_cmp) names_apart es k v) ∙ ap (λ l. value_at (slice_cmp nat_cmp) l k) none in
+    cc
+
+pub some_break : (broken : Broken) (one other : List ℕ) → breaking broken one other ≢ []
+unfolding breaking
+some_break broken one other = some_entry broken one _
+
+pub some_mend : (broken : Broken) (one other : List ℕ) → mending broken one other ≢ []
+unfolding mending
+some_mend broken one other = some_entry broken one _
 
 -- a link that breaks isn't the master's
 parted_apart : (master one other : List ℕ) (it another : NodeState) → NodeIsQuiet master one it → NodeIsQuiet master other another
@@ -150,7 +173,11 @@ module _ (master : List ℕ) where
   comes_quiet world node input is quiet = record {
     nodes = comes_of_each (NodeIsQuiet master) world node input (node_at world node) refl quiet.nodes
         (λ it there. stays_quiet master node it input (quiet.nodes node it there) is);
-    links = comes_links master world node input (node_at world node) (λ it there. outs_quiet master node it input (quiet.nodes node it there) is) quiet.links;
+    links = comes_links (IsQuietOn master) (quiet_on master) world node input (node_at world node)
+        (λ it there. outs_quiet master node it input (quiet.nodes node it there) is) quiet.links;
+    calm = λ none. comes_links Said (λ from to message said. said) world node input (node_at world node)
+        (λ it there. outs_quiet master node it input (quiet.nodes node it there) is)
+        (quiet.calm (sym (comes_broken world node input (node_at world node)) ∙ none));
     whole = subst (AreWhole master) (sym (comes_broken world node input (node_at world node))) quiet.whole;
   }
 
@@ -159,7 +186,7 @@ module _ (master : List ℕ) where
   unfolding opens
   opens_quiet world node conn (Some there) quiet = quiet
   opens_quiet world node conn None quiet =
-      comes_quiet (with_client world node conn) node (Opened conn) tt (record { nodes = quiet.nodes; links = quiet.links; whole = quiet.whole })
+      comes_quiet (with_client world node conn) node (Opened conn) tt (record { nodes = quiet.nodes; links = quiet.links; whole = quiet.whole; calm = quiet.calm })
 
   data_quiet : (world : World) (conn : ℕ) (bytes : List ℕ) (found : Option Client) → WorldIsQuiet master world
       → WorldIsQuiet master (client_does world (Piece conn bytes) found)
@@ -181,11 +208,20 @@ module _ (master : List ℕ) where
   either_queue P one other true here all = here refl
   either_queue P one other false here all = all
 
-  taken_quiet : (links : Links LinkMsg) (from to : List ℕ) → AreQuietOn master links → AreQuietOn master (without_first links from to)
-  taken_quiet links from to on = λ a b.
-      subst (AllByRecursion (IsQuietOn master a b)) (sym (on_link-taken links from to a b))
-      (either_queue (IsQuietOn master a b) (drop 1 (on_link links a b)) (on_link links a b) (same_link a b from to)
-      (λ _. behind_first (IsQuietOn master a b) (on_link links a b) (on a b)) (on a b))
+  taken_all : (P : List ℕ → List ℕ → LinkMsg → Type 0) (links : Links LinkMsg) (from to : List ℕ) → AreAllOn P links
+      → AreAllOn P (without_first links from to)
+  taken_all P links from to on = λ a b.
+      subst (AllByRecursion (P a b)) (sym (on_link-taken links from to a b))
+      (either_queue (P a b) (drop 1 (on_link links a b)) (on_link links a b) (same_link a b from to)
+      (λ _. behind_first (P a b) (on_link links a b) (on a b)) (on a b))
+
+  pub taken_quiet : (world : World) (from to : List ℕ) → WorldIsQuiet master world → WorldIsQuiet master (taken_from_link world from to)
+  taken_quiet world from to quiet = record {
+    nodes = quiet.nodes;
+    links = taken_all (IsQuietOn master) world.links from to quiet.links;
+    whole = quiet.whole;
+    calm = λ none. taken_all Said world.links from to (quiet.calm none);
+  }
 
   deliver_quiet : (world : World) (from to : List ℕ) (queue : List LinkMsg) → on_link world.links from to ≡ queue → WorldIsQuiet master world
       → WorldIsQuiet master (deliver_first world from to queue)
@@ -193,7 +229,7 @@ module _ (master : List ℕ) where
   deliver_quiet world from to [] first quiet = quiet
   deliver_quiet world from to (message ∷ rest) first quiet =
       comes_quiet (taken_from_link world from to) to (From from message) (subst (AllByRecursion (IsQuietOn master from to)) first (quiet.links from to)).0
-      (record { nodes = quiet.nodes; links = taken_quiet world.links from to quiet.links; whole = quiet.whole })
+      (taken_quiet world from to quiet)
 
   -- a link breaks
 
@@ -245,6 +281,7 @@ module _ (master : List ℕ) where
         nodes = quiet.nodes;
         links = short_quiet (cut_short world.links one other k End) other one l apart.1 apart.0 (short_quiet world.links one other k apart.0 apart.1 quiet.links);
         whole = breaks_whole (breaking world.broken one other) other one apart.1 apart.0 (breaks_whole world.broken one other apart.0 apart.1 quiet.whole);
+        calm = λ none. absurd (some_break (breaking world.broken one other) other one none);
       }
   cut_quiet world one other k l false e quiet = quiet
 
@@ -272,6 +309,7 @@ module _ (master : List ℕ) where
         nodes = quiet.nodes;
         links = sent_quiet (sent world.links one other Up) other one apart.1 apart.0 (sent_quiet world.links one other apart.0 apart.1 quiet.links);
         whole = mends_whole (mending world.broken one other) other one (mends_whole world.broken one other quiet.whole);
+        calm = λ none. absurd (some_mend (mending world.broken one other) other one none);
       }
   join_quiet world one other false e quiet = quiet
 
@@ -289,7 +327,7 @@ module _ (master : List ℕ) where
 
   -- each step keeps it
   pub step_quiet : (world : World) (event : Event) → WorldIsQuiet master world → WorldIsQuiet master (steps_by world event)
-  step_quiet world event quiet = takes_quiet (stepped world) event (record { nodes = quiet.nodes; links = quiet.links; whole = quiet.whole })
+  step_quiet world event quiet = takes_quiet (stepped world) event (record { nodes = quiet.nodes; links = quiet.links; whole = quiet.whole; calm = quiet.calm })
 
   run_quiet : (world : World) (steps : List Event) → WorldIsQuiet master world → WorldIsQuiet master (run_steps world steps)
   unfolding run_steps
@@ -298,9 +336,14 @@ module _ (master : List ℕ) where
 
 -- ---- the start
 
+each_said : (P : LinkMsg → Type 0) → ((message : LinkMsg) → IsQuiet message → P message) → (queue : List LinkMsg) → AllByRecursion IsQuiet queue
+    → AllByRecursion P queue
+each_said P said [] all = tt
+each_said P said (message ∷ queue) all = (said message all.0, each_said P said queue all.1)
+
 record WorldIsFresh (master : List ℕ) (world : World) : Type 0 where
   nodes : OfEachNode (NodeIsFresh master) world
-  links : AreQuietOn master world.links
+  links : AreAllOn Said world.links
   broken : world.broken ≡ []
 
 module _ (config : Config) (are : AreNodes config.nodes) where
@@ -354,7 +397,7 @@ module _ (config : Config) (are : AreNodes config.nodes) where
   ups_are_fresh world (link ∷ links) fresh = ups_are_fresh (told_up world link) links (record {
     nodes = comes_of_each (NodeIsFresh master) world link.to (From link.from Up) (node_at world link.to) refl fresh.nodes
         (λ it there. ups_fresh master link.to it link.from (fresh.nodes link.to it there));
-    links = comes_links master world link.to (From link.from Up) (node_at world link.to)
+    links = comes_links Said (λ from to message said. said) world link.to (From link.from Up) (node_at world link.to)
         (λ it there. ups_outs master link.to it link.from (fresh.nodes link.to it there)) fresh.links;
     broken = comes_broken world link.to (From link.from Up) (node_at world link.to) ∙ fresh.broken;
   })
@@ -370,7 +413,8 @@ module _ (config : Config) (are : AreNodes config.nodes) where
       (nodes_fresh no_world config.nodes (All-contains_itself config.nodes) nothing_yet) in
       record {
         nodes = λ node it there. fresh_is_quiet master node it (fresh.nodes node it there);
-        links = fresh.links;
+        links = λ from to. each_said (IsQuietOn master from to) (quiet_on master from to) (on_link (start config).links from to) (fresh.links from to);
+        calm = λ _. fresh.links;
         whole = subst (AreWhole master) (sym fresh.broken) (λ node. (none_broken master node, none_broken node master));
       }
 

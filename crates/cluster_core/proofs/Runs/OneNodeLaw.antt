@@ -278,6 +278,20 @@ comes_broken world node input None = refl
 comes_broken world node input (Some it) =
     (carry_all_sends node (with_acted world node (node_takes it input)) (not_lost world.broken node (node_takes it input).outs)).broken
 
+-- on a broken link stands what stood there
+pub comes_lost : (world : World) (node : List ℕ) (input : NodeInput) (found : Option NodeState) (from to : List ℕ) → is_broken world.broken from to ≡ true
+    → on_link (comes_to world node input found).links from to ≡ on_link world.links from to
+unfolding comes_to
+comes_lost world node input None from to is = refl
+comes_lost world node input (Some it) from to is =
+    let acted = node_takes it input in
+    ⊎_elim
+    (λ (e : from ≡ node).
+    subst (λ f. on_link (carry_all node (with_acted world node acted) (not_lost world.broken node acted.outs)).links f to ≡ on_link world.links f to) (sym e)
+    (all_kept node (with_acted world node acted) world.broken acted.outs to (subst (λ f. is_broken world.broken f to ≡ true) e is)))
+    (λ (ne : from ≢ node). (carry_all_sends node (with_acted world node acted) (not_lost world.broken node acted.outs)).others from to ne)
+    (same_or_other (slice_cmp nat_cmp) names_apart from node)
+
 -- a client that is connected stays where it is
 joined_before : (node : List ℕ) (conn other : ℕ) (at : Option (List ℕ)) → (at ≡ None → other ≢ conn) → at ≡ connected (Open node conn) other at
 joined_before node conn other (Some there) ne = refl
@@ -456,3 +470,14 @@ one_more_step world (first ∷ before) event = one_more_step (steps_by world fir
 pub one_node_each : (world : World) (steps : List Event) → OneNodeWorksEach world steps
 one_node_each world steps before event later parts =
     subst (λ w. OneNodeWorks event (run_steps world before) w) (sym (one_more_step world before event)) (one_node_works (run_steps world before) event)
+
+-- ---- where no link breaks or comes up
+
+broken_by : (event : Event) (at : Option (List ℕ)) (before after : World) → WorksBy event at before after → relinks before event ≡ false
+    → after.broken ≡ before.broken
+broken_by event (Some node) before after works none = works.broken
+broken_by event None before after works none =
+    ap (λ (w : World). w.broken) (subst (λ changes. ChangesLinks changes event before after) none works)
+
+pub same_broken : (world : World) (event : Event) → relinks world event ≡ false → (steps_by world event).broken ≡ world.broken
+same_broken world event none = broken_by event (worker world event) world (steps_by world event) (one_node_works world event).works none
