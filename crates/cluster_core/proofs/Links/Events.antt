@@ -1,230 +1,181 @@
--- A LINK BREAKS OR COMES UP. What is put on links is about nobody, so each command is where it was; then messages on the links that broke are gone. As a link comes up no
--- command waits for an answer over it.
-use Rattle.std.proofs.Common.{◌≡◌, ◌≢◌, ◌&&◌, ◌||◌, ℕ, nat_eq, Bool, true, false, not, cond, is_some, List, [], ◌∷◌, ◌++◌, drop, take, Option, None, Some, refl, sym, ◌∙◌, ap, subst}
-use Rattle.std.proofs.lemmas.Option.{same_Some}
-use Rattle.std.specs.Ordering.{is_eq, nat_cmp}
-use Rattle.std.specs.Cmp.Lexicographic.{pointwise, slice_cmp}
-use Rattle.asking_core.specs.declared.waiting.At.{At}
-use Rattle.asking_core.specs.declared.waiting.At.TheVariants.{Home}
-use Rattle.cluster_core.specs.World.{client_at, cuts_if, front_at, home_at, is_nothing, joins_if, master_of, may_cut, may_join, setting_of, with_cut, with_join}
+-- A LINK BREAKS: End stands behind all that was on its way on both, which is about nobody; and then messages on them are gone.
+use Rattle.std.proofs.Common.{◌≡◌, ◌≢◌, ◌&&◌, ◌||◌, ℕ, Bool, true, false, not, cond, List, [], ◌∷◌, ◌++◌, take, None, Some, refl, sym, ◌∙◌, ap, subst, append-nil}
+use Rattle.std.specs.Ordering.{nat_cmp}
+use Rattle.std.specs.Cmp.Lexicographic.{slice_cmp}
+use Rattle.cluster_core.specs.World.{cuts_if, is_nothing, master_of, may_cut, with_cut}
 use Rattle.cluster_core.specs.declared.world.World.{World}
-use Rattle.feed_core.specs.declared.replica.Replica.{Replica}
-use Rattle.feed_links.proofs.Names.{same_name}
-use Rattle.front_core.proofs.OneConnection.Places.{PlacesStay as MessagesStay, nobody_whom, of_connection, others_sent}
-use Rattle.front_core.proofs.OneConnection.Readings.{inputs_in}
-use Rattle.front_core.specs.Front.{connection_at, waits_for}
-use Rattle.front_core.specs.Stages.{asks_at, has_asked}
-use Rattle.front_core.specs.declared.connection.Connection.{Connection}
-use Rattle.front_core.specs.declared.front.Front.{Front}
+use Rattle.front_core.proofs.OneConnection.Places.{PlacesStay as MessagesStay, about, nobody_whom, of_connection, of_nobody, others_sent}
 use Rattle.imap_talk.specs.Heard.{Heard}
-use Rattle.imap_talk.specs.Transcript.{Stop}
-use Rattle.imap_talk.specs.Transcript.Stop.{is_lost}
-use Rattle.imap_talk.specs.declared.inputs.Input.{Input}
-use Rattle.imap_types.specs.declared.request.Answer.{Answer}
-use Rattle.imap_wire.specs.Frames.{begun}
 use Rattle.link_msg.specs.declared.message.LinkMsg.{LinkMsg}
-use Rattle.link_msg.specs.declared.message.LinkMsg.TheVariants.{End, Up}
+use Rattle.link_msg.specs.declared.message.LinkMsg.TheVariants.{End}
 use Rattle.link_queue.specs.Broken.{Broken, breaking, is_broken, mending}
 use Rattle.link_queue.specs.Links.{Links, cut_short, on_link, same_link, sent}
-use Rattle.link_queue.proofs.BrokenLaws.{is_broken-breaking, is_broken-mending}
-use Rattle.link_queue.proofs.Wires.{on_link-cut, on_link-sent, same_names}
-use Rattle.many_links.specs.ManyHold.{ManyHold}
-use Rattle.many_links.proofs.FrontLaw.{alike_hold}
-use Rattle.mark_history.specs.Marked.{Tale, talk_told}
-use Rattle.master_core.specs.declared.master.Master.{Master}
-use Rattle.mur_base.specs.Map.{value_at}
-use Rattle.mur_base.specs.declared.point.AskId.{AskId}
+use Rattle.link_queue.proofs.BrokenLaws.{is_broken-breaking}
+use Rattle.link_queue.proofs.Wires.{on_link-cut, on_link-sent}
+use Rattle.mur_base.specs.Map.{value_at, with_entry}
+use Rattle.mur_base.proofs.MapLaws.{names_apart, value_at-with_entry}
 use Rattle.mur_config.specs.declared.config.Config.{Config}
-use Rattle.mur_model.specs.declared.session.Sess.{Sess}
-use Rattle.mur_model.proofs.HistoryGrows.{same_talk}
-use Rattle.node_step.specs.NodeStep.{as_back, as_front}
-use Rattle.cluster_core.proofs.Commands.AllReached.{AreMarkedSo, relinked}
-use Rattle.cluster_core.proofs.Commands.InPlace.{IsInNone, IsInPlace}
-use Rattle.cluster_core.proofs.Commands.Place.{Place, Place as place}
-use Rattle.cluster_core.proofs.Commands.Standing.{Fixed, Stands, Waiting, next_id}
-use Rattle.cluster_core.proofs.Connections.ConnectionLaw.{IsDroppedAt, IsInNoneOf, IsInPlaceOf, IsMarkedAt, IsStanding, says_same}
-use Rattle.cluster_core.proofs.Connections.KeepsLaw.{ConnectionIs, FeedsHold, IsAt, IsGone, IsUntold, KeepsLaw, KeepsOn, fixed_of, murder_of}
-use Rattle.cluster_core.proofs.Connections.KeepsLaw.ConnectionIs.{is_nobody, is_elsewhere, is_open, is_cut_off, is_closed}
-use Rattle.cluster_core.proofs.Feeds.Beside.{still_fed, still_feeds}
-use Rattle.cluster_core.proofs.Links.Stand.{IsDown, LinksStand}
-use Rattle.cluster_core.proofs.Links.Thinned.{IsPart, IsThinned, all_of, first_of, part_and}
-use Rattle.cluster_core.proofs.Links.ThinnedLaw.{BreaksApart, breaks_apart, thinned_keeps}
-use Rattle.cluster_core.proofs.Nodes.Stay.{same_nodes}
-use Rattle.cluster_core.proofs.Places.FrontWorlds.{in_none_alike, in_place_alike}
-use Rattle.cluster_core.proofs.Places.Stays.{HomesAlike, KeepsPlaces, keeps_by}
+use Rattle.cluster_core.proofs.Connections.KeepsLaw.{KeepsLaw, KeepsOn}
+use Rattle.cluster_core.proofs.Connections.KeepsStill.{same_kept}
+use Rattle.cluster_core.proofs.Links.Stand.{LinksStand}
+use Rattle.cluster_core.proofs.Links.Thinned.{IsPart, IsThinned, all_of, first_of, first_part, part_and}
+use Rattle.cluster_core.proofs.Links.ThinnedLaw.{breaks_apart, thinned_keeps}
+use Rattle.cluster_core.proofs.Links.Relinked.{Relinks, relinked_keeps}
 
--- ---- other links are broken, and more stands on links that is about nobody
+-- ---- which links are broken then
 
-pub record Relinks (me : List ℕ) (world next : World) : Type 0 where
-  pub nodes : next.nodes ≡ world.nodes
-  pub clients : next.clients ≡ world.clients
-  pub marks : next.marks ≡ world.marks
-  pub steps : next.steps ≡ world.steps
-  pub messages : (conn : ℕ) → MessagesStay (of_connection conn) world.links next.links
-  pub up : (any : List ℕ) → on_link next.links any me ≡ on_link world.links any me
-  pub down : (any : List ℕ) → on_link next.links me any ≡ on_link world.links me any
-  -- a link that was ever cut
-  pub cut : next.broken ≡ [] → world.broken ≡ []
-  -- whose command waits for a server over a link that is broken
-  pub dropped : (conn : ℕ) (node server : List ℕ) (front : Front) → front_at world node ≡ Some front → waits_for (connection_at front conn) server ≡ true
-      → is_broken world.broken server node ≡ true → is_broken next.broken server node ≡ true
+no_entry : {V : Type 0} (entries : List (List ℕ × V)) (node : List ℕ) (value : V) → with_entry (slice_cmp nat_cmp) entries node value ≡ [] → ⊥
+no_entry entries node value e =
+    (let no : None ≡ Some value = sym (ap (λ l. value_at (slice_cmp nat_cmp) l node) e) ∙ value_at-with_entry (slice_cmp nat_cmp) names_apart entries node value in cc)
 
--- a command that is dropped waits for its server
-dropped_waits : (fixed : Fixed) (front : List ℕ) (conn : ℕ) (inputs : List Input) (held : Option (List ℕ)) (connection : Connection) (told said : List Answer)
-    (session : Sess) (server : List ℕ) (here : Place) → here ≡ place.is_dropped server → Stands fixed front conn inputs held connection told said session here
-    → has_asked connection.stage server ≡ true
-unfolding has_asked
-dropped_waits fixed front conn inputs held connection told said session server here e (Stands.waits waiting) = ?waits
-dropped_waits fixed front conn inputs held connection told said session server here e (Stands.lists listing) = ?lists
-dropped_waits fixed front conn inputs held connection told said session server here e (Stands.reads a b c d f g at) =
-    (let no : place.is_dropped server ≡ place.nowhere = sym e ∙ at in cc)
-dropped_waits fixed front conn inputs held connection told said session server here e (Stands.faulted a b c d f at) =
-    (let no : place.is_dropped server ≡ place.nowhere = sym e ∙ at in cc)
-dropped_waits fixed front conn inputs held connection told said session server here e (Stands.finished passed more request before last a b c d f g at) =
-    (let no : place.is_dropped server ≡ place.nowhere = sym e ∙ at in cc)
+-- behind a cut there is an entry, and so there is once the link is whole again
+pub breaks_some : (broken : Broken) (one other : List ℕ) → breaking broken one other ≡ [] → ⊥
+unfolding breaking
+breaks_some broken one other e = no_entry broken one _ e
 
-module _ (config : Config) (heard : ℕ → Heard) (world next : World) (is : Relinks (master_of config) world next) (law : KeepsLaw config heard world) where
-  abbrev me : List ℕ
-  me = master_of config
+pub mends_some : (broken : Broken) (one other : List ℕ) → mending broken one other ≡ [] → ⊥
+unfolding mending
+mends_some broken one other e = no_entry broken one _ e
 
-  abbrev fixed : Fixed
-  fixed = fixed_of config
+pub or_parts : (one two three : Bool) → (one || (two || three)) ≡ false → (one ≡ false) × (two ≡ false) × (three ≡ false)
+or_parts false false three e = (refl, refl, e)
+or_parts false true three e = cc
+or_parts true two three e = cc
 
-  homes : (any : List ℕ) → home_at next any ≡ home_at world any
-  homes any = ap (λ n. as_back (value_at (slice_cmp nat_cmp) n any)) is.nodes
+pub or_last : (one two three : Bool) → three ≡ true → (one || (two || three)) ≡ true
+or_last true two three e = refl
+or_last false true three e = refl
+or_last false false three e = e
 
-  fronts : (any : List ℕ) → front_at next any ≡ front_at world any
-  fronts any = ap (λ n. as_front (value_at (slice_cmp nat_cmp) n any)) is.nodes
+pub and_parts : (one two three : Bool) → (one && two && three) ≡ true → (one ≡ true) × (two ≡ true) × (three ≡ true)
+and_parts true true three e = (refl, refl, e)
+and_parts true false three e = cc
+and_parts false two three e = cc
 
-  clients : (conn : ℕ) → client_at next conn ≡ client_at world conn
-  clients conn = ap (λ c. value_at nat_cmp c conn) is.clients
+pub none_there : (queue : List LinkMsg) → is_nothing queue ≡ true → queue ≡ []
+unfolding is_nothing
+none_there [] e = refl
+none_there (message ∷ queue) e = cc
 
-  alike : HomesAlike me (home_at world) world.links next.links
-  alike = λ name node at. (is.up name, is.down name)
+-- ---- what is put on both
 
-  keeps : (conn : ℕ) → KeepsPlaces me (home_at world) conn world.links next.links
-  keeps conn = keeps_by me (home_at world) conn world.links next.links (is.messages conn) alike (λ front replica command at was. ?barrier)
+module _ (links : Links LinkMsg) (one other : List ℕ) (message : LinkMsg) where
+  abbrev pub both : Links LinkMsg
+  both = sent (sent links one other message) other one message
 
-  placed_then : (front : List ℕ) (replica : Replica) (conn command : ℕ) (here : Place)
-      → IsInPlaceOf fixed world front replica (record { conn = conn; command = command }) here
-      → IsInPlaceOf fixed next front replica (record { conn = conn; command = command }) here
-  placed_then front replica conn command here placed =
-      in_place_alike (home_at world) (home_at next) homes me next.links front replica (record { conn = conn; command = command }) here
-      ((keeps conn).in_place front replica command here placed)
+  -- of each link
+  pub on_both : (a b : List ℕ)
+      → on_link both a b ≡ (on_link links a b ++ cond (same_link a b one other) (message ∷ []) []) ++ cond (same_link a b other one) (message ∷ []) []
+  on_both a b =
+      on_link-sent (sent links one other message) other one a b message
+      ∙ ap (λ (q : List LinkMsg). q ++ cond (same_link a b other one) (message ∷ []) []) (on_link-sent links one other a b message)
 
-  none_then : (conn : ℕ) → IsInNoneOf fixed world conn → IsInNoneOf fixed next conn
-  none_then conn none = in_none_alike (home_at world) (home_at next) homes me next.links conn ((keeps conn).in_none none)
+  pub another_both : (a b : List ℕ) → same_link a b one other ≡ false → same_link a b other one ≡ false → on_link both a b ≡ on_link links a b
+  another_both a b one_no other_no =
+      on_both a b
+      ∙ ap (λ s. (on_link links a b ++ cond s (message ∷ []) []) ++ cond (same_link a b other one) (message ∷ []) []) one_no
+      ∙ ap (λ s. (on_link links a b ++ []) ++ cond s (message ∷ []) []) other_no
+      ∙ append-nil (on_link links a b ++ []) ∙ append-nil (on_link links a b)
 
-  untold_then : (conn : ℕ) → IsUntold fixed conn world law.story → IsUntold fixed conn next law.story
-  untold_then conn untold = record { told = untold.told; said = untold.said; session = untold.session; nothing = none_then conn untold.nothing }
-
-  at_then : (conn : ℕ) (node : List ℕ) (front : Front) (connection : Connection) → IsAt world conn node front connection → IsAt next conn node front connection
-  at_then conn node front connection at = record { at = fronts node ∙ at.at; has = at.has }
-
-  marked_then : (id : AskId) (here : Place) → IsMarkedAt law.story.talk.moving world.marks id here → IsMarkedAt law.story.talk.moving next.marks id here
-  marked_then id here marked = subst (λ m. IsMarkedAt law.story.talk.moving m id here) (sym is.marks) marked
-
-  gone_then : (node : List ℕ) (replica : Replica) (conn : ℕ) (inputs : List Input) (stop : Stop) (connection : Connection)
-      → IsGone fixed node replica conn inputs stop connection world law.story → IsGone fixed node replica conn inputs stop connection next law.story
-  gone_then node replica conn inputs stop connection gone = record {
-    stage_is = gone.stage_is;
-    count = gone.count;
-    lasts = gone.lasts;
-    client = clients conn ∙ gone.client;
-    here = gone.here;
-    placed = placed_then node replica conn _ gone.here gone.placed;
-    marked = marked_then (next_id conn (law.story.told conn)) gone.here gone.marked;
-    left = gone.left;
-    cut = λ lost none. gone.cut lost (is.cut none);
-  }
-
-  dropped_by : (conn : ℕ) (node : List ℕ) (front : Front) (connection : Connection) (here : Place) → IsAt world conn node front connection
-      → ((server : List ℕ) → here ≡ place.is_dropped server → has_asked connection.stage server ≡ true) → IsDroppedAt world node here → IsDroppedAt next node here
-  unfolding waits_for
-  dropped_by conn node front connection place.nowhere at waits cut = tt
-  dropped_by conn node front connection (place.is_asked server ask) at waits cut = tt
-  dropped_by conn node front connection (place.is_answered server answer) at waits cut = tt
-  dropped_by conn node front connection (place.is_dropped server) at waits cut =
-      is.dropped conn node server front at.at (ap (λ c. waits_for c server) at.has ∙ waits server refl) cut
-  dropped_by conn node front connection (place.is_at loc name) at waits cut = tt
-  dropped_by conn node front connection (place.is_barred barrier) at waits cut = tt
-
-  connection_then : (conn : ℕ) (stop : Stop) (h : Heard) → ConnectionIs fixed conn world law.story stop h → ConnectionIs fixed conn next law.story stop h
-  connection_then conn _ _ (is_nobody none others untold) =
-      is_nobody (clients conn ∙ none) (λ node front there. others node front (sym (fronts node) ∙ there)) (untold_then conn untold)
-  connection_then conn _ _ (is_elsewhere node given at no_front untold) =
-      is_elsewhere node given (clients conn ∙ at) (fronts node ∙ no_front) (untold_then conn untold)
-  connection_then conn _ _ (is_open bytes node front connection at reader standing) =
-      is_open bytes node front connection (at_then conn node front connection at) reader
-      (record {
-        count = standing.count;
-        client = clients conn ∙ standing.client;
-        here = standing.here;
-        placed = placed_then node front.replica conn _ standing.here standing.placed;
-        marked = marked_then (next_id conn (law.story.told conn)) standing.here standing.marked;
-        dropped = dropped_by conn node front connection standing.here at
-            (λ server e. dropped_waits fixed node conn (inputs_in fixed.setting bytes) (begun bytes) connection (law.story.told conn) (law.story.talk.answers conn)
-            (law.story.course.sessions conn) server standing.here e standing.stands) standing.dropped;
-        stands = standing.stands;
-      })
-  connection_then conn _ _ (is_cut_off bytes node front connection at gone unanswered) =
-      is_cut_off bytes node front connection (at_then conn node front connection at)
-      (gone_then node front.replica conn (inputs_in fixed.setting bytes) is_lost connection gone) unanswered
-  connection_then conn _ _ (is_closed stop bytes node front connection at gone) =
-      is_closed stop bytes node front connection (at_then conn node front connection at)
-      (gone_then node front.replica conn (inputs_in fixed.setting bytes) stop connection gone)
-
-  many_then : ManyHold (murder_of next law.master) law.given law.story.course.store
-  many_then =
-      alike_hold (murder_of world law.master) (murder_of next law.master) law.given law.story.course.store
-      (record {
-        master = refl;
-        nodes = homes;
-        up = λ name node at. subst (λ m. on_link next.links name m ≡ on_link world.links name m) (sym law.nodes.me) (is.up name);
-        down = λ name node at. subst (λ m. on_link next.links m name ≡ on_link world.links m name) (sym law.nodes.me) (is.down name);
-      }) law.many
-
-  feeds_then : FeedsHold config next law.master
-  feeds_then =
-      still_feeds config world law.master law.nodes law.feeds next (λ server. ap is_some (homes server))
-      (λ any front there. still_fed config world law.master law.nodes law.feeds next any front (sym (fronts any) ∙ there) (is.up any) (is.down any)
-      (λ server. ap is_some (homes server)))
-
-  told_then : AreMarkedSo (setting_of config) next.broken next.steps next.marks law.story
-  told_then =
-      subst (λ n. AreMarkedSo (setting_of config) next.broken n next.marks law.story) (sym is.steps)
-      (subst (λ m. AreMarkedSo (setting_of config) next.broken world.steps m law.story) (sym is.marks)
-      (relinked (setting_of config) world.broken next.broken world.steps world.marks law.story is.cut law.is_told))
-
-  -- THE LAW STANDS WHERE OTHER LINKS ARE BROKEN
-  pub relinked_keeps : KeepsOn config law.story law.stops heard next
-  relinked_keeps = record {
-    law = record {
-      master = law.master;
-      nodes = same_nodes config world next law.master is.nodes law.nodes;
-      story = law.story;
-      stops = law.stops;
-      given = law.given;
-      many = many_then;
-      feeds = feeds_then;
-      is_told = told_then;
-      requests = law.requests;
-      connections = λ conn. connection_then conn (law.stops conn) (heard conn) (law.connections conn);
-    };
-    more = same_talk (talk_told law.story);
-    grows = says_same law.story;
-    closed = λ conn shut. (refl, refl);
-  }
+  pub messages_both : about message ≡ of_nobody → (conn : ℕ) → MessagesStay (of_connection conn) links both
+  messages_both none conn found placed =
+      let ne : about message ≢ of_connection conn = (λ e. nobody_whom conn (sym none ∙ e)) in
+      others_sent (sent links one other message) other one message (of_connection conn) ne found
+      (others_sent links one other message (of_connection conn) ne found placed)
 
 -- ---- a link breaks
 
+module _ (config : Config) (heard : ℕ → Heard) (world : World) (law : KeepsLaw config heard world) (one other : List ℕ) (kept kept_back : ℕ)
+    (then : LinksStand config (with_cut world one other kept kept_back)) where
+  abbrev me : List ℕ
+  me = master_of config
+
+  abbrev next : World
+  next = with_cut world one other kept kept_back
+
+  abbrev broken_then : Broken
+  broken_then = breaking (breaking world.broken one other) other one
+
+  -- End behind all that was on its way
+  abbrev ended : World
+  ended = record world { links = both world.links one other End; broken = broken_then }
+
+  breaks : (a b : List ℕ) → is_broken broken_then a b ≡ (same_link a b other one || (same_link a b one other || is_broken world.broken a b))
+  breaks a b =
+      is_broken-breaking (breaking world.broken one other) other one a b
+      ∙ ap (λ t. same_link a b other one || t) (is_broken-breaking world.broken one other a b)
+
+  whole_parts : (a b : List ℕ) → is_broken broken_then a b ≡ false → (same_link a b other one ≡ false) × (same_link a b one other ≡ false) × (is_broken world.broken a b ≡ false)
+  whole_parts a b whole = or_parts (same_link a b other one) (same_link a b one other) (is_broken world.broken a b) (sym (breaks a b) ∙ whole)
+
+  ended_relinks : Relinks me world ended
+  ended_relinks = record {
+    nodes = refl;
+    clients = refl;
+    marks = refl;
+    steps = refl;
+    messages = messages_both world.links one other End refl;
+    up = λ any. (let not = whole_parts any me (then.to_master any) in another_both world.links one other End any me not.1 not.0);
+    down = λ any. (let not = whole_parts me any (then.from_master any) in another_both world.links one other End me any not.1 not.0);
+    cut = λ none. absurd (breaks_some (breaking world.broken one other) other one none);
+    dropped = λ conn node server front at waits cut.
+        breaks server node ∙ or_last (same_link server node other one) (same_link server node one other) (is_broken world.broken server node) cut;
+  }
+
+  -- so many are left
+  abbrev half : Links LinkMsg
+  half = cut_short world.links one other kept End
+
+  half_part : (q : List LinkMsg) (same : Bool) → IsPart (cond same (take kept q ++ End ∷ []) q) (q ++ cond same (End ∷ []) [])
+  half_part q true = part_and (End ∷ []) (first_of kept q)
+  half_part q false = subst (IsPart q) (sym (append-nil q)) (all_of q)
+
+  rest_part : (part whole : List LinkMsg) (same : Bool) → IsPart part whole → IsPart (cond same (take kept_back part ++ End ∷ []) part) (whole ++ cond same (End ∷ []) [])
+  rest_part part whole true is = part_and (End ∷ []) (first_part kept_back is)
+  rest_part part whole false is = subst (IsPart part) (sym (append-nil whole)) is
+
+  part_at : (a b : List ℕ) → IsPart (on_link next.links a b) (on_link ended.links a b)
+  part_at a b =
+      subst (λ l. IsPart l (on_link ended.links a b)) (sym (on_link-cut half other one a b kept_back End))
+      (subst (λ l. IsPart (cond (same_link a b other one) (take kept_back (on_link half a b) ++ End ∷ []) (on_link half a b)) l) (sym (on_both world.links one other End a b))
+      (rest_part (on_link half a b) (on_link world.links a b ++ cond (same_link a b one other) (End ∷ []) []) (same_link a b other one)
+      (subst (λ l. IsPart l (on_link world.links a b ++ cond (same_link a b one other) (End ∷ []) [])) (sym (on_link-cut world.links one other a b kept End))
+      (half_part (on_link world.links a b) (same_link a b one other)))))
+
+  whole_at : (a b : List ℕ) → is_broken broken_then a b ≡ false → on_link next.links a b ≡ on_link ended.links a b
+  whole_at a b whole =
+      let not = whole_parts a b whole in
+      on_link-cut half other one a b kept_back End
+      ∙ ap (λ s. cond s (take kept_back (on_link half a b) ++ End ∷ []) (on_link half a b)) not.0
+      ∙ on_link-cut world.links one other a b kept End
+      ∙ ap (λ s. cond s (take kept (on_link world.links a b) ++ End ∷ []) (on_link world.links a b)) not.1
+      ∙ sym (another_both world.links one other End a b not.1 not.0)
+
+  cut_thinned : IsThinned ended next
+  cut_thinned = record {
+    nodes = refl;
+    disks = refl;
+    clients = refl;
+    broken = refl;
+    marks = refl;
+    steps = refl;
+    parts = part_at;
+    whole = whole_at;
+  }
+
+  cut_so : KeepsOn config law.story law.stops heard next
+  cut_so =
+      thinned_keeps config law.story law.stops heard ended next (breaks_apart config next then) cut_thinned
+      (relinked_keeps config heard world ended ended_relinks law)
+
+cuts_by : (config : Config) (heard : ℕ → Heard) (world : World) (law : KeepsLaw config heard world) (one other : List ℕ) (kept kept_back : ℕ) (may : Bool)
+    → LinksStand config (cuts_if may world one other kept kept_back) → KeepsOn config law.story law.stops heard (cuts_if may world one other kept kept_back)
+unfolding cuts_if
+cuts_by config heard world law one other kept kept_back true then = cut_so config heard world law one other kept kept_back then
+cuts_by config heard world law one other kept kept_back false then = same_kept config heard heard world (λ conn. refl) law
+
+-- A LINK BREAKS
 pub cut_keeps : (config : Config) (heard : ℕ → Heard) (world : World) (law : KeepsLaw config heard world) (one other : List ℕ) (kept kept_back : ℕ)
     → LinksStand config (cuts_if (may_cut world one other) world one other kept kept_back)
     → KeepsOn config law.story law.stops heard (cuts_if (may_cut world one other) world one other kept kept_back)
-cut_keeps config heard world law one other kept kept_back then = ?cut
-
--- ---- a link comes up
-
-pub join_keeps : (config : Config) (heard : ℕ → Heard) (world : World) (law : KeepsLaw config heard world) (one other : List ℕ) → LinksStand config world
-    → KeepsOn config law.story law.stops heard (joins_if (may_join world one other) world one other)
-join_keeps config heard world law one other links = ?join
+cut_keeps config heard world law one other kept kept_back then = cuts_by config heard world law one other kept kept_back (may_cut world one other) then

@@ -39,6 +39,13 @@ module _ {M : Type 0} where
   first_of (suc keeps) [] = is_none
   first_of (suc keeps) (x ∷ list) = has_it x (first_of keeps list)
 
+  -- so many of a part
+  pub first_part : (keeps : ℕ) {part whole : List M} → IsPart part whole → IsPart (take keeps part) whole
+  first_part zero {whole = whole} is = none_of whole
+  first_part (suc keeps) is_none = is_none
+  first_part (suc keeps) (has_it x is) = has_it x (first_part keeps is)
+  first_part (suc keeps) (lacks_it x is) = lacks_it x (first_part (suc keeps) is)
+
   -- of a kind
   has_by : (is : M → Bool) (x : M) (own : Bool) → is x ≡ own → (part whole : List M) → IsPart (filter is part) (filter is whole)
       → IsPart (filter is (x ∷ part)) (filter is (x ∷ whole))
