@@ -151,6 +151,19 @@ says_lost front conn connection from is =
     ap (end_by front.setting (ways_of front) conn connection) is.stage_is
     ∙ ap (ends_at front.setting (ways_of front) conn connection is.tag is.it) is.at
 
+ends_found : (front : Front) (conn : ℕ) (c : Connection)
+    → end_at front conn (Some c) ≡ with_turned front conn (end_comes front.setting (ways_of front) conn c)
+unfolding end_at
+ends_found front conn c = refl
+
+some_awaits : (master : List ℕ) (c : Connection) (from : List ℕ) → awaited master (Some c) from ≡ awaits master c.stage from
+unfolding awaited
+some_awaits master c from = refl
+
+none_awaits : (master from : List ℕ) → awaited master None from ≡ true → ⊥
+unfolding awaited
+none_awaits master from e = cc
+
 -- ---- THE NEWS THAT A LINK CAME UP KEEPS THE LAW
 
 pub up_stands : (config : Config) (heard : ℕ → Heard) (world : World) (law : KeepsLaw config heard world) (from to : List ℕ) (front : Front)
@@ -396,23 +409,31 @@ module _ (config : Config) (heard : ℕ → Heard) (from to : List ℕ) (ne : fr
     }
 
     module _ (cut : world.broken ≢ []) (conn : ℕ) where
-      one_by : (found : Option Connection) → connection_at front conn ≡ found → (waits : Bool) → awaited front.master found from ≡ waits
-          → EndsSome world law (end_if waits front conn)
-      unfolding awaited end_at
-      one_by found has false e = none_ends
-      one_by None has true e = cc
-      one_by (Some c) has true e =
+      bye_some : (c : Connection) → connection_at front conn ≡ Some c → WaitsFrom c.stage from → EndsSome world law (with_turned front conn (says_bye conn c Lost))
+      bye_some c has is = record {
+        keeps = open_by config heard world law from to front there cut conn c has is owns (law.stops conn) (heard conn) refl (law.connections conn);
+        master_is = master_is;
+        owns = bye_owns config heard world law from to front there cut conn c has is owns;
+      }
+
+      waits_ends : (c : Connection) → connection_at front conn ≡ Some c → awaits front.master c.stage from ≡ true
+          → EndsSome world law (with_turned front conn (end_comes front.setting (ways_of front) conn c))
+      waits_ends c has e =
           let is = waits_from front.master from c.stage (λ same. ne (same ∙ master_is)) e in
-          subst (λ (s : Stepped). EndsSome world law s)
-          (sym (ap (end_at front conn) has ∙ ap (with_turned front conn) (says_lost front conn c from is)))
-          (record {
-            keeps = open_by config heard world law from to front there cut conn c has is owns (law.stops conn) (heard conn) refl (law.connections conn);
-            master_is = master_is;
-            owns = bye_owns config heard world law from to front there cut conn c has is owns;
-          })
+          subst (λ (t : Turned). EndsSome world law (with_turned front conn t)) (sym (says_lost front conn c from is)) (bye_some c has is)
+
+      found_ends : (found : Option Connection) → connection_at front conn ≡ found → awaited front.master found from ≡ true
+          → EndsSome world law (end_at front conn found)
+      found_ends None has e = absurd (none_awaits front.master from e)
+      found_ends (Some c) has e =
+          subst (λ (s : Stepped). EndsSome world law s) (sym (ends_found front conn c)) (waits_ends c has (sym (some_awaits front.master c from) ∙ e))
+
+      if_ends : (test : Bool) → awaited front.master (connection_at front conn) from ≡ test → EndsSome world law (end_if test front conn)
+      if_ends true e = found_ends (connection_at front conn) refl e
+      if_ends false e = none_ends
 
       one_ends_so : EndsSome world law (one_ends front from conn)
-      one_ends_so = one_by (connection_at front conn) refl (awaited front.master (connection_at front conn) from) refl
+      one_ends_so = if_ends (awaited front.master (connection_at front conn) from) refl
 
   all_keep : (conns : List ℕ) (world : World) (law : KeepsLaw config heard world) (front : Front) → front_at world to ≡ Some front
       → front.master ≡ master_of config → OwnsClients world to front → world.broken ≢ []
@@ -422,11 +443,11 @@ module _ (config : Config) (heard : ℕ → Heard) (from to : List ℕ) (ne : fr
   all_keep (conn ∷ conns) world law front there master_is owns cut =
       let one : Stepped = one_ends front from conn in
       let first = one_ends_so world law front there master_is owns cut conn in
-      let then : World = with_front world to one in
-      let rest = all_keep conns then (first.keeps).law one.front (front_moved world to front one there).own first.master_is first.owns
+      let behind : World = with_front world to one in
+      let rest = all_keep conns behind (first.keeps).law one.front (front_moved world to front one there).own first.master_is first.owns
       (λ none. cut (sym (is_made world to (state.Front one.front) one.outs).broken ∙ none)) in
       subst (λ w. KeepsOn config law.story law.stops heard w) (front_twice world to one (all_end one.front from conns))
-      (kept_then config heard law.story law.stops then (with_front then to (all_end one.front from conns)) first.keeps rest)
+      (kept_then config heard law.story law.stops behind (with_front behind to (all_end one.front from conns)) first.keeps rest)
 
 -- THE END OF A LINK KEEPS THE LAW
 pub end_stands : (config : Config) (heard : ℕ → Heard) (world : World) (law : KeepsLaw config heard world) (from to : List ℕ) (front : Front)
@@ -437,11 +458,11 @@ unfolding deliver carry_all
 end_stands config heard world law from to front there taken names ne owns cut =
     let base : World = taken_from_link world from to in
     let now : Front = without_up front from in
-    let then : World = with_front base to (still now) in
+    let behind : World = with_front base to (still now) in
     let conns : List ℕ = keys_of front.connections in
     let first = relinked_stands config heard world law from to front End there taken (going_down front.ups from) ne tt in
-    let rest = all_keep config heard from to ne conns then first.law now (front_moved base to front (still now) there).own
+    let rest = all_keep config heard from to ne conns behind first.law now (front_moved base to front (still now) there).own
     ((law.nodes).fronts to front there).master_is owns cut in
     subst (λ w. KeepsOn config law.story law.stops heard w)
     (front_twice base to (still now) (all_end now from conns) ∙ sym (front_all_come base to (From from End) front there))
-    (kept_then config heard law.story law.stops then (with_front then to (all_end now from conns)) first rest)
+    (kept_then config heard law.story law.stops behind (with_front behind to (all_end now from conns)) first rest)
