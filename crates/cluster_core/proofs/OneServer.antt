@@ -1,4 +1,5 @@
 -- What the law says of one server: its history, its store, its names, and what its clients were told.
+pub mod LinksLaw
 pub mod MarksGoOn
 pub mod HistoryLaw
 pub mod NamesHeld

@@ -183,7 +183,7 @@ module _ (nodes : List Node) (master : List ℕ) where
 
   pub step_rightly : (world : World) (event : Event) → KnowFirst nodes master world → WorldIsQuiet master world → AsksRightly nodes event world (steps_by world event)
   step_rightly world event know quiet node server sent is behind =
-      let its = takes_rightly (stepped world) event node server (same_worker world event ∙ is) know (record { nodes = quiet.nodes; links = quiet.links; whole = quiet.whole }) in
+      let its = takes_rightly (stepped world) event node server (same_worker world event ∙ is) know (record { nodes = quiet.nodes; links = quiet.links; whole = quiet.whole; calm = quiet.calm }) in
       subst (λ taken. All (IsRightlySent nodes taken (front_at (steps_by world event) node) server) sent) (same_taken world event)
       (subst (All (IsRightlySent nodes (taken_by event (stepped world)) (front_at (steps_by world event) node) server))
       (append_cancel_left (leaves_on event node server (on_link world.links node server)) its.more sent (sym its.behind ∙ behind)) its.all)

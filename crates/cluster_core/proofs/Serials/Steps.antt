@@ -79,7 +79,7 @@ module _ (config : Config) (heard : ℕ → Heard) (before : World) (quiet : Wor
   next event = takes world event
 
   begun_quiet : WorldIsQuiet name world
-  begun_quiet = record { nodes = quiet.nodes; links = quiet.links; whole = quiet.whole }
+  begun_quiet = record { nodes = quiet.nodes; links = quiet.links; whole = quiet.whole; calm = quiet.calm }
 
   -- what the master sends is never lost
   reserved_then : (all real : World) → real.nodes ≡ all.nodes

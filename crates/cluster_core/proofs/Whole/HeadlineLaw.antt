@@ -34,6 +34,7 @@ use Rattle.cluster_core.proofs.Disks.OnDisks.{stands_on_disks}
 use Rattle.cluster_core.proofs.Guests.GuestsServed.{serves_guests}
 use Rattle.cluster_core.proofs.Keeps.AnyStep.{law_of_run}
 use Rattle.cluster_core.proofs.Starts.Kinds.{master_named}
+use Rattle.cluster_core.proofs.OneServer.LinksLaw.{links_hold_each}
 use Rattle.cluster_core.proofs.OneServer.AnyStep.{keeps_one_home_each}
 use Rattle.cluster_core.proofs.OneServer.ClosedLaw.{gives_no_more}
 use Rattle.cluster_core.proofs.OneServer.EachStep.{EachKeeps, kept_all}
@@ -66,6 +67,7 @@ one_mail_server config events are dated fit each =
       one_node = one_node_each (start config) (steps_of_run config events);
       own_clients = serves_its_own_each config (steps_of_run config events);
       over_links = goes_over_links config events are known;
+      links = links_hold_each config events are;
       one_store = one_store_tells config events are dated fit each;
       closed = gives_no_more config events are each;
       guests = serves_guests config events are each;
