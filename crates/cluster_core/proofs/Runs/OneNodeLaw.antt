@@ -379,7 +379,7 @@ unfolding may_cut
 may_cut_apart world one other e =
     apart_by (may_part (node_at world one) (node_at world other)) (is_eq (slice_cmp nat_cmp one other)) (not (is_broken world.broken one other)) e
 
-cut_works : (world : World) (one other : List ℕ) (k l : ℕ) (may : Bool) → may_cut world one other ≡ may
+pub cut_works : (world : World) (one other : List ℕ) (k l : ℕ) (may : Bool) → may_cut world one other ≡ may
     → ChangesLinks may (Cut one other k l) world (cuts_if may world one other k l)
 unfolding cuts_if may_cut
 cut_works world one other k l true e = record {
