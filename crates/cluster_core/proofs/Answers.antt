@@ -1,4 +1,4 @@
--- A frontend takes an answer of a backend, or the master's OK: what that makes of the connection whose command waited.
+-- A frontend takes an answer of a backend, the master's OK, or the end of a link: what that makes of the connection whose command waited.
 pub mod Given
 pub mod Tells
 pub mod Replied

@@ -28,7 +28,6 @@ use Rattle.mur_model.specs.declared.setting.Setting.{Setting}
 use Rattle.node_step.specs.declared.input.NodeInput.TheVariants.{From}
 use Rattle.point_links.specs.Commands.{ClientCommand}
 use Rattle.imap_types.specs.declared.command.Tag.{Tag}
-use Rattle.front_core.specs.Ups.{Ups}
 use Rattle.imap_talk.specs.Transcript.{Stop}
 use Rattle.cluster_core.specs.declared.world.World.{World}
 use Rattle.cluster_core.specs.World.{carry_all, home_at, taken_from_link}

@@ -1,11 +1,9 @@
 -- A frontend is told that its link with a backend came up, or has ended. Nothing is sent to other nodes. Where it has ended, each connection whose command waits
 -- for an answer of that backend ends, and its client is told that the server is lost; all others stay.
-use Rattle.std.proofs.Common.{◌≡◌, ◌≢◌, ℕ, nat_eq, Bool, true, false, cond, if◌then◌else◌, List, [], ◌∷◌, ◌++◌, length, Option, None, Some, refl, sym, ◌∙◌, ap, subst, append_assoc, arith}
+use Rattle.std.proofs.Common.{◌≡◌, ◌≢◌, ℕ, nat_eq, Bool, true, false, cond, if◌then◌else◌, List, [], ◌∷◌, ◌++◌, Option, None, Some, refl, sym, ◌∙◌, ap, subst, append_assoc, arith}
 use Rattle.std.proofs.Math.Logic.{⊎_elim}
 use Rattle.std.proofs.lemmas.Bool.{cases_eq}
 use Rattle.std.proofs.lemmas.Bool.Decides.{nat_tests}
-use Rattle.std.proofs.lemmas.Cmp.{nat_list_eq_equiv}
-use Rattle.std.proofs.lemmas.Map.Steps.{set_value_same}
 use Rattle.std.specs.BTreeMap.{is_at}
 use Rattle.std.specs.Map.{keys_of, set_value}
 use Rattle.std.specs.Option.{IsSome}
@@ -19,7 +17,7 @@ use Rattle.feed_links.proofs.Names.{other_name}
 use Rattle.front_core.proofs.OneConnection.Readings.{inputs_in}
 use Rattle.front_core.specs.Answered.{end_by, end_comes, ends_at}
 use Rattle.front_core.specs.Ended.{released}
-use Rattle.front_core.specs.Front.{Stepped, all_end, awaited, behind_them, connection_at, deliver, end_at, end_from, end_if, one_ends, still, up_from, with_turned, with_up, without_up, ways_of}
+use Rattle.front_core.specs.Front.{Stepped, all_end, awaited, behind_them, connection_at, deliver, end_at, end_if, one_ends, still, up_from, with_turned, with_up, without_up, ways_of}
 use Rattle.front_core.specs.Stages.{awaits, waits_at}
 use Rattle.front_core.specs.Taken.{Turned, says_bye}
 use Rattle.front_core.specs.Ups.{going_down, coming_up}
@@ -32,17 +30,14 @@ use Rattle.imap_reply.specs.Greeting.{greeting}
 use Rattle.imap_talk.specs.Heard.{Heard, client}
 use Rattle.imap_talk.specs.Inputs.{requests_in}
 use Rattle.imap_talk.specs.Transcript.{Stop, replies_till, replies_to}
-use Rattle.imap_talk.specs.Transcript.Stop.{is_lost, silent}
+use Rattle.imap_talk.specs.Transcript.Stop.{is_lost}
 use Rattle.imap_talk.proofs.TranscriptGrows.{lost_told}
 use Rattle.imap_talk.specs.declared.inputs.Input.{Input}
-use Rattle.imap_talk.specs.declared.inputs.Input.TheVariants.{Asks}
 use Rattle.imap_types.specs.declared.command.Tag.{Tag}
 use Rattle.imap_types.specs.declared.reply.Bye.TheVariants.{Lost}
 use Rattle.imap_types.specs.declared.request.Answer.{Answer}
 use Rattle.imap_wire.specs.Frames.{begun}
 use Rattle.link_msg.specs.declared.message.LinkMsg.TheVariants.{Up, End}
-use Rattle.link_msg.specs.declared.out.Out.{Out}
-use Rattle.link_msg.specs.declared.out.Out.TheVariants.{Client as to_client, Close}
 use Rattle.mark_history.specs.Marked.{Tale, talk_told}
 use Rattle.mur_base.specs.Map.{with_value}
 use Rattle.mur_base.proofs.MapLaws.{numbers_apart, value_at-with_value, value_at-with_value-other}
@@ -57,16 +52,15 @@ use Rattle.cluster_core.specs.declared.world.Client.{Client}
 use Rattle.cluster_core.specs.declared.world.World.{World}
 use Rattle.cluster_core.specs.World.{carry_all, client_at, front_at, home_at, master_of, node_at, setting_of, taken_from_link}
 use Rattle.std.proofs.lemmas.Option.{same_Some}
-use Rattle.cluster_core.proofs.Commands.InPlace.{IsInPlace}
 use Rattle.cluster_core.proofs.Commands.Place.{Place, Place as place}
 use Rattle.cluster_core.proofs.Commands.Released.{released_count, stands_last}
-use Rattle.cluster_core.proofs.Commands.Standing.{Fixed, IsLeft, Stands, Waiting, WaitsAt, next_id}
+use Rattle.cluster_core.proofs.Commands.Standing.{Fixed, IsLeft, Stands, Waiting, next_id}
 use Rattle.cluster_core.proofs.Commands.Standing.IsLeft.{left_waiting}
 use Rattle.cluster_core.proofs.Commands.Standing.Stands.{reads, waits, lists, faulted, finished}
-use Rattle.cluster_core.proofs.Connections.ConnectionLaw.{IsInPlaceOf, IsMade, IsMarkedAt, IsStanding, client_till, client_with, keeps_on, same_story, says_then}
+use Rattle.cluster_core.proofs.Connections.ConnectionLaw.{IsInPlaceOf, IsMade, IsMarkedAt, IsStanding, client_with, same_story, says_then}
 use Rattle.cluster_core.proofs.Connections.KeepsFront.{carry_all_nodes, front_keeps, gone_then, having_nodes, is_at_after, same_clients, same_links, turned_so, with_connection, world_after}
 use Rattle.cluster_core.proofs.Connections.KeepsHang.{left_behind}
-use Rattle.cluster_core.proofs.Connections.KeepsLaw.{ConnectionIs, IsAt, IsGone, IsUnanswered, KeepsLaw, KeepsOn, fixed_of}
+use Rattle.cluster_core.proofs.Connections.KeepsLaw.{ConnectionIs, IsAt, IsGone, KeepsLaw, KeepsOn, fixed_of}
 use Rattle.cluster_core.proofs.Connections.KeepsLaw.ConnectionIs.{is_nobody, is_elsewhere, is_open, is_cut_off, is_closed}
 use Rattle.cluster_core.proofs.Connections.KeepsStill.{put_kept}
 use Rattle.cluster_core.proofs.Connections.Said.{carry_all-append, end_carried, given_keeps, given_world}
@@ -78,7 +72,7 @@ use Rattle.cluster_core.proofs.Nodes.Carried.{is_made}
 use Rattle.cluster_core.proofs.Nodes.Comes.{front_moved, with_front}
 use Rattle.cluster_core.proofs.Answers.ClosedSteps.{ended_released, left_by as left_nowhere}
 use Rattle.cluster_core.proofs.Answers.Keeps.{IsTakenBy, taken_by}
-use Rattle.cluster_core.proofs.Answers.OtherMessages.{relinked_stands, with_replica}
+use Rattle.cluster_core.proofs.Answers.OtherMessages.{relinked_stands}
 
 -- the connections of a frontend are those of clients that are connected there
 abbrev pub OwnsClients : World → List ℕ → Front → Type 0
@@ -375,8 +369,7 @@ module _ (config : Config) (heard : ℕ → Heard) (world : World) (law : KeepsL
 
     own_else : (other : ℕ) (c : Connection) → other ≢ conn → connection_at (with_turned front conn turned).front other ≡ Some c → Owned other
     own_else other c apart at =
-        let its = owns other c (sym (value_at-with_value-other nat_cmp numbers_apart front.connections conn other later apart) ∙ at) in
-        (
+        let its = owns other c (sym (value_at-with_value-other nat_cmp numbers_apart front.connections conn other later apart) ∙ at) in (
           its.0,
           same_clients world to front conn later turned.outs other ∙ ap (λ w. client_at w other) carried_so
               ∙ value_at-with_value-other nat_cmp numbers_apart world.clients conn other given apart ∙ its.1,

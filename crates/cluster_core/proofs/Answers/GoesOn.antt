@@ -15,15 +15,12 @@ use Rattle.front_core.specs.Ups.{Ups, is_up}
 use Rattle.link_queue.specs.Broken.{Broken}
 use Rattle.imap_talk.specs.Inputs.{requests_in}
 use Rattle.imap_talk.specs.SessionEnds.{TurnEnds, has_ended}
-use Rattle.imap_talk.specs.Transcript.{ends, is_bye}
+use Rattle.imap_talk.specs.Transcript.{ends}
 use Rattle.imap_talk.specs.declared.inputs.Input.{Input}
 use Rattle.imap_talk.specs.declared.inputs.Input.TheVariants.{Asks}
 use Rattle.imap_talk.proofs.AnswersEnd.{ended_by}
 use Rattle.imap_talk.proofs.InputLaws.{requests-append}
 use Rattle.imap_talk.proofs.RequestsOf.{answered_lengths, next_request}
-use Rattle.imap_types.specs.declared.command.Command.{Command}
-use Rattle.imap_types.specs.declared.command.Command.TheVariants.{Select, Examine}
-use Rattle.imap_types.specs.declared.reply.NoText.{NoText}
 use Rattle.imap_types.specs.declared.reply.NoText.TheVariants.{BeingMoved, NotReached}
 use Rattle.imap_types.specs.declared.reply.Reply.{Reply}
 use Rattle.imap_types.specs.declared.request.Answer.{Answer}

@@ -21,7 +21,6 @@ use Rattle.node_step.specs.declared.input.NodeInput.TheVariants.{From}
 use Rattle.node_record.specs.Table.{MailboxTable}
 use Rattle.point_links.specs.Commands.{ClientCommand}
 use Rattle.route_links.specs.Barriers.{Place as barrier}
-use Rattle.front_core.specs.Ups.{Ups}
 use Rattle.cluster_core.specs.declared.world.World.{World}
 use Rattle.cluster_core.specs.World.{home_at, taken_from_link}
 use Rattle.cluster_core.proofs.Commands.Moving.{IsSeenBy}

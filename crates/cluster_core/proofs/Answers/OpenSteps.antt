@@ -28,7 +28,6 @@ use Rattle.mur_model.specs.declared.session.Sess.{Sess}
 use Rattle.mur_model.specs.declared.setting.Setting.{Setting}
 use Rattle.node_step.specs.declared.input.NodeInput.TheVariants.{From}
 use Rattle.route_links.specs.Barriers.{Place as Barrier, Place as barrier}
-use Rattle.front_core.specs.Ups.{Ups}
 use Rattle.cluster_core.specs.declared.world.World.{World}
 use Rattle.cluster_core.specs.World.{home_at, taken_from_link}
 use Rattle.cluster_core.proofs.Commands.Knows.{KnowsNames}

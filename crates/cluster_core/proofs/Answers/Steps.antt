@@ -1,5 +1,5 @@
 -- A frontend takes a message about one of its connections: what the world is then for that connection, and for all others.
-use Rattle.std.proofs.Common.{◌≡◌, ◌≢◌, ℕ, ◌+◌, ◌<◌, ◌^◌, List, [], ◌∷◌, ◌++◌, length, Option, refl, sym, ◌∙◌, ap, subst, length-append, arith}
+use Rattle.std.proofs.Common.{◌≡◌, ◌≢◌, ℕ, ◌+◌, ◌<◌, ◌^◌, List, ◌∷◌, ◌++◌, length, Option, refl, sym, ◌∙◌, ap, subst, length-append, arith}
 use Rattle.front_core.specs.declared.connection.Connection.{Connection}
 use Rattle.front_core.specs.declared.front.Front.{Front}
 use Rattle.front_core.specs.Front.{ways_of}
@@ -14,7 +14,6 @@ use Rattle.link_msg.specs.declared.out.Out.{Out}
 use Rattle.mark_history.specs.Marked.{Tale}
 use Rattle.mur_model.specs.declared.session.Sess.{Sess}
 use Rattle.route_links.specs.Answered.{IsNumbered}
-use Rattle.front_core.specs.Ups.{Ups}
 use Rattle.cluster_core.specs.declared.world.World.{World}
 use Rattle.cluster_core.specs.World.{carry_all, home_at, taken_from_link}
 use Rattle.cluster_core.proofs.Commands.AllReached.{AreMarkedSo}
