@@ -53,15 +53,15 @@ use Rattle.front_core.specs.declared.connection.Stage.TheVariants.{Reading, Wait
 use Rattle.front_core.specs.declared.front.Front.{Front}
 use Rattle.front_core.specs.Answered.{answer_by, answer_comes, by_then, clears_at, end_by, end_comes, ends_at, goes_on_by, need_behind, ok_by, ok_comes, reading_again}
 use Rattle.front_core.specs.Answered.{how_for, reads_on, refused_behind, sends_if, waiting_come}
-use Rattle.front_core.specs.Ended.{ended, released, released_at}
-use Rattle.front_core.specs.Front.{Stepped, answer_at, answer_from, bytes_by, bytes_in, connect, connect_at, connection_at, deliver, front_bytes_at}
-use Rattle.front_core.specs.Front.{all_end, awaited, end_at, end_from, end_if, front_hang_at, hang, having_read, hung_up, line_by, line_from, ok_at, one_ends}
+use Rattle.front_core.specs.Ended.{released, released_at}
+use Rattle.front_core.specs.Front.{answer_at, answer_from, bytes_by, bytes_in, connect, connect_at, connection_at, deliver, front_bytes_at}
+use Rattle.front_core.specs.Front.{all_end, awaited, end_at, end_if, front_hang_at, hang, having_read, hung_up, line_by, line_from, ok_at, one_ends}
 use Rattle.front_core.specs.Front.{noting, up_from, waits_for, ways_of, with_up, without_up}
 use Rattle.front_core.specs.Slots.{new_connection}
 use Rattle.front_core.specs.Stages.{asks_at, awaits, has_asked, waits_at}
 use Rattle.front_core.specs.Taken.{Turned, Ways, answers_last, asks, begins_if, comes_at, input_comes, input_in, inputs_come, lists, lists_if, next_of, request_in}
 use Rattle.front_core.specs.Taken.{list_refused, to_begin, told_now, turned_by_need}
-use Rattle.front_core.specs.Ups.{Ups, coming_up, going_down, is_up}
+use Rattle.front_core.specs.Ups.{Ups, is_up}
 use Rattle.front_core.proofs.OwnOuts.{one_ways}
 use Rattle.front_core.proofs.UpsLaws.{coming_keeps, others_going}
 

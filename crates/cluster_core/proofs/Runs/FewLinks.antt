@@ -1,6 +1,5 @@
 -- A configuration has 17 nodes at most, and so few links.
-use Rattle.std.proofs.Common.{◌≡◌, ℕ, zero, suc, ◌+◌, ◌*◌, ◌≤◌, Bool, true, false, cond, if◌then◌else◌, List, [], ◌∷◌, ◌++◌, length, refl, arith, length-append}
-use Rattle.mur_base.specs.declared.limits.TheConstants.{FRONTEND_LIMIT, BACKEND_LIMIT}
+use Rattle.std.proofs.Common.{◌≡◌, ℕ, suc, ◌+◌, ◌*◌, ◌≤◌, Bool, true, false, cond, if◌then◌else◌, List, [], ◌∷◌, length, refl, arith, length-append}
 use Rattle.mur_config.specs.declared.node.Kind.{Kind}
 use Rattle.mur_config.specs.declared.node.Kind.TheVariants.{Master, Frontend, Backend}
 use Rattle.mur_config.specs.declared.node.Link.{Link}

@@ -1,8 +1,7 @@
 -- A heal joins links that may come up, until none may any more.
-use Rattle.std.proofs.Common.{◌≡◌, ◌||◌, ◌&&◌, Bool, true, false, cond, List, [], ◌∷◌, ◌++◌, refl, sym, ◌∙◌, ap, subst, arith, ℕ, All, Contains, append_assoc}
+use Rattle.std.proofs.Common.{◌≡◌, ◌||◌, ◌&&◌, Bool, true, false, cond, List, [], ◌∷◌, ◌++◌, refl, sym, ◌∙◌, ap, subst, arith, ℕ, All, Contains}
 use Rattle.std.proofs.lemmas.List.Elements.{All-cons, All-contains, All-nil, Contains-append_right}
 use Rattle.link_msg.specs.declared.message.LinkMsg.{LinkMsg}
-use Rattle.link_msg.specs.declared.message.LinkMsg.TheVariants.{Up}
 use Rattle.link_queue.specs.Broken.{is_broken}
 use Rattle.link_queue.specs.Links.{on_link, same_link}
 use Rattle.link_queue.proofs.Wires.{same_itself}
@@ -16,7 +15,7 @@ use Rattle.cluster_core.specs.Headline.FlowLaw.{IsHeal, JoinsOne}
 use Rattle.cluster_core.specs.Headline.OneNode.{OnlyLinksChange, are_both, relinked, up_on}
 use Rattle.cluster_core.specs.World.{is_nothing, joins_if, may_join, steps_by, stepped, takes, with_join}
 use Rattle.cluster_core.proofs.Runs.OneNodeLaw.{join_works}
-use Rattle.cluster_core.proofs.Runs.Unrolled.{heal_made, join_made}
+use Rattle.cluster_core.proofs.Runs.Unrolled.{join_made}
 
 -- ---- a link that may not come up may not behind others either
 

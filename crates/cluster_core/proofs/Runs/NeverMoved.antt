@@ -258,9 +258,10 @@ module _ (master : List ℕ) where
 
   breaks_whole : (broken : Broken) (one other : List ℕ) → one ≢ master → other ≢ master → AreWhole master broken → AreWhole master (breaking broken one other)
   breaks_whole broken one other ne me whole node =
-      let not = not_its one other node ne me in
-      (is_broken-breaking broken one other master node ∙ ap (λ t. t || is_broken broken master node) not.0 ∙ (whole node).0,
-       is_broken-breaking broken one other node master ∙ ap (λ t. t || is_broken broken node master) not.1 ∙ (whole node).1)
+      let not = not_its one other node ne me in (
+        is_broken-breaking broken one other master node ∙ ap (λ t. t || is_broken broken master node) not.0 ∙ (whole node).0,
+        is_broken-breaking broken one other node master ∙ ap (λ t. t || is_broken broken node master) not.1 ∙ (whole node).1,
+      )
 
   mends_whole : (broken : Broken) (one other : List ℕ) → AreWhole master broken → AreWhole master (mending broken one other)
   mends_whole broken one other whole node = (
@@ -296,9 +297,10 @@ module _ (master : List ℕ) where
 
   join_apart : (world : World) (one other : List ℕ) → may_join world one other ≡ true → AreWhole master world.broken → (one ≢ master) × (other ≢ master)
   join_apart world one other may whole =
-      let broken = may_join_broken world one other may in
-      (λ e. (let no : true ≡ false = sym broken ∙ ap (λ n. is_broken world.broken n other) e ∙ (whole other).0 in cc),
-       λ e. (let no : true ≡ false = sym broken ∙ ap (is_broken world.broken one) e ∙ (whole one).1 in cc))
+      let broken = may_join_broken world one other may in (
+        λ e. (let no : true ≡ false = sym broken ∙ ap (λ n. is_broken world.broken n other) e ∙ (whole other).0 in cc),
+        λ e. (let no : true ≡ false = sym broken ∙ ap (is_broken world.broken one) e ∙ (whole one).1 in cc),
+      )
 
   join_quiet : (world : World) (one other : List ℕ) (may : Bool) → may_join world one other ≡ may → WorldIsQuiet master world
       → WorldIsQuiet master (joins_if may world one other)

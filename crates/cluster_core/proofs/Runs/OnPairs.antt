@@ -249,9 +249,11 @@ module _ (config : Config) (are : AreNodes config.nodes) where
 
   comes_both : (world : World) (node : List ℕ) (input : NodeInput) → MayCome world node input → HasBoth world
       → HasBoth (comes_to world node input (node_at world node))
-  comes_both world node input may both =
-      (comes_linked world node input both.0 may, comes_on world node input (node_at world node) refl both.0 may both.1,
-      subst (AreBrokenOn pairs) (sym (comes_broken world node input (node_at world node))) both.2)
+  comes_both world node input may both = (
+    comes_linked world node input both.0 may,
+    comes_on world node input (node_at world node) refl both.0 may both.1,
+    subst (AreBrokenOn pairs) (sym (comes_broken world node input (node_at world node))) both.2,
+  )
 
   opens_both : (world : World) (node : List ℕ) (conn : ℕ) (found : Option Client) → AskBackends world → HasBoth world → HasBoth (opens world node conn found)
   unfolding opens
@@ -387,20 +389,23 @@ module _ (config : Config) (are : AreNodes config.nodes) where
   unfolding cuts_if
   cut_both world one other k l true e both =
       let joined = cut_joined world one other both.0 e in
-      let back : Joined pairs other one = (joined.1, joined.0) in
-      (both.0, short_on (cut_short world.links one other k End) other one l back (short_on world.links one other k joined both.1),
-      breaks_on (breaking world.broken one other) other one back (breaks_on world.broken one other joined both.2))
+      let back : Joined pairs other one = (joined.1, joined.0) in (
+        both.0,
+        short_on (cut_short world.links one other k End) other one l back (short_on world.links one other k joined both.1),
+        breaks_on (breaking world.broken one other) other one back (breaks_on world.broken one other joined both.2),
+      )
   cut_both world one other k l false e both = both
 
   join_both : (world : World) (one other : List ℕ) (may : Bool) → may_join world one other ≡ may → HasBoth world → HasBoth (joins_if may world one other)
   unfolding joins_if
   join_both world one other true e both =
       let joined = both.2 one other (may_join_broken world one other e) in
-      let back : Joined pairs other one = (joined.1, joined.0) in
-      (both.0,
-      (λ from to. sent_by pairs (sent world.links one other Up) other one Up from to (same_link from to other one) refl back
-      (sent_by pairs world.links one other Up from to (same_link from to one other) refl joined (both.1 from to))),
-      mends_on (mending world.broken one other) other one (mends_on world.broken one other both.2))
+      let back : Joined pairs other one = (joined.1, joined.0) in (
+        both.0,
+        (λ from to. sent_by pairs (sent world.links one other Up) other one Up from to (same_link from to other one) refl back
+            (sent_by pairs world.links one other Up from to (same_link from to one other) refl joined (both.1 from to))),
+        mends_on (mending world.broken one other) other one (mends_on world.broken one other both.2),
+      )
   join_both world one other false e both = both
 
   takes_both : (world : World) (event : Event) → AskBackends world → HasBoth world → HasBoth (takes world event)

@@ -26,7 +26,7 @@ use Rattle.cluster_core.specs.Flow.{run_steps}
 use Rattle.link_queue.specs.Broken.{Broken, breaking, is_broken, mending}
 use Rattle.link_queue.specs.Links.{Links, cut_short, same_link, on_link, sent, without_first}
 use Rattle.link_queue.proofs.BrokenLaws.{is_broken-breaking, is_broken-mending}
-use Rattle.cluster_core.specs.Headline.OneNode.{node_of, worker, connected, leaves_on, relinks, ChangesLinks, OnlyLinksChange, WasSent, OnlyWorks, WorksBy, OneNodeWorks, OneNodeWorksEach}
+use Rattle.cluster_core.specs.Headline.OneNode.{node_of, worker, connected, leaves_on, relinks, ChangesLinks, WasSent, OnlyWorks, WorksBy, OneNodeWorks, OneNodeWorksEach}
 use Rattle.cluster_core.specs.World.{is_lost, cuts_if, joins_if, may_cut, may_join, may_part, not_lost, marked, client_at, node_at, given_more, carry, carry_all, comes_to, with_client, opens, client_does, taken_from_link, deliver_first, takes, stepped, steps_by, Disks, with_acted, written, written_on}
 use Rattle.cluster_core.proofs.Runs.InTime.{takes_adds}
 use Rattle.link_queue.proofs.Wires.{same_names, on_link-cut, on_link-sent, on_link-taken}
