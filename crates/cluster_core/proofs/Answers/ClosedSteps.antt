@@ -1,4 +1,5 @@
--- A frontend takes the answer, or the master's OK, of a command whose client has closed its connection: nobody is told, and nothing more is on its way.
+-- A frontend takes the answer, or the master's OK, of a command whose connection has ended, as its client closed it or its server was lost: nobody is told, and
+-- nothing more is on its way.
 use Rattle.std.proofs.Common.{◌≡◌, ◌≢◌, ℕ, ◌≤◌, Bool, true, false, List, [], ◌∷◌, length, Some, refl, sym, ◌∙◌, ap, subst, append-nil, arith}
 use Rattle.std.specs.BTreeMap.{is_at}
 use Rattle.std.specs.Ordering.{nat_cmp}
@@ -49,7 +50,7 @@ use Rattle.cluster_core.proofs.Connections.FrameLaw.{ways_for}
 use Rattle.cluster_core.proofs.Answers.OkSteps.{delivers_ok}
 use Rattle.cluster_core.proofs.Answers.Steps.{IsBefore, IsStep, step_is}
 
--- THE STEP OF A CLOSED CONNECTION: it has ended behind it, lets nothing out, and the tale stays
+-- THE STEP OF A CONNECTION THAT HAS ENDED: it has ended behind it, lets nothing out, and the tale stays
 pub record ClosedStep (fixed : Fixed) (world : World) (story : Tale) (from node : List ℕ) (front : Front) (conn : ℕ) (inputs : List Input) (stop : Stop)
     (next : World) : Type 0 where
   pub connection : Connection
