@@ -13,6 +13,7 @@ pub mod RunRoom
 pub mod LinkedNodes
 pub mod OnPairs
 pub mod HealJoins
+pub mod HealMade
 pub mod FlowRests
 pub mod QuietFlows
 pub mod QuietNodes

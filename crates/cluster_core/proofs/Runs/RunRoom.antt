@@ -149,6 +149,11 @@ way_begins config events now left are w l =
       counts = record { commands = start_commands config; steps = omega (arith, start_steps config) };
     })
 
+-- the nodes have few links
+pub way_is_few : (config : Config) (events : List Event) (now : ClusterState) (left : List Event) → IsOnTheWay config events now left
+    → length now.layout.pairs ≤ most_links
+way_is_few config events now left way = subst (λ (l : Layout). length l.pairs ≤ most_links) (sym way.laid) way.few
+
 goes_on : (config : Config) (events : List Event) (now : ClusterState) (event : Event) (left : List Event)
     → IsOnTheWay config events now (event ∷ left) → IsOnTheWay config events (happened now event) left
 unfolding run bytes_of_all steps_of_all
@@ -160,7 +165,7 @@ goes_on config events now event left way = record {
   bytes = omega (arith, way.bytes);
   steps = omega (arith, way.steps);
   counts = happens_counts now.layout now.world event way.taken way.done
-      (subst (λ (l : Layout). length l.pairs ≤ most_links) (sym way.laid) way.few) way.counts;
+      (way_is_few config events now (event ∷ left) way) way.counts;
   ends = ap (λ l. run (layout_of config) (happens l now.world event) left) way.laid ∙ way.ends;
 }
 
