@@ -1,15 +1,17 @@
 -- Each world of a run holds what every world of a run holds: the first one does, and each event keeps it.
-use Rattle.std.proofs.Common.{◌≡◌, ◌≢◌, inl, inr, ℕ, Bool, true, false, cond, List, [], ◌∷◌, Option, None, Some, refl, sym, ◌∙◌, ap, subst}
+use Rattle.std.proofs.Common.{◌≡◌, ◌≢◌, ◌⊎◌, inl, inr, ◌||◌, ℕ, Bool, true, false, cond, List, [], ◌∷◌, ◌++◌, take, Option, None, Some, refl, sym, ◌∙◌, ap, subst}
 use Rattle.std.specs.Prelude.{drop}
 use Rattle.std.proofs.Math.Logic.{⊎_elim}
 use Rattle.std.specs.Ordering.{nat_cmp}
 use Rattle.std.specs.Cmp.Lexicographic.{slice_cmp}
 use Rattle.std.proofs.lemmas.List.Elements.{All-nil}
-use Rattle.cluster_core.specs.World.{backends_of, client_at, client_does, deliver_first, first_state, master_at, no_world, opens, start, stepped, steps_by, taken_from_link, takes, told_up, with_client, with_node, with_nodes, with_ups}
+use Rattle.cluster_core.specs.World.{cuts_if, joins_if, may_cut, may_join, node_at, with_cut, with_join, backends_of, client_at, client_does, deliver_first, first_state, master_at, no_world, opens, start, stepped, steps_by, taken_from_link, takes, told_up, with_client, with_node, with_nodes, with_ups}
 use Rattle.cluster_core.specs.declared.world.Client.{Client}
 use Rattle.link_msg.specs.declared.message.LinkMsg.{LinkMsg}
-use Rattle.link_queue.specs.Links.{Links, on_link, same_link, without_first}
-use Rattle.link_queue.proofs.Wires.{on_link-taken}
+use Rattle.link_queue.specs.Broken.{Broken, breaking, is_broken, mending}
+use Rattle.link_queue.specs.Links.{Links, cut_short, on_link, same_link, without_first}
+use Rattle.link_queue.proofs.BrokenLaws.{is_broken-breaking, is_broken-mending, none_broken}
+use Rattle.link_queue.proofs.Wires.{on_link-cut, on_link-taken, same_names}
 use Rattle.master_core.specs.declared.master.Master.{Master}
 use Rattle.master_core.specs.Boot.{booted}
 use Rattle.mur_base.specs.Map.{value_at}
@@ -22,7 +24,7 @@ use Rattle.mur_config.specs.declared.node.Node.{Node}
 use Rattle.mur_config.specs.Nodes.{links_of}
 use Rattle.node_step.specs.declared.input.NodeInput.TheVariants.{Opened, Piece, Hung, From}
 use Rattle.node_step.specs.NodeStep.{as_master}
-use Rattle.link_msg.specs.declared.message.LinkMsg.TheVariants.{Up}
+use Rattle.link_msg.specs.declared.message.LinkMsg.TheVariants.{End, Up}
 use Rattle.node_record.specs.Table.{empty_table}
 use Rattle.schedule_text.specs.declared.event.Event.{Event}
 use Rattle.schedule_text.specs.declared.event.Event.TheVariants.{Open, Data, Hang, Deliver, Cut, Join, Crash, Arm, Start, Flow, Heal}
@@ -30,6 +32,9 @@ use Rattle.cluster_core.specs.declared.world.World.{World}
 use Rattle.cluster_core.specs.Flow.{run_steps}
 use Rattle.cluster_core.proofs.Points.Outside.{AreThey, IsIts, they_keep}
 use Rattle.cluster_core.proofs.Keeps.Always.{HoldsAlways}
+use Rattle.cluster_core.proofs.Links.Events.{another_both}
+use Rattle.cluster_core.proofs.Links.Tells.{ArePartedAt, cut_parted, kind_of, one_there, parted_back, parted_still}
+use Rattle.cluster_core.proofs.Runs.NeverMoved.{may_join_broken}
 use Rattle.cluster_core.proofs.Keeps.AlwaysSteps.{comes_holds}
 
 -- ---- a message is taken off a link
@@ -47,11 +52,11 @@ none_left links from to a b none =
 
 taken_holds : (world : World) (from to : List ℕ) → HoldsAlways world → HoldsAlways (taken_from_link world from to)
 taken_holds world from to holds = record {
-  whole = holds.whole;
   masters = λ node master at.
       (let is = holds.masters node master at in
       record { watchers = is.watchers; no_stream = is.no_stream; selfless = none_left world.links from to node node is.selfless });
   senders = λ node other none. none_left world.links from to node other (holds.senders node other none);
+  cut = holds.cut;
 }
 
 -- ---- a client comes
@@ -64,8 +69,7 @@ module _ (world : World) (node : List ℕ) (conn : ℕ) (new : client_at world c
 
   client_holds : HoldsAlways world → HoldsAlways (with_client world node conn)
   client_holds holds = record {
-    whole = holds.whole;
-    masters = λ any master at.
+      masters = λ any master at.
         (let is = holds.masters any master at in
         record {
           watchers = they_keep (IsIts any world.clients) (IsIts any (with_client world node conn).clients) (still_its any) master.watchers is.watchers;
@@ -73,6 +77,7 @@ module _ (world : World) (node : List ℕ) (conn : ℕ) (new : client_at world c
           selfless = is.selfless;
         });
     senders = holds.senders;
+    cut = holds.cut;
   }
 
 -- ---- an event
@@ -108,11 +113,111 @@ deliver_holds world from to (message ∷ rest) first holds =
 
 stepped_holds : (world : World) → HoldsAlways world → HoldsAlways (stepped world)
 stepped_holds world holds = record {
-  whole = holds.whole;
   masters = λ node master at.
       (let is = holds.masters node master at in record { watchers = is.watchers; no_stream = is.no_stream; selfless = is.selfless });
   senders = holds.senders;
+  cut = holds.cut;
 }
+
+-- a link breaks, or comes up
+
+-- nothing more is on a link that isn't one of these
+module _ (world : World) (one other : List ℕ) (parted : ArePartedAt world one other) (apart : one ≢ other) where
+  back : ArePartedAt world other one
+  back = parted_back world one other parted
+
+  not_self : (node a b : List ℕ) → a ≢ b → same_link node node a b ≡ false
+  not_self node a b ne = by (same_link node node a b) refl
+    where
+      by : (same : Bool) → same_link node node a b ≡ same → same_link node node a b ≡ false
+      by false e = e
+      by true e = (let at = same_names node node a b e in absurd (ne (sym at.0 ∙ at.1)))
+
+  not_none : (node to a b : List ℕ) → node_at world node ≡ None → node_at world a ≢ None → same_link node to a b ≡ false
+  not_none node to a b none there = by (same_link node to a b) refl
+    where
+      by : (same : Bool) → same_link node to a b ≡ same → same_link node to a b ≡ false
+      by false e = e
+      by true e = (let at = same_names node to a b e in absurd (there (ap (node_at world) (sym at.0) ∙ none)))
+
+  other_apart : other ≢ one
+  other_apart e = apart (sym e)
+
+  -- with these on links, and these links broken
+  module _ (next : World) (nodes : next.nodes ≡ world.nodes) (clients : next.clients ≡ world.clients)
+      (left : (a b : List ℕ) → same_link a b one other ≡ false → same_link a b other one ≡ false → on_link next.links a b ≡ on_link world.links a b)
+      (lost : (a b : List ℕ) → is_broken next.broken a b ≡ true → (is_broken world.broken a b ≡ true) ⊎ ((same_link a b one other ≡ true) ⊎ (same_link a b other one ≡ true)))
+      (holds : HoldsAlways world) where
+    same_at : (any : List ℕ) → node_at next any ≡ node_at world any
+    same_at any = ap (λ n. value_at (slice_cmp nat_cmp) n any) nodes
+
+    still : (a b : List ℕ) → ArePartedAt world a b → ArePartedAt next a b
+    still a b was = parted_still world next (λ any. ap kind_of (same_at any)) a b was
+
+    as_link : (a b from to : List ℕ) → ArePartedAt world from to → from ≢ to → same_link a b from to ≡ true → ArePartedAt next a b × (a ≢ b)
+    as_link a b from to was ne same =
+        let at = same_names a b from to same in
+        (still a b (subst (λ x. ArePartedAt world x b) (sym at.0) (subst (ArePartedAt world from) (sym at.1) was)), λ e. ne (sym at.0 ∙ e ∙ at.1))
+
+    by_lost : (a b : List ℕ) → (is_broken world.broken a b ≡ true) ⊎ ((same_link a b one other ≡ true) ⊎ (same_link a b other one ≡ true)) → ArePartedAt next a b × (a ≢ b)
+    by_lost a b (inl was) = (let had = holds.cut a b was in (still a b had.0, had.1))
+    by_lost a b (inr (inl same)) = as_link a b one other parted apart same
+    by_lost a b (inr (inr same)) = as_link a b other one back other_apart same
+
+    linked_holds : HoldsAlways next
+    linked_holds = record {
+      masters = λ node master at.
+          (let is = holds.masters node master (ap as_master (sym (same_at node)) ∙ at) in
+          record {
+            watchers = subst (λ cs. AreThey (IsIts node cs) master.watchers) (sym clients) is.watchers;
+            no_stream = is.no_stream;
+            selfless = left node node (not_self node one other apart) (not_self node other one other_apart) ∙ is.selfless;
+          });
+      senders = λ node to none.
+          (let nobody : node_at world node ≡ None = sym (same_at node) ∙ none in
+          left node to (not_none node to one other nobody (one_there world one other parted)) (not_none node to other one nobody (one_there world other one back))
+          ∙ holds.senders node to nobody);
+      cut = λ a b gone. by_lost a b (lost a b gone);
+    }
+
+or_by : (one two three : Bool) → (one || (two || three)) ≡ true → (three ≡ true) ⊎ ((two ≡ true) ⊎ (one ≡ true))
+or_by true two three e = inr (inr refl)
+or_by false true three e = inr (inl refl)
+or_by false false three e = inl e
+
+not_by : (same was : Bool) → cond same false was ≡ true → was ≡ true
+not_by true was e = cc
+not_by false was e = e
+
+cuts_hold : (world : World) (one other : List ℕ) (kept left : ℕ) (may : Bool) → may_cut world one other ≡ may → HoldsAlways world
+    → HoldsAlways (cuts_if may world one other kept left)
+unfolding cuts_if
+cuts_hold world one other kept left false e holds = holds
+cuts_hold world one other kept left true e holds =
+    let may = cut_parted world one other e in
+    let half : Links LinkMsg = cut_short world.links one other kept End in
+    linked_holds world one other may.0 may.1 (with_cut world one other kept left) refl refl
+    (λ a b first second.
+    on_link-cut half other one a b left End
+    ∙ ap (λ s. cond s (take left (on_link half a b) ++ End ∷ []) (on_link half a b)) second
+    ∙ on_link-cut world.links one other a b kept End
+    ∙ ap (λ s. cond s (take kept (on_link world.links a b) ++ End ∷ []) (on_link world.links a b)) first)
+    (λ a b lost. or_by (same_link a b other one) (same_link a b one other) (is_broken world.broken a b)
+    (sym (is_broken-breaking (breaking world.broken one other) other one a b
+    ∙ ap (λ t. same_link a b other one || t) (is_broken-breaking world.broken one other a b)) ∙ lost))
+    holds
+
+joins_hold : (world : World) (one other : List ℕ) (may : Bool) → may_join world one other ≡ may → HoldsAlways world → HoldsAlways (joins_if may world one other)
+unfolding joins_if
+joins_hold world one other false e holds = holds
+joins_hold world one other true e holds =
+    let was = holds.cut one other (may_join_broken world one other e) in
+    linked_holds world one other was.0 was.1 (with_join world one other) refl refl
+    (λ a b first second. another_both world.links one other Up a b first second)
+    (λ a b lost. inl (not_by (same_link a b one other) (is_broken world.broken a b)
+    (sym (is_broken-mending world.broken one other a b)
+    ∙ not_by (same_link a b other one) (is_broken (mending world.broken one other) a b) (sym (is_broken-mending (mending world.broken one other) other one a b) ∙ lost))))
+    holds
 
 takes_holds : (world : World) (event : Event) → HoldsAlways world → HoldsAlways (takes world event)
 unfolding takes
@@ -120,8 +225,8 @@ takes_holds world (Open node conn) holds = opens_holds world node conn (client_a
 takes_holds world (Data conn bytes) holds = piece_holds world conn bytes (client_at world conn) refl holds
 takes_holds world (Hang conn) holds = hung_holds world conn (client_at world conn) refl holds
 takes_holds world (Deliver from to) holds = deliver_holds world from to (on_link world.links from to) refl holds
-takes_holds world (Cut one other kept left) holds = holds
-takes_holds world (Join one other) holds = holds
+takes_holds world (Cut one other kept left) holds = cuts_hold world one other kept left (may_cut world one other) refl holds
+takes_holds world (Join one other) holds = joins_hold world one other (may_join world one other) refl holds
 takes_holds world (Crash node image kept) holds = holds
 takes_holds world (Arm node call image kept) holds = holds
 takes_holds world (Start node) holds = holds
@@ -184,7 +289,6 @@ empty_link links a b none = ap (λ (l : Links LinkMsg). on_link l a b) none
 
 new_holds : (world : World) → IsNew world → HoldsAlways world
 new_holds world new = record {
-  whole = new.whole;
   masters = λ node master at.
       (let is = new.masters node master at in
       record {
@@ -193,6 +297,8 @@ new_holds world new = record {
         selfless = empty_link world.links node node new.links;
       });
   senders = λ node other none. empty_link world.links node other new.links;
+  cut = λ one other lost.
+      absurd (let no : false ≡ true = sym (none_broken one other) ∙ ap (λ (b : Broken). is_broken b one other) (sym new.whole) ∙ lost in cc);
 }
 
 ups_hold : (world : World) (links : List Link) → HoldsAlways world → HoldsAlways (with_ups world links)

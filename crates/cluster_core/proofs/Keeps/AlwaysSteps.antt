@@ -25,9 +25,11 @@ use Rattle.node_step.specs.NodeStep.{as_back, as_front, as_master}
 use Rattle.cluster_core.specs.declared.world.World.{World}
 use Rattle.cluster_core.specs.World.{comes, master_at, node_at}
 use Rattle.node_step.proofs.NodeKinds.{a_back, a_front}
-use Rattle.cluster_core.proofs.Nodes.Comes.{front_comes, front_does, home_comes, home_does, master_comes, master_does, none_comes, a_master, wrote}
+use Rattle.cluster_core.proofs.Nodes.AllCome.{all_come, front_all_come, home_all_come, master_all_come, none_all_come}
+use Rattle.cluster_core.proofs.Nodes.Comes.{front_does, home_does, master_does, a_master, wrote}
+use Rattle.cluster_core.proofs.Nodes.Thins.{comes_thinned}
 use Rattle.cluster_core.proofs.Points.Outside.{AreThey, IsIts, says_watched}
-use Rattle.cluster_core.proofs.Keeps.Always.{HoldsAlways, IsWell, made_holds}
+use Rattle.cluster_core.proofs.Keeps.Always.{HoldsAlways, IsWell, made_holds, thinned_always}
 use Rattle.cluster_core.proofs.Keeps.Watchers.{bytes_watch, connects_watch, leaves_watch}
 
 -- a client that does something is connected to the node, and a node that says something to a master is another one
@@ -105,9 +107,9 @@ master_well world node master (Hung conn) at is fits = left_well world node mast
 -- what is written changes nothing of it
 wrote_holds : (world : World) (node : List ℕ) (it : NodeState) (input : NodeInput) → HoldsAlways world → HoldsAlways (wrote world node it input)
 wrote_holds world node it input holds = record {
-  whole = holds.whole;
   masters = λ any master at. (let is = holds.masters any master at in record { watchers = is.watchers; no_stream = is.no_stream; selfless = is.selfless });
   senders = holds.senders;
+  cut = holds.cut;
 }
 
 no_master_front : (front : Front) (master : Master) → as_master (Some (state.Front front)) ≡ Some master → ⊥
@@ -123,15 +125,15 @@ unfolding as_master
 the_master one other e = cc
 
 module _ (world : World) (node : List ℕ) (input : NodeInput) (holds : HoldsAlways world) (fits : InputFits world node input) where
-  by_node : (found : Option NodeState) → node_at world node ≡ found → HoldsAlways (comes world node input)
-  by_node None there = subst HoldsAlways (sym (none_comes world node input there)) holds
+  by_node : (found : Option NodeState) → node_at world node ≡ found → HoldsAlways (all_come world node input)
+  by_node None there = subst HoldsAlways (sym (none_all_come world node input there)) holds
   by_node (Some (state.Front front)) there =
-      subst HoldsAlways (sym (front_comes world node input front holds.whole (ap as_front there ∙ a_front front)))
-      (made_holds world node (state.Front front) (state.Front (front_does front input).front) (front_does front input).outs there holds
+      subst HoldsAlways (sym (front_all_come world node input front (ap as_front there ∙ a_front front)))
+      (made_holds world node (state.Front front) (state.Front (front_does front input).front) (front_does front input).outs there refl holds
       (λ master e. absurd (no_master_front (front_does front input).front master e)))
   by_node (Some (state.Back home)) there =
-      subst HoldsAlways (sym (home_comes world node input home holds.whole (ap as_back there ∙ a_back home)))
-      (made_holds (wrote world node (state.Back home) input) node (state.Back home) (state.Back (home_does home input).state) (home_does home input).outs there
+      subst HoldsAlways (sym (home_all_come world node input home (ap as_back there ∙ a_back home)))
+      (made_holds (wrote world node (state.Back home) input) node (state.Back home) (state.Back (home_does home input).state) (home_does home input).outs there refl
       (wrote_holds world node (state.Back home) input holds)
       (λ master e. absurd (no_master_back (home_does home input).state master e)))
   by_node (Some (state.Master master)) there =
@@ -141,9 +143,10 @@ module _ (world : World) (node : List ℕ) (input : NodeInput) (holds : HoldsAlw
       let put : World = wrote world node (state.Master master) input in
       let well : IsWell put node next.outs next.master = master_well put node master input at
       (record { watchers = is.watchers; no_stream = is.no_stream; selfless = is.selfless; sends_others = refl }) fits in
-      subst HoldsAlways (sym (master_comes world node input master holds.whole at))
-      (made_holds put node (state.Master master) (state.Master next.master) next.outs there (wrote_holds world node (state.Master master) input holds)
+      subst HoldsAlways (sym (master_all_come world node input master at))
+      (made_holds put node (state.Master master) (state.Master next.master) next.outs there refl (wrote_holds world node (state.Master master) input holds)
       (λ later e. subst (IsWell put node next.outs) (the_master next.master later e) well))
 
 pub comes_holds : (world : World) (node : List ℕ) (input : NodeInput) → HoldsAlways world → InputFits world node input → HoldsAlways (comes world node input)
-comes_holds world node input holds fits = by_node world node input holds fits (node_at world node) refl
+comes_holds world node input holds fits =
+    thinned_always (all_come world node input) (comes world node input) (comes_thinned world node input) (by_node world node input holds fits (node_at world node) refl)
