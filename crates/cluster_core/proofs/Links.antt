@@ -4,5 +4,6 @@ pub mod Relinked
 pub mod Stand
 pub mod StandLaw
 pub mod Tells
+pub mod TellsLaw
 pub mod Thinned
 pub mod ThinnedLaw

@@ -58,7 +58,7 @@ Said from to message = IsQuiet message
 
 -- ---- what a node lets out
 
-one_more : (P : LinkMsg → Type 0) (queue : List LinkMsg) (message : LinkMsg) (same : Bool) → (same ≡ true → P message) → AllByRecursion P queue
+pub one_more : (P : LinkMsg → Type 0) (queue : List LinkMsg) (message : LinkMsg) (same : Bool) → (same ≡ true → P message) → AllByRecursion P queue
     → AllByRecursion P (queue ++ cond same (message ∷ []) [])
 one_more P queue message true is all = both P queue (message ∷ []) all (is refl, tt)
 one_more P queue message false is all = both P queue [] all tt
@@ -87,7 +87,7 @@ module _ (P : List ℕ → List ℕ → LinkMsg → Type 0) (said : (from to : L
   carry_all_quiet marks node world (out ∷ outs) are on =
       carry_all_quiet marks node (carry node world out) outs are.1 (carry_quiet marks node world out are.0 on)
 
-  comes_links : (world : World) (node : List ℕ) (input : NodeInput) (found : Option NodeState)
+  pub comes_links : (world : World) (node : List ℕ) (input : NodeInput) (found : Option NodeState)
       → ((it : NodeState) → found ≡ Some it → AreQuietOuts (MayMark it) (node_takes it input).outs) → AreAllOn P world.links
       → AreAllOn P (comes_to world node input found).links
   unfolding comes_to
@@ -199,16 +199,16 @@ module _ (master : List ℕ) where
   hang_quiet world conn None quiet = quiet
   hang_quiet world conn (Some client) quiet = comes_quiet world client.at (Hung conn) tt quiet
 
-  behind_first : (P : LinkMsg → Type 0) (queue : List LinkMsg) → AllByRecursion P queue → AllByRecursion P (drop 1 queue)
+  pub behind_first : (P : LinkMsg → Type 0) (queue : List LinkMsg) → AllByRecursion P queue → AllByRecursion P (drop 1 queue)
   behind_first P [] all = tt
   behind_first P (message ∷ queue) all = all.1
 
-  either_queue : (P : LinkMsg → Type 0) (one other : List LinkMsg) (same : Bool) → (same ≡ true → AllByRecursion P one) → AllByRecursion P other
+  pub either_queue : (P : LinkMsg → Type 0) (one other : List LinkMsg) (same : Bool) → (same ≡ true → AllByRecursion P one) → AllByRecursion P other
       → AllByRecursion P (cond same one other)
   either_queue P one other true here all = here refl
   either_queue P one other false here all = all
 
-  taken_all : (P : List ℕ → List ℕ → LinkMsg → Type 0) (links : Links LinkMsg) (from to : List ℕ) → AreAllOn P links
+  pub taken_all : (P : List ℕ → List ℕ → LinkMsg → Type 0) (links : Links LinkMsg) (from to : List ℕ) → AreAllOn P links
       → AreAllOn P (without_first links from to)
   taken_all P links from to on = λ a b.
       subst (AllByRecursion (P a b)) (sym (on_link-taken links from to a b))
@@ -233,7 +233,7 @@ module _ (master : List ℕ) where
 
   -- a link breaks
 
-  kept_quiet : (P : LinkMsg → Type 0) (k : ℕ) (queue : List LinkMsg) → AllByRecursion P queue → AllByRecursion P (take k queue)
+  pub kept_quiet : (P : LinkMsg → Type 0) (k : ℕ) (queue : List LinkMsg) → AllByRecursion P queue → AllByRecursion P (take k queue)
   kept_quiet P zero queue all = tt
   kept_quiet P (suc k) [] all = tt
   kept_quiet P (suc k) (message ∷ queue) all = (all.0, kept_quiet P k queue all.1)
