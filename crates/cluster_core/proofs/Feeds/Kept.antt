@@ -1,5 +1,5 @@
 -- THE NODES, THE NAMES AND THE FEEDS AFTER WHAT COMES TO A NODE.
-use Rattle.std.proofs.Common.{◌≡◌, ◌≢◌, ℕ, List, [], ◌∷◌, Some, refl, sym, ◌∙◌, subst, inr}
+use Rattle.std.proofs.Common.{◌≡◌, ◌≢◌, ℕ, List, ◌∷◌, Some, refl, sym, subst, inr}
 use Rattle.cluster_core.specs.World.{master_of, front_at, taken_from_link}
 use Rattle.feed_links.specs.Lines.{messages_to}
 use Rattle.feed_links.specs.OneFeed.{AreNoops}

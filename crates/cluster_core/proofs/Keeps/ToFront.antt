@@ -25,7 +25,6 @@ use Rattle.link_msg.specs.declared.message.LinkMsg.TheVariants.{Up, End, Line, A
 use Rattle.link_msg.specs.declared.out.Out.{Out}
 use Rattle.link_msg.specs.declared.out.Out.TheVariants.{Client as to_client, Close, Link as to_node, Mark as mark, Told as tell}
 use Rattle.link_queue.specs.Links.{on_link}
-use Rattle.many_links.specs.Murder.{Nodes}
 use Rattle.mur_base.specs.declared.point.AskId.{AskId}
 use Rattle.mur_config.specs.declared.config.Config.{Config}
 use Rattle.node_step.specs.declared.input.NodeInput.TheVariants.{From}

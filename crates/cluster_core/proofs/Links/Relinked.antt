@@ -7,7 +7,7 @@ use Rattle.cluster_core.specs.World.{client_at, front_at, home_at, master_of, se
 use Rattle.cluster_core.specs.declared.world.World.{World}
 use Rattle.feed_core.specs.declared.replica.Replica.{Replica}
 use Rattle.feed_links.proofs.Names.{same_name}
-use Rattle.front_core.proofs.OneConnection.Places.{PlacesStay as MessagesStay, about, of_connection}
+use Rattle.front_core.proofs.OneConnection.Places.{PlacesStay as MessagesStay, of_connection}
 use Rattle.front_core.proofs.OneConnection.Readings.{inputs_in}
 use Rattle.front_core.specs.Front.{connection_at, waits_for}
 use Rattle.front_core.specs.Stages.{asks_at, has_asked}

@@ -1,5 +1,5 @@
 -- Which nodes' links may break, by what each is. It stays that whatever comes to a node.
-use Rattle.std.proofs.Common.{◌≡◌, ◌≢◌, ◌&&◌, ℕ, Bool, true, false, not, List, Option, None, Some, refl, sym, ◌∙◌, ap, subst}
+use Rattle.std.proofs.Common.{◌≡◌, ◌≢◌, ◌&&◌, ℕ, Bool, true, false, not, List, Option, None, Some, refl, sym, ◌∙◌, ap}
 use Rattle.std.proofs.Math.Logic.{⊎_elim}
 use Rattle.std.specs.Ordering.{is_eq, nat_cmp}
 use Rattle.std.specs.Cmp.Lexicographic.{slice_cmp}
@@ -14,10 +14,10 @@ use Rattle.node_step.specs.declared.node.NodeState.{NodeState}
 use Rattle.node_step.specs.declared.node.NodeState.TheVariants as state
 use Rattle.node_step.specs.NodeStep.{as_back, back_takes, front_takes, master_takes, takes as node_takes}
 use Rattle.cluster_core.specs.declared.world.World.{World}
-use Rattle.cluster_core.specs.World.{are_parted, comes, comes_to, may_cut, may_part, node_at}
+use Rattle.cluster_core.specs.World.{are_parted, comes, may_cut, may_part, node_at}
 use Rattle.cluster_core.proofs.Nodes.AllCome.{all_come, all_come_by, none_all_come}
 use Rattle.cluster_core.proofs.Nodes.Carried.{made}
-use Rattle.cluster_core.proofs.Nodes.Comes.{made_here, made_other, none_comes, wrote}
+use Rattle.cluster_core.proofs.Nodes.Comes.{made_here, made_other, wrote}
 use Rattle.cluster_core.proofs.Nodes.Thins.{comes_thinned}
 use Rattle.mur_base.specs.Map.{value_at}
 

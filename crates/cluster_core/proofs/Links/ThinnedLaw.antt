@@ -1,13 +1,11 @@
 -- THE LAW OF A WORLD OF WHICH MESSAGES ON BROKEN LINKS ARE GONE: the links of the master have all, so the names and the feeds are as they were; a command that was in an ask or
 -- in an answer that is gone is dropped, if it still waits, and nowhere otherwise.
-use Rattle.std.proofs.Common.{◌≡◌, ◌≢◌, ℕ, ◌≤◌, Bool, true, false, is_some, List, [], ◌∷◌, ◌++◌, length, Option, None, Some, refl, sym, ◌∙◌, ap, subst, arith, append-nil}
+use Rattle.std.proofs.Common.{◌≡◌, ℕ, Bool, true, false, is_some, List, [], ◌∷◌, Option, None, Some, refl, sym, ◌∙◌, ap, subst, arith, append-nil}
 use Rattle.std.specs.Ordering.{nat_cmp}
 use Rattle.std.proofs.lemmas.Option.{same_Some}
 use Rattle.std.specs.Cmp.Lexicographic.{slice_cmp}
 use Rattle.asking_core.specs.declared.waiting.At.{At}
-use Rattle.back_node.specs.declared.node.BackNode.{BackNode}
 use Rattle.cluster_core.specs.World.{client_at, front_at, home_at, master_of, setting_of}
-use Rattle.cluster_core.specs.declared.world.Client.{Client}
 use Rattle.cluster_core.specs.declared.world.World.{World}
 use Rattle.feed_core.specs.declared.replica.Replica.{Replica}
 use Rattle.front_core.proofs.OneConnection.Places.{IsPlaced, is_about, of_connection}
@@ -28,14 +26,12 @@ use Rattle.imap_wire.specs.Frames.{begun}
 use Rattle.link_msg.specs.declared.message.LinkMsg.{LinkMsg}
 use Rattle.link_msg.specs.declared.message.LinkMsg.TheVariants.{Answer as answer_of, Ask as ask_of}
 use Rattle.link_queue.specs.Broken.{Broken, is_broken}
-use Rattle.link_queue.specs.Links.{Links, on_link}
+use Rattle.link_queue.specs.Links.{on_link}
 use Rattle.link_queue.proofs.Placed.{Carried}
 use Rattle.many_links.specs.ManyHold.{ManyHold}
 use Rattle.many_links.proofs.FrontLaw.{alike_hold}
-use Rattle.mark_history.specs.Marked.{Tale, talk_told}
-use Rattle.master_core.specs.declared.master.Master.{Master}
+use Rattle.mark_history.specs.Marked.{Tale}
 use Rattle.mur_base.specs.Map.{value_at}
-use Rattle.mur_base.specs.declared.home.Location.{Location}
 use Rattle.mur_base.specs.declared.point.AskId.{AskId}
 use Rattle.mur_config.specs.declared.config.Config.{Config}
 use Rattle.mur_model.specs.declared.commands.list.Listing.{Listing}
@@ -50,7 +46,7 @@ use Rattle.cluster_core.proofs.Commands.InPlace.{IsInNone, IsInPlace}
 use Rattle.cluster_core.proofs.Commands.Knows.{Knows, KnowsNames}
 use Rattle.cluster_core.proofs.Commands.Place.{Place, at_barrier, its_message, Place as place}
 use Rattle.cluster_core.proofs.Commands.Standing.{Fixed, IsLeft, Stands, Waiting, WaitsAt, next_id}
-use Rattle.cluster_core.proofs.Connections.ConnectionLaw.{IsDroppedAt, IsInNoneOf, IsInPlaceOf, IsMarkedAt, IsStanding, says_same}
+use Rattle.cluster_core.proofs.Connections.ConnectionLaw.{IsDroppedAt, IsInNoneOf, IsInPlaceOf, IsMarkedAt, IsStanding}
 use Rattle.cluster_core.proofs.Connections.KeepsLaw.{ConnectionIs, FeedsHold, IsAt, IsGone, IsUntold, KeepsLaw, KeepsOn, fixed_of, murder_of}
 use Rattle.cluster_core.proofs.Connections.KeepsLaw.ConnectionIs.{is_nobody, is_elsewhere, is_open, is_cut_off, is_closed}
 use Rattle.cluster_core.proofs.Feeds.Beside.{still_fed, still_feeds}

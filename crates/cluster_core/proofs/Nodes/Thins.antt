@@ -1,5 +1,5 @@
 -- What comes to a node makes of a world what it makes of it where nothing is lost, but for messages that were to go on broken links.
-use Rattle.std.proofs.Common.{◌≡◌, ◌≢◌, ℕ, Bool, true, false, if◌then◌else◌, cond, List, [], ◌∷◌, ◌++◌, Option, None, Some, refl, sym, ap, subst, ◌∙◌, nat_eq, append-nil}
+use Rattle.std.proofs.Common.{◌≡◌, ◌≢◌, ℕ, Bool, true, false, if◌then◌else◌, List, [], ◌∷◌, ◌++◌, Option, None, Some, refl, sym, ap, subst, ◌∙◌, nat_eq, append-nil}
 use Rattle.std.proofs.Math.Logic.{⊎_elim}
 use Rattle.std.specs.Ordering.{nat_cmp}
 use Rattle.std.specs.Cmp.Lexicographic.{pointwise, same_text, slice_cmp}
@@ -9,9 +9,7 @@ use Rattle.link_msg.specs.declared.out.Out.{Out}
 use Rattle.link_msg.specs.declared.out.Out.TheVariants.{Client as to_client, Close, Link as to_node, Mark as mark, Told as tell}
 use Rattle.link_queue.specs.Broken.{Broken, is_broken}
 use Rattle.link_queue.specs.Links.{Links, on_link}
-use Rattle.many_links.specs.Murder.{put_all}
 use Rattle.many_links.proofs.Carried.{puts_else, puts_own}
-use Rattle.mark_history.specs.declared.mark.Mark.{Mark}
 use Rattle.mur_base.proofs.MapLaws.{names_apart, same_or_other}
 use Rattle.node_step.specs.declared.input.NodeInput.{NodeInput}
 use Rattle.node_step.specs.declared.input.NodeInput.TheVariants.{Opened, Piece, Hung, From}
@@ -22,7 +20,7 @@ use Rattle.schedule_text.specs.declared.event.Event.TheVariants.{Open, Data, Han
 use Rattle.cluster_core.specs.declared.world.Client.{Client}
 use Rattle.cluster_core.specs.declared.world.World.{World}
 use Rattle.cluster_core.specs.World.{acts, client_at, client_does, comes, comes_to, deliver_first, is_lost, node_at, not_lost, opens, taken_from_link, takes, with_acted, with_client, with_written}
-use Rattle.cluster_core.proofs.Links.Thinned.{IsPart, IsPart, IsThinned, all_of, behind_same, none_of, same_thinned}
+use Rattle.cluster_core.proofs.Links.Thinned.{IsPart, IsPart, IsThinned, all_of, behind_same, same_thinned}
 use Rattle.cluster_core.proofs.Nodes.AllCome.{all_come, all_come_to, all_first, all_of_client, all_open, all_takes}
 use Rattle.cluster_core.proofs.Nodes.Carried.{IsCarried, all_carried, given_all, given_out, made, mark_made, marks_made}
 
