@@ -69,7 +69,7 @@ module _ (world : World) (node : List ℕ) (conn : ℕ) (new : client_at world c
 
   client_holds : HoldsAlways world → HoldsAlways (with_client world node conn)
   client_holds holds = record {
-      masters = λ any master at.
+    masters = λ any master at.
         (let is = holds.masters any master at in
         record {
           watchers = they_keep (IsIts any world.clients) (IsIts any (with_client world node conn).clients) (still_its any) master.watchers is.watchers;

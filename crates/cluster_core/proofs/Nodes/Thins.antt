@@ -26,9 +26,6 @@ use Rattle.cluster_core.proofs.Nodes.Carried.{IsCarried, all_carried, given_all,
 
 -- ---- what is lost of the outputs of a node
 
-
-
-
 module _ (broken : Broken) (node : List ℕ) where
   -- an output that is no message goes out
   rest_given : (clients : List (ℕ × Client)) (outs : List Out) → given_all clients (not_lost broken node outs) ≡ given_all clients outs
