@@ -7,3 +7,5 @@ pub mod Asked
 pub mod FrontAsked
 pub mod OnceLaw
 pub mod ServerEnds
+pub mod Answers
+pub mod LeftLaw

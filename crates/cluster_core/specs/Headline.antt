@@ -21,6 +21,7 @@ pub mod Asks
 pub mod AsksOnce
 pub mod Lines
 pub mod Links
+pub mod Lost
 use Rattle.std.specs.Prelude.{◌≡◌, true, List}
 use Rattle.mur_config.specs.declared.config.Config.{Config}
 use Rattle.mur_config.specs.Nodes.{links_of}
@@ -34,6 +35,7 @@ use Rattle.cluster_core.specs.Headline.FlowLaw.{AreStepsOfAll}
 use Rattle.cluster_core.specs.Headline.HomeLaw.{KeepsOneHomeEach}
 use Rattle.cluster_core.specs.Headline.Lines.{BeginsOnlyAsAsked}
 use Rattle.cluster_core.specs.Headline.Links.{LinksHoldEach}
+use Rattle.cluster_core.specs.Headline.Lost.{LeavesRightlyEach}
 use Rattle.cluster_core.specs.Headline.OneNode.{GoesOverLinks, OneNodeWorksEach, ServesItsOwnEach}
 use Rattle.cluster_core.specs.Headline.OneStore.{IsToldByOneStore}
 use Rattle.cluster_core.specs.Headline.Outside.{ServesGuests, is_master}
@@ -54,9 +56,9 @@ use Rattle.cluster_core.specs.World.{layout_of, start}
 --
 -- Links that break: each of a frontend with a backend, or of two backends, may break, and then what is sent on it is lost. To a client that means two
 -- things. A command that needs a server that isn't reached is refused, which is a point of the history like any other: the store does nothing for it. And a
--- command that waits as the link to its server ends may have been carried out or not: its client is given a BYE in place of its reply, and nothing more;
--- what the store did for it stands in the history as lost. Before a link has broken nothing of this happens; and a command waits on only while the link to
--- its server is up or that link's end is still on its way.
+-- command that waits as the link to its server ends may have been carried out or not: its client is given a BYE in place of its reply, and nothing more, and
+-- what the store did for it stands in the history as lost. Before a link has broken nothing of this happens; no command is left without a reply but so, or
+-- as its client closes the connection; and while one waits, its frontend has the link to its server as up.
 pub record IsOneServer (config : Config) (events : List Event) : Type 0 where
   -- the run is that of its single steps, and those are its events, but of a flow as many deliveries as it may make, or until none is left
   pub by_steps : run_of config events ≡ run_steps (start config) (steps_of_run config events)
@@ -73,6 +75,7 @@ pub record IsOneServer (config : Config) (events : List Event) : Type 0 where
   pub replicas : FollowTheTable config events
   pub asks : AsksByRecords config events
   pub asks_once : AsksOnceEach config events
+  pub leaves : LeavesRightlyEach config events
   pub lines : BeginsOnlyAsAsked config events
   pub records : RecordsStandAtBackends config events
   pub disks : StandsOnDisks config events

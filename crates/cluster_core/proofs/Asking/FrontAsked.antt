@@ -411,10 +411,10 @@ module _ (front : Front) where
 
     -- a command that waits then has waited
     waited_then : (id : AskId) (server : List ℕ) → Awaits (Some behind_end.front) id server
-        → StaysOrEnds (connection_at front id.conn) (connection_at behind_end.front id.conn) → Awaits (Some front) id server
+        → StaysOrEnds from (connection_at front id.conn) (connection_at behind_end.front id.conn) → Awaits (Some front) id server
     waited_then id server waits (stays same) =
         waits_there front waits.connection id server (sym same ∙ there_it_is behind_end.front id server waits) (awaits_it behind_end.front id server waits)
-    waited_then id server waits (has_ended c is stage) =
+    waited_then id server waits (has_ended b c was asked is stage) =
         absurd (ended_waits_not c id server stage (awaits_at behind_end.front id server waits c is))
 
     end_asks : FrontAsks (From from End) front behind_end

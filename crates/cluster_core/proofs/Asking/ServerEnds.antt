@@ -14,7 +14,7 @@ use Rattle.front_core.specs.declared.connection.Stage.{Stage}
 use Rattle.front_core.specs.declared.connection.Stage.TheVariants.{Reading, Waits, Lists, Ended}
 use Rattle.front_core.specs.declared.front.Front.{Front}
 use Rattle.front_core.specs.Front.{Stepped, all_end, awaited, connection_at, end_at, end_from, end_if, one_ends, still, ways_of, with_turned, without_up}
-use Rattle.front_core.specs.Stages.{awaits, waits_at}
+use Rattle.front_core.specs.Stages.{asks_at, awaits, has_asked, waits_at}
 use Rattle.front_core.specs.Taken.{Turned, says_bye}
 use Rattle.imap_types.specs.declared.reply.Bye.TheVariants.{Lost}
 use Rattle.imap_types.specs.declared.command.Tag.{Tag}
@@ -23,10 +23,10 @@ use Rattle.link_msg.specs.declared.out.Out.{Out}
 use Rattle.link_msg.specs.declared.out.Out.TheVariants.{Client, Close, Link, Mark, Told}
 use Rattle.mur_base.proofs.MapLaws.{numbers_apart, same_or_other, value_at-with_value, value_at-with_value-other}
 
--- a connection then
-pub data StaysOrEnds (was now : Option Connection) : Type 0 where
-  stays : now ≡ was → StaysOrEnds was now
-  has_ended : (c : Connection) → now ≡ Some c → c.stage ≡ Ended → StaysOrEnds was now
+-- a connection then: it is as it was; or its command waited for the answer of the server, and it has ended
+pub data StaysOrEnds (server : List ℕ) (was now : Option Connection) : Type 0 where
+  stays : now ≡ was → StaysOrEnds server was now
+  has_ended : (b c : Connection) → was ≡ Some b → has_asked b.stage server ≡ true → now ≡ Some c → c.stage ≡ Ended → StaysOrEnds server was now
 
 -- an output is for a client alone
 abbrev pub IsForClient : Out → Type 0
@@ -34,18 +34,20 @@ IsForClient (Client conn bytes) = Unit {0}
 IsForClient (Close conn) = Unit {0}
 IsForClient out = ⊥
 
-pub record OnlyEnds (front : Front) (stepped : Stepped) : Type 0 where
-  pub connections : (conn : ℕ) → StaysOrEnds (connection_at front conn) (connection_at stepped.front conn)
+pub record OnlyEnds (server : List ℕ) (front : Front) (stepped : Stepped) : Type 0 where
+  pub connections : (conn : ℕ) → StaysOrEnds server (connection_at front conn) (connection_at stepped.front conn)
   pub outs : AllByRecursion IsForClient stepped.outs
   pub master : stepped.front.master ≡ front.master
 
-nothing_ends : (front : Front) → OnlyEnds front (still front)
-nothing_ends front = record { connections = λ conn. stays refl; outs = tt; master = refl }
+nothing_ends : (server : List ℕ) (front : Front) → OnlyEnds server front (still front)
+nothing_ends server front = record { connections = λ conn. stays refl; outs = tt; master = refl }
 
-then_stays : (one two three : Option Connection) → StaysOrEnds one two → StaysOrEnds two three → StaysOrEnds one three
-then_stays one two three (stays same) (stays again) = stays (again ∙ same)
-then_stays one two three (has_ended c is stage) (stays again) = has_ended c (again ∙ is) stage
-then_stays one two three first (has_ended c is stage) = has_ended c is stage
+then_stays : (server : List ℕ) (one two three : Option Connection) → StaysOrEnds server one two → StaysOrEnds server two three → StaysOrEnds server one three
+then_stays server one two three (stays same) (stays again) = stays (again ∙ same)
+then_stays server one two three (stays same) (has_ended b c was asked is stage) = has_ended b c (sym same ∙ was) asked is stage
+then_stays server one two three (has_ended b c was asked is stage) (stays again) = has_ended b c was asked (again ∙ is) stage
+then_stays server one two three (has_ended b c was asked is stage) (has_ended d e was_then asked_then is_then stage_then) =
+    has_ended b e was asked is_then stage_then
 
 -- ---- one connection
 
@@ -57,12 +59,12 @@ module _ (front : Front) (conn : ℕ) (c : Connection) (there : connection_at fr
   unfolding released_at
   ended_stage = refl
 
-  bye_ends : OnlyEnds front bye
-  bye_ends = record { connections = λ other. by other (same_or_other nat_cmp numbers_apart other conn); outs = (tt, (tt, tt)); master = refl }
+  bye_ends : (server : List ℕ) → has_asked c.stage server ≡ true → OnlyEnds server front bye
+  bye_ends server asked = record { connections = λ other. by other (same_or_other nat_cmp numbers_apart other conn); outs = (tt, (tt, tt)); master = refl }
     where
-      by : (other : ℕ) → (other ≡ conn) ⊎ (other ≢ conn) → StaysOrEnds (connection_at front other) (connection_at bye.front other)
+      by : (other : ℕ) → (other ≡ conn) ⊎ (other ≢ conn) → StaysOrEnds server (connection_at front other) (connection_at bye.front other)
       by other (inl e) =
-          has_ended (released (says_bye conn c Lost).connection)
+          has_ended c (released (says_bye conn c Lost).connection) (ap (connection_at front) e ∙ there) asked
           (ap (connection_at bye.front) e
           ∙ value_at-with_value nat_cmp numbers_apart front.connections conn (released (says_bye conn c Lost).connection) c there) ended_stage
       by other (inr ne) = stays (value_at-with_value-other nat_cmp numbers_apart front.connections conn other _ ne)
@@ -83,39 +85,50 @@ module _ (front : Front) (conn : ℕ) (c : Connection) (there : connection_at fr
     is_bye (Lists tag it) e = absurd (not_master e)
     is_bye Ended e = cc
 
-    its_end : awaits front.master c.stage node ≡ true → OnlyEnds front (with_turned front conn (end_comes front.setting (ways_of front) conn c))
-    its_end e = subst (λ (t : Turned). OnlyEnds front (with_turned front conn t)) (sym (is_bye c.stage e)) bye_ends
+    is_asked_at : (at : At) → waits_at front.master at node ≡ true → asks_at at node ≡ true
+    is_asked_at (Home server) e = e
+    is_asked_at (Barrier why) e = absurd (not_master e)
+
+    is_asked : (stage : Stage) → awaits front.master stage node ≡ true → has_asked stage node ≡ true
+    unfolding awaits has_asked
+    is_asked Reading e = cc
+    is_asked (Waits tag it) e = is_asked_at it.at e
+    is_asked (Lists tag it) e = absurd (not_master e)
+    is_asked Ended e = cc
+
+    its_end : awaits front.master c.stage node ≡ true → OnlyEnds node front (with_turned front conn (end_comes front.setting (ways_of front) conn c))
+    its_end e = subst (λ (t : Turned). OnlyEnds node front (with_turned front conn t)) (sym (is_bye c.stage e)) (bye_ends node (is_asked c.stage e))
 
 module _ (front : Front) (node : List ℕ) (ne : node ≢ front.master) (conn : ℕ) where
-  found_ends : (found : Option Connection) → connection_at front conn ≡ found → awaited front.master found node ≡ true → OnlyEnds front (end_at front conn found)
+  found_ends : (found : Option Connection) → connection_at front conn ≡ found → awaited front.master found node ≡ true → OnlyEnds node front (end_at front conn found)
   unfolding end_at awaited
-  found_ends None there e = nothing_ends front
+  found_ends None there e = nothing_ends node front
   found_ends (Some c) there e = its_end front conn c there node ne e
 
-  if_ends : (waits : Bool) → awaited front.master (connection_at front conn) node ≡ waits → OnlyEnds front (end_if waits front conn)
+  if_ends : (waits : Bool) → awaited front.master (connection_at front conn) node ≡ waits → OnlyEnds node front (end_if waits front conn)
   if_ends true e = found_ends (connection_at front conn) refl e
-  if_ends false e = nothing_ends front
+  if_ends false e = nothing_ends node front
 
-  one_ends_so : OnlyEnds front (one_ends front node conn)
+  one_ends_so : OnlyEnds node front (one_ends front node conn)
   one_ends_so = if_ends (awaited front.master (connection_at front conn) node) refl
 
 -- ---- all of them
 
-all_end_so : (front : Front) (node : List ℕ) → node ≢ front.master → (conns : List ℕ) → OnlyEnds front (all_end front node conns)
+all_end_so : (front : Front) (node : List ℕ) → node ≢ front.master → (conns : List ℕ) → OnlyEnds node front (all_end front node conns)
 unfolding all_end
-all_end_so front node ne [] = nothing_ends front
+all_end_so front node ne [] = nothing_ends node front
 all_end_so front node ne (conn ∷ conns) =
     let one = one_ends front node conn in
     let first = one_ends_so front node ne conn in
     let rest = all_end_so one.front node (λ e. ne (e ∙ first.master)) conns in
     record {
-      connections = λ other. then_stays _ _ _ (first.connections other) (rest.connections other);
+      connections = λ other. then_stays node _ _ _ (first.connections other) (rest.connections other);
       outs = both IsForClient one.outs (all_end one.front node conns).outs first.outs rest.outs;
       master = rest.master ∙ first.master;
     }
 
 -- A SERVER'S LINK ENDS
-pub server_ends : (front : Front) (node : List ℕ) → node ≢ front.master → OnlyEnds front (end_from (without_up front node) node)
+pub server_ends : (front : Front) (node : List ℕ) → node ≢ front.master → OnlyEnds node front (end_from (without_up front node) node)
 server_ends front node ne =
     let its = all_end_so (without_up front node) node ne (keys_of front.connections) in
     record { connections = its.connections; outs = its.outs; master = its.master }

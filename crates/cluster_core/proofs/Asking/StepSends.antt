@@ -62,6 +62,7 @@ all_put node server links (out ∷ outs) =
 -- an input is what this event brings
 abbrev pub IsBrought : Event → List ℕ → NodeInput → Type 0
 IsBrought event node (From name message) = event ≡ Deliver name node
+IsBrought event node (Hung conn) = event ≡ Hang conn
 IsBrought event node input = ⊤
 
 -- the node worked in the step and sent so, or nothing came to it
@@ -134,7 +135,7 @@ module _ (world : World) where
       let same : at ≡ node = cc in
       subst (λ n. StepSends world (Open at conn) n (opens begun at conn (client_at begun conn))) same (opens_sends at conn (client_at begun conn))
   takes_sends (Data conn bytes) node is = client_sends (Data conn bytes) node (Piece conn bytes) (client_at begun conn) is (λ server. refl) tt refl
-  takes_sends (Hang conn) node is = client_sends (Hang conn) node (Hung conn) (client_at begun conn) is (λ server. refl) tt refl
+  takes_sends (Hang conn) node is = client_sends (Hang conn) node (Hung conn) (client_at begun conn) is (λ server. refl) refl refl
   takes_sends (Deliver from to) node is =
       let same : to ≡ node = cc in
       subst (λ n. StepSends world (Deliver from to) n (takes begun (Deliver from to))) same (deliver_sends from to (on_link world.links from to) refl)

@@ -11,7 +11,7 @@ use Rattle.std.specs.Cmp.Lexicographic.{slice_cmp}
 use Rattle.std.proofs.lemmas.List.Elements.{All-from_recursion, All-nil, All-cons, All-head, All-tail, recursion_from_All}
 use Rattle.std.proofs.lemmas.Map.Views.{All-values-insert_entry, All-map-remove_entry, All-values-set_value, IfSome-lookup_from_All}
 use Rattle.link_msg.specs.declared.answer.AnswerBody.{AnswerBody}
-use Rattle.link_msg.specs.declared.answer.AnswerBody.TheVariants.{NotNow, Moved, Unreached}
+use Rattle.link_msg.specs.declared.answer.AnswerBody.TheVariants.{NotNow, Lost, Moved, Unreached}
 use Rattle.link_msg.specs.declared.outcome.Outcome.TheVariants.{None as nothing, Exists, Limit}
 use Rattle.mupdate_codec.specs.declared.command.MResponse.{MResponse}
 use Rattle.mupdate_codec.specs.declared.command.MResponse.TheVariants as response
@@ -130,9 +130,10 @@ after_here held (entry.Pointer name server) moves here = absurd moves
 
 -- ---- what is answered and sent
 
--- the answer tells of no server to which a mailbox has moved
+-- the answer tells of no server to which a mailbox has moved, nor that the command is lost
 abbrev pub TellsNoServer : AnswerBody → Type 0
 TellsNoServer (Moved server) = ⊥
+TellsNoServer Lost = ⊥
 TellsNoServer body = Unit {0}
 
 abbrev pub IsNotMoved : Told → Type 0

@@ -27,6 +27,7 @@ use Rattle.cluster_core.proofs.Runs.OnPairs.{goes_over_links, know_by_law}
 use Rattle.cluster_core.proofs.Runs.OwnClientsLaw.{serves_its_own_each}
 use Rattle.cluster_core.proofs.Runs.Unrolled.{by_steps}
 use Rattle.cluster_core.proofs.Asking.AsksLaw.{asks_by_records}
+use Rattle.cluster_core.proofs.Asking.LeftLaw.{leaves_rightly_each}
 use Rattle.cluster_core.proofs.Asking.OnceLaw.{asks_once}
 use Rattle.cluster_core.proofs.Lines.LinesLaw.{begins_only_as_asked}
 use Rattle.cluster_core.proofs.Connections.KeepsLaw.{KeepsLaw}
@@ -78,6 +79,8 @@ one_mail_server config events are dated fit each =
           (λ before later parts node front at.
           (let its = ((law_at before later parts).nodes).fronts node front at in (its.first_is, its.master_is)));
       asks_once = asks_once config events are (λ before later parts node front at. (((law_at before later parts).nodes).fronts node front at).master_is);
+      leaves = leaves_rightly_each config events are
+          (λ before later parts node front at. (((law_at before later parts).nodes).fronts node front at).master_is);
       lines = begins_only_as_asked config events are fit each;
       records = records_stand_each config events are each;
       disks = stands_on_disks config events each;
