@@ -8,9 +8,9 @@ use Rattle.std.proofs.lemmas.List.Elements.{All-nil}
 use Rattle.cluster_core.specs.World.{cuts_if, joins_if, may_cut, may_join, node_at, with_cut, with_join, backends_of, client_at, client_does, deliver_first, first_state, master_at, no_world, opens, start, stepped, steps_by, taken_from_link, takes, told_up, with_client, with_node, with_nodes, with_ups}
 use Rattle.cluster_core.specs.declared.world.Client.{Client}
 use Rattle.link_msg.specs.declared.message.LinkMsg.{LinkMsg}
+use Rattle.link_queue.proofs.BrokenLaws.{is_broken-breaking, is_broken-mending, none_broken}
 use Rattle.link_queue.specs.Broken.{Broken, breaking, is_broken, mending}
 use Rattle.link_queue.specs.Links.{Links, cut_short, on_link, same_link, without_first}
-use Rattle.link_queue.proofs.BrokenLaws.{is_broken-breaking, is_broken-mending, none_broken}
 use Rattle.link_queue.proofs.Wires.{on_link-cut, on_link-taken, same_names}
 use Rattle.master_core.specs.declared.master.Master.{Master}
 use Rattle.master_core.specs.Boot.{booted}
@@ -30,12 +30,12 @@ use Rattle.schedule_text.specs.declared.event.Event.{Event}
 use Rattle.schedule_text.specs.declared.event.Event.TheVariants.{Open, Data, Hang, Deliver, Cut, Join, Crash, Arm, Start, Flow, Heal}
 use Rattle.cluster_core.specs.declared.world.World.{World}
 use Rattle.cluster_core.specs.Flow.{run_steps}
-use Rattle.cluster_core.proofs.Points.Outside.{AreThey, IsIts, they_keep}
-use Rattle.cluster_core.proofs.Keeps.Always.{HoldsAlways}
 use Rattle.cluster_core.proofs.Links.Events.{another_both}
 use Rattle.cluster_core.proofs.Links.Tells.{ArePartedAt, cut_parted, kind_of, one_there, parted_back, parted_still}
-use Rattle.cluster_core.proofs.Runs.NeverMoved.{may_join_broken}
+use Rattle.cluster_core.proofs.Points.Outside.{AreThey, IsIts, they_keep}
+use Rattle.cluster_core.proofs.Keeps.Always.{HoldsAlways}
 use Rattle.cluster_core.proofs.Keeps.AlwaysSteps.{comes_holds}
+use Rattle.cluster_core.proofs.Runs.NeverMoved.{may_join_broken}
 
 -- ---- a message is taken off a link
 

@@ -1,10 +1,10 @@
 -- EVERY EVENT OF A RUN KEEPS THE LAW.
 use Rattle.std.proofs.Common.{◌≡◌, ◌≢◌, inl, inr, ℕ, List, [], ◌∷◌, ◌++◌, Option, None, Some, refl, sym, ◌∙◌, ap, subst}
 use Rattle.std.specs.List.{AllByRecursion}
+use Rattle.std.specs.Option.{IsSome}
+use Rattle.cluster_core.specs.Headline.OneNode.{node_of}
 use Rattle.cluster_core.specs.World.{client_at, front_at, master_of, home_at, node_at, start, steps_by}
 use Rattle.cluster_core.specs.declared.world.Client.{Client}
-use Rattle.cluster_core.specs.Headline.OneNode.{node_of}
-use Rattle.std.specs.Option.{IsSome}
 use Rattle.front_core.specs.declared.front.Front.{Front}
 use Rattle.imap_talk.specs.Heard.{Heard}
 use Rattle.link_msg.specs.declared.answer.AnswerBody.{AnswerBody}
@@ -22,6 +22,11 @@ use Rattle.node_step.specs.NodeStep.{as_back, as_front, as_master}
 use Rattle.cluster_core.specs.declared.world.World.{World}
 use Rattle.cluster_core.specs.Flow.{run_steps}
 use Rattle.node_step.proofs.NodeKinds.{a_back, a_front, front_is}
+use Rattle.cluster_core.proofs.Answers.Ends.{OwnsClients}
+use Rattle.cluster_core.proofs.Links.Stand.{LinksStand}
+use Rattle.cluster_core.proofs.Links.StandLaw.{links_stand}
+use Rattle.cluster_core.proofs.Links.Tells.{ArePartedAt, front_with_home, kind_of}
+use Rattle.cluster_core.proofs.Links.TellsLaw.{LinksTell, TellsParted, links_tell}
 use Rattle.cluster_core.proofs.Nodes.Comes.{a_master}
 use Rattle.cluster_core.proofs.Answers.AnswerComes.{NamesBackend}
 use Rattle.cluster_core.proofs.Answers.FrontTakes.{MessageNamesBackend}
@@ -29,15 +34,10 @@ use Rattle.cluster_core.proofs.Connections.KeepsLaw.{KeepsLaw}
 use Rattle.cluster_core.proofs.OneServer.AnyStep.{AnyStepKeeps, each_keeps}
 use Rattle.cluster_core.proofs.OneServer.EachStep.{EachKeeps}
 use Rattle.cluster_core.proofs.OneServer.MovingLaw.{moving_of}
-use Rattle.cluster_core.proofs.Starts.StartLaw.{start_keeps}
-use Rattle.cluster_core.proofs.Answers.Ends.{OwnsClients}
-use Rattle.cluster_core.proofs.Links.Stand.{LinksStand}
-use Rattle.cluster_core.proofs.Links.StandLaw.{links_stand}
-use Rattle.cluster_core.proofs.Links.Tells.{ArePartedAt, front_with_home, kind_of}
-use Rattle.cluster_core.proofs.Links.TellsLaw.{LinksTell, TellsParted, links_tell}
-use Rattle.cluster_core.proofs.Runs.NeverMoved.{WorldIsQuiet, never_moved, quiet_moves_none}
 use Rattle.cluster_core.proofs.Runs.OneNodeLaw.{one_more_step}
 use Rattle.cluster_core.proofs.Runs.OwnClientsLaw.{HaveOwnClients, run_own, start_own}
+use Rattle.cluster_core.proofs.Starts.StartLaw.{start_keeps}
+use Rattle.cluster_core.proofs.Runs.NeverMoved.{WorldIsQuiet, never_moved, quiet_moves_none}
 use Rattle.cluster_core.proofs.Runs.QuietNodes.{IsQuiet}
 use Rattle.cluster_core.proofs.Keeps.Always.{HoldsAlways}
 use Rattle.cluster_core.proofs.Keeps.AlwaysRuns.{run_holds}

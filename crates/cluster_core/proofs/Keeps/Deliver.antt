@@ -2,11 +2,11 @@
 use Rattle.std.proofs.Common.{◌≡◌, ◌≢◌, ℕ, List, [], ◌∷◌, Option, None, Some, refl, sym, ◌∙◌, ap, subst}
 use Rattle.cluster_core.specs.Headline.Outside.{table_by, table_at}
 use Rattle.cluster_core.specs.World.{front_at, master_of, home_at, master_at, node_at, taken_from_link}
+use Rattle.front_core.specs.declared.front.Front.{Front}
 use Rattle.imap_talk.specs.Heard.{Heard}
 use Rattle.link_msg.specs.declared.message.LinkMsg.{LinkMsg}
 use Rattle.link_msg.specs.declared.message.LinkMsg.TheVariants.{End}
 use Rattle.link_queue.specs.Links.{on_link}
-use Rattle.front_core.specs.declared.front.Front.{Front}
 use Rattle.master_core.specs.declared.master.Master.{Master}
 use Rattle.master_core.specs.Linked.{node_says}
 use Rattle.mur_config.specs.declared.config.Config.{Config}
@@ -18,9 +18,9 @@ use Rattle.cluster_core.specs.declared.world.World.{World}
 use Rattle.node_step.proofs.NodeKinds.{a_back, a_front}
 use Rattle.cluster_core.proofs.Answers.Ends.{OwnsClients}
 use Rattle.cluster_core.proofs.Answers.FrontTakes.{MessageNamesBackend}
-use Rattle.cluster_core.proofs.Links.Stand.{LinksStand}
 use Rattle.cluster_core.proofs.Commands.Moving.{MovesBy}
 use Rattle.cluster_core.proofs.Connections.KeepsLaw.{KeepsLaw, KeepsOn}
+use Rattle.cluster_core.proofs.Links.Stand.{LinksStand}
 use Rattle.cluster_core.proofs.Nodes.AllCome.{all_come, master_all_come}
 use Rattle.cluster_core.proofs.Nodes.Comes.{master_moved, a_master, wrote}
 use Rattle.cluster_core.proofs.Points.Outside.{WatchersAreIts}

@@ -1,17 +1,17 @@
 -- EVERY EVENT KEEPS THE LAW, where the world holds what stands beside the law.
 use Rattle.std.proofs.Common.{◌≡◌, ℕ, ◌+◌, Bool, true, false, List, [], ◌∷◌, refl, sym, ap, subst}
+use Rattle.std.specs.Cmp.Lexicographic.{slice_cmp}
+use Rattle.std.specs.Ordering.{nat_cmp}
 use Rattle.cluster_core.specs.Heard.{hears}
 use Rattle.cluster_core.specs.World.{master_of, stepped, steps_by, takes}
-use Rattle.std.specs.Ordering.{nat_cmp}
-use Rattle.std.specs.Cmp.Lexicographic.{slice_cmp}
-use Rattle.mur_base.specs.Map.{value_at}
-use Rattle.node_step.specs.NodeStep.{as_master}
-use Rattle.imap_talk.specs.Transcript.{Stop}
 use Rattle.imap_talk.specs.Heard.{Heard, nobody, elsewhere, client}
+use Rattle.imap_talk.specs.Transcript.{Stop}
 use Rattle.link_msg.specs.declared.message.LinkMsg.{LinkMsg}
 use Rattle.link_queue.specs.Links.{on_link}
 use Rattle.mark_history.specs.Marked.{Tale}
+use Rattle.mur_base.specs.Map.{value_at}
 use Rattle.mur_config.specs.declared.config.Config.{Config}
+use Rattle.node_step.specs.NodeStep.{as_master}
 use Rattle.schedule_text.specs.declared.event.Event.{Event}
 use Rattle.schedule_text.specs.declared.event.Event.TheVariants.{Open, Data, Hang, Deliver, Cut, Join, Crash, Arm, Start, Flow, Heal}
 use Rattle.cluster_core.specs.declared.world.World.{World}
@@ -21,13 +21,13 @@ use Rattle.cluster_core.proofs.Connections.ClientEvents.{Keeps, begins, bytes_ke
 use Rattle.cluster_core.proofs.Connections.KeepsLaw.{KeepsLaw, KeepsOn}
 use Rattle.cluster_core.proofs.Connections.KeepsStill.{same_kept, stepped_law}
 use Rattle.cluster_core.proofs.Keeps.Deliver.{StandsBeside, delivered_keeps}
+use Rattle.cluster_core.specs.Numbers.{NumbersFit}
 use Rattle.cluster_core.proofs.Links.Events.{cut_keeps}
 use Rattle.cluster_core.proofs.Links.EventsUp.{join_keeps}
 use Rattle.cluster_core.proofs.Links.Stand.{LinksStand}
 use Rattle.cluster_core.proofs.Links.ThinnedLaw.{BreaksApart, breaks_apart, thinned_keeps}
 use Rattle.cluster_core.proofs.Nodes.AllCome.{all_first, all_takes}
 use Rattle.cluster_core.proofs.Nodes.Thins.{IsNoCut, takes_thinned}
-use Rattle.cluster_core.specs.Numbers.{NumbersFit}
 
 -- no client does it
 abbrev IsNoClients : Event → Type 0

@@ -5,9 +5,10 @@ use Rattle.cluster_core.specs.declared.world.Client.{Client}
 use Rattle.front_core.proofs.OneConnection.Readings.{inputs_in}
 use Rattle.front_core.specs.declared.connection.Connection.{Connection}
 use Rattle.front_core.specs.declared.front.Front.{Front}
-use Rattle.imap_talk.specs.Transcript.{Stop}
 use Rattle.imap_talk.specs.Heard.{Heard, client, frames_heard}
 use Rattle.imap_talk.specs.Inputs.{requests_in}
+use Rattle.imap_talk.specs.Transcript.{Stop}
+use Rattle.imap_talk.specs.Transcript.{Stop}
 use Rattle.imap_talk.specs.declared.inputs.Input.{Input}
 use Rattle.imap_talk.specs.declared.inputs.Input.TheVariants.{Asks}
 use Rattle.imap_talk.proofs.RequestsOf.{answered_lengths, requests_of}
@@ -21,7 +22,6 @@ use Rattle.mur_model.specs.declared.commands.list.Listing.{Listing}
 use Rattle.mur_model.specs.declared.session.Sess.{Sess}
 use Rattle.point_links.specs.Commands.{ClientCommand}
 use Rattle.route_links.specs.Answered.{IsNumbered}
-use Rattle.imap_talk.specs.Transcript.{Stop}
 use Rattle.imap_wire.specs.Frames.{begun}
 use Rattle.cluster_core.specs.declared.world.World.{World}
 use Rattle.cluster_core.proofs.Commands.Knows.{Knows, KnowsNames, listed_by}

@@ -7,9 +7,9 @@ use Rattle.std.specs.Option.{IsSome}
 use Rattle.ask_routes.specs.Barrier.{barrier_answered}
 use Rattle.back_node.specs.declared.node.BackNode.{BackNode}
 use Rattle.cluster_core.specs.World.{master_of, front_at, home_at, taken_from_link}
+use Rattle.feed_links.proofs.Names.{other_name}
 use Rattle.feed_links.specs.Lines.{messages_to}
 use Rattle.feed_links.specs.OneFeed.{AreNoops}
-use Rattle.feed_links.proofs.Names.{other_name}
 use Rattle.front_core.specs.declared.connection.Connection.{Connection}
 use Rattle.front_core.specs.declared.connection.Stage.TheVariants.{Ended}
 use Rattle.front_core.specs.declared.front.Front.{Front}
@@ -30,6 +30,8 @@ use Rattle.mur_config.specs.declared.config.Config.{Config}
 use Rattle.node_step.specs.declared.input.NodeInput.TheVariants.{From}
 use Rattle.cluster_core.specs.declared.world.World.{World}
 use Rattle.std.proofs.lemmas.Option.{same_Some}
+use Rattle.cluster_core.proofs.Answers.Ends.{OwnsClients}
+use Rattle.cluster_core.proofs.Asking.ServerEnds.{IsForClient, server_ends}
 use Rattle.cluster_core.proofs.Commands.Standing.{Fixed, next_id}
 use Rattle.cluster_core.proofs.Connections.KeepsLaw.{ConnectionIs, IsAt, KeepsLaw, KeepsOn, fixed_of}
 use Rattle.cluster_core.proofs.Connections.KeepsLaw.ConnectionIs.{is_nobody, is_elsewhere, is_open, is_cut_off, is_closed}
@@ -38,14 +40,12 @@ use Rattle.cluster_core.proofs.Feeds.Apart.{backend_apart, servers_apart}
 use Rattle.cluster_core.proofs.Feeds.DeliveredNoops.{HasNumbers, answer_noops, line_noops}
 use Rattle.cluster_core.proofs.Feeds.Kept.{IsKept, front_answered_kept, front_hears_kept}
 use Rattle.cluster_core.proofs.Feeds.Noops.{AreApart}
-use Rattle.cluster_core.proofs.Asking.ServerEnds.{IsForClient, server_ends}
 use Rattle.cluster_core.proofs.Links.Stand.{LinksStand}
 use Rattle.cluster_core.proofs.Nodes.AllCome.{all_come}
 use Rattle.cluster_core.proofs.Nodes.Comes.{master_no_home_at}
 use Rattle.cluster_core.proofs.Places.FrontFirst.{about_ok, answer_tells, none_comes, ok_tells}
 use Rattle.cluster_core.proofs.Places.Stays.{same_name_or}
 use Rattle.cluster_core.proofs.Answers.AnswerComes.{NamesBackend}
-use Rattle.cluster_core.proofs.Answers.Ends.{OwnsClients}
 use Rattle.cluster_core.proofs.Answers.FrontTakes.{MessageNamesBackend, front_takes_keep}
 use Rattle.cluster_core.proofs.Answers.Keeps.{frontend_of}
 use Rattle.cluster_core.proofs.Answers.OtherMessages.{idles}

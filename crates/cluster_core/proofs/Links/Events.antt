@@ -1,26 +1,26 @@
 -- A LINK BREAKS: End stands behind all that was on its way on both, which is about nobody; and then messages on them are gone.
 use Rattle.std.proofs.Common.{◌≡◌, ◌≢◌, ◌&&◌, ◌||◌, ℕ, Bool, true, false, cond, List, [], ◌∷◌, ◌++◌, take, None, Some, refl, sym, ◌∙◌, ap, subst, append-nil}
-use Rattle.std.specs.Ordering.{nat_cmp}
 use Rattle.std.specs.Cmp.Lexicographic.{slice_cmp}
+use Rattle.std.specs.Ordering.{nat_cmp}
 use Rattle.cluster_core.specs.World.{cuts_if, is_nothing, master_of, may_cut, with_cut}
 use Rattle.cluster_core.specs.declared.world.World.{World}
 use Rattle.front_core.proofs.OneConnection.Places.{PlacesStay as MessagesStay, about, nobody_whom, of_connection, of_nobody, others_sent}
 use Rattle.imap_talk.specs.Heard.{Heard}
 use Rattle.link_msg.specs.declared.message.LinkMsg.{LinkMsg}
 use Rattle.link_msg.specs.declared.message.LinkMsg.TheVariants.{End}
-use Rattle.link_queue.specs.Broken.{Broken, breaking, is_broken, mending}
-use Rattle.link_queue.specs.Links.{Links, cut_short, on_link, same_link, sent}
 use Rattle.link_queue.proofs.BrokenLaws.{is_broken-breaking}
 use Rattle.link_queue.proofs.Wires.{on_link-cut, on_link-sent}
-use Rattle.mur_base.specs.Map.{value_at, with_entry}
+use Rattle.link_queue.specs.Broken.{Broken, breaking, is_broken, mending}
+use Rattle.link_queue.specs.Links.{Links, cut_short, on_link, same_link, sent}
 use Rattle.mur_base.proofs.MapLaws.{names_apart, value_at-with_entry}
+use Rattle.mur_base.specs.Map.{value_at, with_entry}
 use Rattle.mur_config.specs.declared.config.Config.{Config}
 use Rattle.cluster_core.proofs.Connections.KeepsLaw.{KeepsLaw, KeepsOn}
 use Rattle.cluster_core.proofs.Connections.KeepsStill.{same_kept}
+use Rattle.cluster_core.proofs.Links.Relinked.{Relinks, relinked_keeps}
 use Rattle.cluster_core.proofs.Links.Stand.{LinksStand}
 use Rattle.cluster_core.proofs.Links.Thinned.{IsPart, IsThinned, all_of, first_of, first_part, part_and}
 use Rattle.cluster_core.proofs.Links.ThinnedLaw.{breaks_apart, thinned_keeps}
-use Rattle.cluster_core.proofs.Links.Relinked.{Relinks, relinked_keeps}
 
 -- ---- which links are broken then
 

@@ -2,22 +2,22 @@
 use Rattle.std.proofs.Common.{◌≡◌, ℕ, Bool, true, false, cond, List, [], ◌∷◌, ◌++◌, Some, refl, sym, ◌∙◌, ap}
 use Rattle.cluster_core.specs.World.{front_at, is_nothing, joins_if, master_of, may_join, with_join}
 use Rattle.cluster_core.specs.declared.world.World.{World}
-use Rattle.front_core.specs.Ups.{is_up}
 use Rattle.front_core.specs.Front.{connection_at, waits_for}
+use Rattle.front_core.specs.Ups.{is_up}
 use Rattle.front_core.specs.declared.front.Front.{Front}
 use Rattle.imap_talk.specs.Heard.{Heard}
 use Rattle.link_msg.specs.declared.message.LinkMsg.{LinkMsg}
 use Rattle.link_msg.specs.declared.message.LinkMsg.TheVariants.{End, Up}
-use Rattle.link_queue.specs.Broken.{is_broken, mending}
-use Rattle.link_queue.specs.Links.{on_link, same_link}
 use Rattle.link_queue.proofs.BrokenLaws.{is_broken-mending}
 use Rattle.link_queue.proofs.Wires.{same_names}
+use Rattle.link_queue.specs.Broken.{is_broken, mending}
+use Rattle.link_queue.specs.Links.{on_link, same_link}
 use Rattle.mur_config.specs.declared.config.Config.{Config}
 use Rattle.cluster_core.proofs.Connections.KeepsLaw.{KeepsLaw, KeepsOn}
 use Rattle.cluster_core.proofs.Connections.KeepsStill.{same_kept}
-use Rattle.cluster_core.proofs.Links.Stand.{IsDown, LinksStand}
-use Rattle.cluster_core.proofs.Links.Relinked.{Relinks, relinked_keeps}
 use Rattle.cluster_core.proofs.Links.Events.{and_parts, another_both, mends_some, messages_both, none_there}
+use Rattle.cluster_core.proofs.Links.Relinked.{Relinks, relinked_keeps}
+use Rattle.cluster_core.proofs.Links.Stand.{IsDown, LinksStand}
 
 -- ---- a link comes up
 

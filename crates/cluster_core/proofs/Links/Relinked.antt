@@ -1,7 +1,7 @@
 -- THE LAW STANDS WHERE OTHER LINKS ARE BROKEN, and where more stands on links that is about nobody: each command is where it was.
 use Rattle.std.proofs.Common.{◌≡◌, ℕ, true, is_some, List, [], Option, Some, refl, sym, ◌∙◌, ap, subst}
-use Rattle.std.specs.Ordering.{nat_cmp}
 use Rattle.std.specs.Cmp.Lexicographic.{slice_cmp}
+use Rattle.std.specs.Ordering.{nat_cmp}
 use Rattle.asking_core.specs.declared.waiting.At.TheVariants.{Home}
 use Rattle.cluster_core.specs.World.{client_at, front_at, home_at, master_of, setting_of}
 use Rattle.cluster_core.specs.declared.world.World.{World}
@@ -22,15 +22,15 @@ use Rattle.imap_types.specs.declared.request.Answer.{Answer}
 use Rattle.imap_wire.specs.Frames.{begun}
 use Rattle.link_queue.specs.Broken.{is_broken}
 use Rattle.link_queue.specs.Links.{on_link}
-use Rattle.many_links.specs.ManyHold.{ManyHold}
 use Rattle.many_links.proofs.FrontLaw.{alike_hold}
+use Rattle.many_links.specs.ManyHold.{ManyHold}
 use Rattle.mark_history.specs.Marked.{talk_told}
 use Rattle.mur_base.specs.Map.{value_at}
 use Rattle.mur_base.specs.declared.point.AskId.{AskId}
 use Rattle.mur_config.specs.declared.config.Config.{Config}
+use Rattle.mur_model.proofs.HistoryGrows.{same_talk}
 use Rattle.mur_model.specs.declared.commands.list.Listing.{Listing}
 use Rattle.mur_model.specs.declared.session.Sess.{Sess}
-use Rattle.mur_model.proofs.HistoryGrows.{same_talk}
 use Rattle.node_step.specs.NodeStep.{as_back, as_front}
 use Rattle.route_links.specs.Barriers.{Place as barrier}
 use Rattle.cluster_core.proofs.Commands.AllReached.{AreMarkedSo, relinked}

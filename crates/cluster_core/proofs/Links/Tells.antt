@@ -1,25 +1,25 @@
 -- Which nodes' links may break, by what each is. It stays that whatever comes to a node.
 use Rattle.std.proofs.Common.{◌≡◌, ◌≢◌, ◌&&◌, ℕ, Bool, true, false, not, List, Option, None, Some, refl, sym, ◌∙◌, ap}
 use Rattle.std.proofs.Math.Logic.{⊎_elim}
-use Rattle.std.specs.Ordering.{is_eq, nat_cmp}
 use Rattle.std.specs.Cmp.Lexicographic.{slice_cmp}
 use Rattle.std.specs.Option.{IsSome}
+use Rattle.std.specs.Ordering.{is_eq, nat_cmp}
+use Rattle.cluster_core.specs.World.{are_parted, comes, may_cut, may_part, node_at}
+use Rattle.cluster_core.specs.declared.world.World.{World}
 use Rattle.link_queue.specs.Broken.{is_broken}
 use Rattle.mur_base.proofs.MapLaws.{names_apart, same_or_other}
+use Rattle.mur_base.specs.Map.{value_at}
 use Rattle.mur_config.specs.declared.node.Kind.{Kind}
 use Rattle.mur_config.specs.declared.node.Kind.TheVariants.{Master as master_kind, Frontend, Backend}
+use Rattle.node_step.specs.NodeStep.{as_back, back_takes, front_takes, master_takes, takes as node_takes}
 use Rattle.node_step.specs.declared.input.NodeInput.{NodeInput}
 use Rattle.node_step.specs.declared.input.NodeInput.TheVariants.{Opened, Piece, Hung, From}
 use Rattle.node_step.specs.declared.node.NodeState.{NodeState}
 use Rattle.node_step.specs.declared.node.NodeState.TheVariants as state
-use Rattle.node_step.specs.NodeStep.{as_back, back_takes, front_takes, master_takes, takes as node_takes}
-use Rattle.cluster_core.specs.declared.world.World.{World}
-use Rattle.cluster_core.specs.World.{are_parted, comes, may_cut, may_part, node_at}
 use Rattle.cluster_core.proofs.Nodes.AllCome.{all_come, all_come_by, none_all_come}
 use Rattle.cluster_core.proofs.Nodes.Carried.{made}
 use Rattle.cluster_core.proofs.Nodes.Comes.{made_here, made_other, wrote}
 use Rattle.cluster_core.proofs.Nodes.Thins.{comes_thinned}
-use Rattle.mur_base.specs.Map.{value_at}
 
 -- a link between these may break
 abbrev pub ArePartedAt : World → List ℕ → List ℕ → Type 0
@@ -85,25 +85,13 @@ parted_still world next same one other parted =
     ∙ ap (λ k. are_kinds k (kind_of (node_at next other))) (same one) ∙ ap (are_kinds (kind_of (node_at world one))) (same other)
     ∙ sym (part_by (node_at world one) (node_at world other)) ∙ parted
 
--- both are there
+-- it is there
 pub one_there : (world : World) (one other : List ℕ) → ArePartedAt world one other → node_at world one ≢ None
 unfolding may_part
 one_there world one other parted none =
     (let no : false ≡ true = sym (ap (λ n. may_part n (node_at world other)) none) ∙ parted in cc)
 
-pub other_there : (world : World) (one other : List ℕ) → ArePartedAt world one other → node_at world other ≢ None
-other_there world one other parted none = one_there world other one (parted_back world one other parted) none
-
--- none is the master, and of a frontend's the other is a backend
-not_master : (found : Option Kind) → are_kinds (Some master_kind) found ≡ true → ⊥
-unfolding are_kinds
-not_master found parted = cc
-
-pub master_whole : (world : World) (one other : List ℕ) → kind_of (node_at world one) ≡ Some master_kind → ArePartedAt world one other → ⊥
-master_whole world one other is parted =
-    not_master (kind_of (node_at world other))
-    (ap (λ k. are_kinds k (kind_of (node_at world other))) (sym is) ∙ sym (part_by (node_at world one) (node_at world other)) ∙ parted)
-
+-- where the other is a frontend, it is a backend
 is_back : (it : Option NodeState) → are_kinds (kind_of it) (Some Frontend) ≡ true → IsSome (as_back it)
 unfolding are_kinds as_back
 is_back None e = cc

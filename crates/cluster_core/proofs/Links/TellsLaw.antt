@@ -1,17 +1,17 @@
 -- WHAT TELLS OF LINKS IN A RUN: Up and End are on their way between a frontend and a backend, or between two backends, alone.
 use Rattle.std.proofs.Common.{◌≡◌, ℕ, Bool, true, false, List, [], ◌∷◌, ◌++◌, take, Option, None, Some, refl, sym, subst}
 use Rattle.std.specs.List.{AllByRecursion}
-use Rattle.feed_links.proofs.FeedLaw.{both as both_lists}
-use Rattle.cluster_core.specs.declared.world.Client.{Client}
-use Rattle.cluster_core.specs.declared.world.World.{World}
 use Rattle.cluster_core.specs.Flow.{run_steps}
 use Rattle.cluster_core.specs.World.{client_at, client_does, comes, cuts_if, deliver_first, joins_if, master_of, may_cut, may_join, node_at, opens, start, stepped, steps_by, taken_from_link, takes, with_client}
+use Rattle.cluster_core.specs.declared.world.Client.{Client}
+use Rattle.cluster_core.specs.declared.world.World.{World}
+use Rattle.feed_links.proofs.FeedLaw.{both as both_lists}
 use Rattle.link_msg.specs.declared.message.LinkMsg.{LinkMsg}
 use Rattle.link_msg.specs.declared.message.LinkMsg.TheVariants.{Answer, Ask, End, Line, Up}
-use Rattle.link_queue.specs.Links.{Links, cut_short, on_link, same_link, sent}
 use Rattle.link_queue.proofs.Wires.{on_link-cut, on_link-sent, same_names}
-use Rattle.mur_config.specs.declared.config.Config.{Config}
+use Rattle.link_queue.specs.Links.{Links, cut_short, on_link, same_link, sent}
 use Rattle.mur_config.specs.Nodes.{AreNodes}
+use Rattle.mur_config.specs.declared.config.Config.{Config}
 use Rattle.node_step.specs.declared.input.NodeInput.{NodeInput}
 use Rattle.node_step.specs.declared.input.NodeInput.TheVariants.{Opened, Piece, Hung, From}
 use Rattle.schedule_text.specs.declared.event.Event.{Event}

@@ -1,10 +1,10 @@
 -- A world of which messages are gone that were on broken links: each queue has what it had, in its order, but for some messages, and a link that isn't broken has all.
 use Rattle.std.proofs.Common.{◌≡◌, ℕ, Bool, true, false, cond, List, [], ◌∷◌, ◌++◌, Option, None, Some, filter, take, zero, suc, refl, sym, ◌∙◌, ap}
-use Rattle.link_queue.specs.Broken.{is_broken}
-use Rattle.link_queue.specs.Links.{Links, on_link, same_link}
+use Rattle.cluster_core.specs.declared.world.World.{World}
 use Rattle.link_queue.proofs.Placed.{Carried, IsFound}
 use Rattle.link_queue.proofs.Wires.{same_itself, same_names}
-use Rattle.cluster_core.specs.declared.world.World.{World}
+use Rattle.link_queue.specs.Broken.{is_broken}
+use Rattle.link_queue.specs.Links.{Links, on_link, same_link}
 
 -- ---- a part of a list, in its order
 

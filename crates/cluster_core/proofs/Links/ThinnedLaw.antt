@@ -1,9 +1,9 @@
 -- THE LAW OF A WORLD OF WHICH MESSAGES ON BROKEN LINKS ARE GONE: the links of the master have all, so the names and the feeds are as they were; a command that was in an ask or
 -- in an answer that is gone is dropped, if it still waits, and nowhere otherwise.
 use Rattle.std.proofs.Common.{◌≡◌, ℕ, Bool, true, false, is_some, List, [], ◌∷◌, Option, None, Some, refl, sym, ◌∙◌, ap, subst, arith, append-nil}
-use Rattle.std.specs.Ordering.{nat_cmp}
 use Rattle.std.proofs.lemmas.Option.{same_Some}
 use Rattle.std.specs.Cmp.Lexicographic.{slice_cmp}
+use Rattle.std.specs.Ordering.{nat_cmp}
 use Rattle.asking_core.specs.declared.waiting.At.{At}
 use Rattle.cluster_core.specs.World.{client_at, front_at, home_at, master_of, setting_of}
 use Rattle.cluster_core.specs.declared.world.World.{World}
@@ -20,16 +20,16 @@ use Rattle.imap_talk.specs.declared.inputs.Input.{Input}
 use Rattle.imap_types.specs.declared.command.Tag.{Tag}
 use Rattle.imap_types.specs.declared.request.Answer.{Answer}
 use Rattle.imap_types.specs.declared.request.Request.{Request}
+use Rattle.imap_wire.specs.Frames.{begun}
 use Rattle.link_msg.specs.declared.answer.BackAnswer.{BackAnswer}
 use Rattle.link_msg.specs.declared.ask.FrontAsk.{FrontAsk}
-use Rattle.imap_wire.specs.Frames.{begun}
 use Rattle.link_msg.specs.declared.message.LinkMsg.{LinkMsg}
 use Rattle.link_msg.specs.declared.message.LinkMsg.TheVariants.{Answer as answer_of, Ask as ask_of}
+use Rattle.link_queue.proofs.Placed.{Carried}
 use Rattle.link_queue.specs.Broken.{Broken, is_broken}
 use Rattle.link_queue.specs.Links.{on_link}
-use Rattle.link_queue.proofs.Placed.{Carried}
-use Rattle.many_links.specs.ManyHold.{ManyHold}
 use Rattle.many_links.proofs.FrontLaw.{alike_hold}
+use Rattle.many_links.specs.ManyHold.{ManyHold}
 use Rattle.mark_history.specs.Marked.{Tale}
 use Rattle.mur_base.specs.Map.{value_at}
 use Rattle.mur_base.specs.declared.point.AskId.{AskId}
@@ -46,9 +46,10 @@ use Rattle.cluster_core.proofs.Commands.InPlace.{IsInNone, IsInPlace}
 use Rattle.cluster_core.proofs.Commands.Knows.{Knows, KnowsNames}
 use Rattle.cluster_core.proofs.Commands.Place.{Place, at_barrier, its_message, Place as place}
 use Rattle.cluster_core.proofs.Commands.Standing.{Fixed, IsLeft, Stands, Waiting, WaitsAt, next_id}
-use Rattle.cluster_core.proofs.Connections.ConnectionLaw.{IsDroppedAt, IsInNoneOf, IsInPlaceOf, IsMarkedAt, IsStanding}
+use Rattle.cluster_core.proofs.Connections.ConnectionLaw.{IsInNoneOf, IsInPlaceOf, IsMarkedAt, IsStanding}
 use Rattle.cluster_core.proofs.Connections.KeepsLaw.{ConnectionIs, FeedsHold, IsAt, IsGone, IsUntold, KeepsLaw, KeepsOn, fixed_of, murder_of}
 use Rattle.cluster_core.proofs.Connections.KeepsLaw.ConnectionIs.{is_nobody, is_elsewhere, is_open, is_cut_off, is_closed}
+use Rattle.cluster_core.proofs.Connections.Stays.{dropped_stays}
 use Rattle.cluster_core.proofs.Feeds.Beside.{still_fed, still_feeds}
 use Rattle.cluster_core.proofs.Links.Stand.{LinksStand}
 use Rattle.cluster_core.proofs.Links.Thinned.{IsFoundThen, IsThinned, found_then}
@@ -271,14 +272,6 @@ module _ (fixed : Fixed) (world next : World) (apart : BreaksApart fixed.master 
 
   -- ---- a connection
 
-  dropped_then : (front : List ℕ) (here : Place) → IsDroppedAt world front here → IsDroppedAt next front here
-  dropped_then front place.nowhere is = tt
-  dropped_then front (place.is_asked server ask) is = tt
-  dropped_then front (place.is_answered server answer) is = tt
-  dropped_then front (place.is_dropped server) is = ap (λ (b : Broken). is_broken b server front) thin.broken ∙ is
-  dropped_then front (place.is_at me name) is = tt
-  dropped_then front (place.is_barred at) is = tt
-
   marked_then : (moving : ℕ → List ℕ → Bool) (id : AskId) (here : Place) → IsMarkedAt moving world.marks id here → IsMarkedAt moving next.marks id here
   marked_then moving id here is = subst (λ m. IsMarkedAt moving m id here) (sym thin.marks) is
 
@@ -301,7 +294,7 @@ module _ (fixed : Fixed) (world next : World) (apart : BreaksApart fixed.master 
     here = standing.here;
     placed = placed;
     marked = marked_then story.talk.moving (next_id conn (story.told conn)) standing.here standing.marked;
-    dropped = dropped_then front standing.here standing.dropped;
+    dropped = dropped_stays world next front thin.broken standing.here standing.dropped;
     stands = standing.stands;
   }
   standing_by front replica conn inputs held connection story standing (is_gone server between cut placed nowhere) = record {

@@ -1,21 +1,21 @@
 -- What comes to a node, in a world in which nothing that it lets out is lost: so a step of what the node is makes of the nodes, and of all links.
 use Rattle.std.proofs.Common.{◌≡◌, ℕ, List, [], ◌∷◌, Option, None, Some, ap, ◌∙◌}
 use Rattle.back_node.specs.declared.node.BackNode.{BackNode}
+use Rattle.cluster_core.specs.World.{client_at, front_at, home_at, master_at, node_at, taken_from_link, with_client}
+use Rattle.cluster_core.specs.declared.world.Client.{Client}
+use Rattle.cluster_core.specs.declared.world.World.{World}
 use Rattle.front_core.specs.declared.front.Front.{Front}
 use Rattle.link_msg.specs.declared.message.LinkMsg.{LinkMsg}
 use Rattle.link_queue.specs.Links.{on_link}
 use Rattle.master_core.specs.declared.master.Master.{Master}
+use Rattle.node_step.proofs.NodeKinds.{front_is, back_is, master_is}
+use Rattle.node_step.specs.NodeStep.{takes as node_takes}
 use Rattle.node_step.specs.declared.input.NodeInput.{NodeInput}
 use Rattle.node_step.specs.declared.input.NodeInput.TheVariants.{Opened, Piece, Hung, From}
 use Rattle.node_step.specs.declared.node.NodeState.{NodeState}
 use Rattle.node_step.specs.declared.node.NodeState.TheVariants as state
-use Rattle.node_step.specs.NodeStep.{takes as node_takes}
-use Rattle.node_step.proofs.NodeKinds.{front_is, back_is, master_is}
 use Rattle.schedule_text.specs.declared.event.Event.{Event}
 use Rattle.schedule_text.specs.declared.event.Event.TheVariants.{Open, Data, Hang, Deliver}
-use Rattle.cluster_core.specs.declared.world.Client.{Client}
-use Rattle.cluster_core.specs.declared.world.World.{World}
-use Rattle.cluster_core.specs.World.{client_at, front_at, home_at, master_at, node_at, taken_from_link, with_client}
 use Rattle.cluster_core.proofs.Nodes.Carried.{made}
 use Rattle.cluster_core.proofs.Nodes.Comes.{back_step, front_does, front_step, home_does, master_does, master_step, with_front, with_home, with_master, wrote}
 

@@ -1,4 +1,4 @@
--- What the outputs of a node change where no link is broken: the links by those to nodes, the clients by what is given to them, and the marks. What its step
+-- What the outputs of a node change: the links by those to nodes, the clients by what is given to them, and the marks. What its step
 -- writes to its disk changes nothing else.
 use Rattle.std.proofs.Common.{◌≡◌, ℕ, false, if◌then◌else◌, List, [], ◌∷◌, ◌++◌, Option, None, Some, refl, sym, ap, ◌∙◌, append-nil, append_assoc}
 use Rattle.std.specs.Ordering.{nat_cmp}

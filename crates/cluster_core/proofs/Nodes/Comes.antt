@@ -1,4 +1,4 @@
--- What comes to a node is a step of what the node is, where no link is broken; all other nodes are as they were. The entry of the step is written first.
+-- What comes to a node is a step of what the node is; all other nodes are as they were. The entry of the step is written first.
 use Rattle.std.proofs.Common.{◌≡◌, ◌≢◌, ℕ, List, [], Option, None, Some, refl, sym, ◌∙◌, ap, subst}
 use Rattle.std.specs.Ordering.{nat_cmp}
 use Rattle.std.specs.Cmp.Lexicographic.{slice_cmp}
@@ -47,6 +47,7 @@ with_master world node next = made world node (state.Master next.master) next.ou
 abbrev pub wrote : World → List ℕ → NodeState → NodeInput → World
 wrote world node it input = with_written world node (node_takes it input).entry
 
+-- where no link is broken all that it lets out is carried out
 pub comes_by : (world : World) (node : List ℕ) (input : NodeInput) (it : NodeState) → world.broken ≡ [] → node_at world node ≡ Some it
     → comes world node input ≡ made (wrote world node it input) node (node_takes it input).state (node_takes it input).outs
 unfolding comes_to
@@ -74,11 +75,6 @@ front_step world node front (Piece conn bytes) = refl
 front_step world node front (Hung conn) = refl
 front_step world node front (From name message) = refl
 
-pub front_comes : (world : World) (node : List ℕ) (input : NodeInput) (front : Front) → world.broken ≡ [] → front_at world node ≡ Some front
-    → comes world node input ≡ with_front world node (front_does front input)
-front_comes world node input front whole at =
-    comes_by world node input (state.Front front) whole (front_is (node_at world node) front at) ∙ front_step world node front input
-
 -- ---- a backend, of which clients want nothing
 
 abbrev pub home_does : BackNode → NodeInput → BackActed
@@ -93,11 +89,6 @@ back_step world node home (Opened conn) = refl
 back_step world node home (Piece conn bytes) = refl
 back_step world node home (Hung conn) = refl
 back_step world node home (From name message) = refl
-
-pub home_comes : (world : World) (node : List ℕ) (input : NodeInput) (home : BackNode) → world.broken ≡ [] → home_at world node ≡ Some home
-    → comes world node input ≡ with_home (wrote world node (state.Back home) input) node (home_does home input)
-home_comes world node input home whole at =
-    comes_by world node input (state.Back home) whole (back_is (node_at world node) home at) ∙ back_step world node home input
 
 -- ---- the master
 
@@ -115,11 +106,6 @@ master_step world node master (Opened conn) = refl
 master_step world node master (Piece conn bytes) = refl
 master_step world node master (Hung conn) = refl
 master_step world node master (From name message) = refl
-
-pub master_comes : (world : World) (node : List ℕ) (input : NodeInput) (master : Master) → world.broken ≡ [] → master_at world node ≡ Some master
-    → comes world node input ≡ with_master (wrote world node (state.Master master) input) node (master_does master input)
-master_comes world node input master whole at =
-    comes_by world node input (state.Master master) whole (master_is (node_at world node) master at) ∙ master_step world node master input
 
 -- nothing is written of what a client does
 pub client_writes : (world : World) (node : List ℕ) (it : NodeState) (input : NodeInput) → IsOfClient input → wrote world node it input ≡ world

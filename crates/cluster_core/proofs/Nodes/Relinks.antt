@@ -1,7 +1,7 @@
 -- A link that breaks or comes up changes the links alone.
 use Rattle.std.proofs.Common.{◌≡◌, ℕ, Bool, true, false, List, refl}
-use Rattle.cluster_core.specs.declared.world.World.{World}
 use Rattle.cluster_core.specs.World.{cuts_if, joins_if}
+use Rattle.cluster_core.specs.declared.world.World.{World}
 
 pub record OnlyRelinks (world next : World) : Type 0 where
   pub nodes : next.nodes ≡ world.nodes

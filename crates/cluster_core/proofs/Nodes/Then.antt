@@ -1,12 +1,12 @@
 -- The nodes and the clients behind what comes to a node are those of the world in which nothing of it is lost.
 use Rattle.std.proofs.Common.{◌≡◌, ℕ, List, Option, ap}
-use Rattle.std.specs.Ordering.{nat_cmp}
 use Rattle.std.specs.Cmp.Lexicographic.{slice_cmp}
+use Rattle.std.specs.Ordering.{nat_cmp}
+use Rattle.cluster_core.specs.World.{client_at, comes, node_at}
+use Rattle.cluster_core.specs.declared.world.World.{World}
 use Rattle.mur_base.specs.Map.{value_at}
 use Rattle.node_step.specs.declared.input.NodeInput.{NodeInput}
 use Rattle.node_step.specs.declared.node.NodeState.{NodeState}
-use Rattle.cluster_core.specs.declared.world.World.{World}
-use Rattle.cluster_core.specs.World.{client_at, comes, node_at}
 use Rattle.cluster_core.proofs.Nodes.AllCome.{all_come}
 use Rattle.cluster_core.proofs.Nodes.Thins.{comes_thinned}
 

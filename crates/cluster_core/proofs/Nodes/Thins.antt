@@ -1,8 +1,11 @@
 -- What comes to a node makes of a world what it makes of it where nothing is lost, but for messages that were to go on broken links.
 use Rattle.std.proofs.Common.{◌≡◌, ◌≢◌, ℕ, Bool, true, false, if◌then◌else◌, List, [], ◌∷◌, ◌++◌, Option, None, Some, refl, sym, ap, subst, ◌∙◌, nat_eq, append-nil}
 use Rattle.std.proofs.Math.Logic.{⊎_elim}
-use Rattle.std.specs.Ordering.{nat_cmp}
 use Rattle.std.specs.Cmp.Lexicographic.{pointwise, same_text, slice_cmp}
+use Rattle.std.specs.Ordering.{nat_cmp}
+use Rattle.cluster_core.specs.World.{acts, client_at, client_does, comes, comes_to, deliver_first, is_lost, node_at, not_lost, opens, taken_from_link, takes, with_acted, with_client, with_written}
+use Rattle.cluster_core.specs.declared.world.Client.{Client}
+use Rattle.cluster_core.specs.declared.world.World.{World}
 use Rattle.feed_links.specs.Lines.{message_to, messages_to}
 use Rattle.link_msg.specs.declared.message.LinkMsg.{LinkMsg}
 use Rattle.link_msg.specs.declared.out.Out.{Out}
@@ -11,15 +14,12 @@ use Rattle.link_queue.specs.Broken.{Broken, is_broken}
 use Rattle.link_queue.specs.Links.{Links, on_link}
 use Rattle.many_links.proofs.Carried.{puts_else, puts_own}
 use Rattle.mur_base.proofs.MapLaws.{names_apart, same_or_other}
+use Rattle.node_step.specs.NodeStep.{Acted, takes as node_takes}
 use Rattle.node_step.specs.declared.input.NodeInput.{NodeInput}
 use Rattle.node_step.specs.declared.input.NodeInput.TheVariants.{Opened, Piece, Hung, From}
 use Rattle.node_step.specs.declared.node.NodeState.{NodeState}
-use Rattle.node_step.specs.NodeStep.{Acted, takes as node_takes}
 use Rattle.schedule_text.specs.declared.event.Event.{Event}
 use Rattle.schedule_text.specs.declared.event.Event.TheVariants.{Open, Data, Hang, Deliver, Cut, Join}
-use Rattle.cluster_core.specs.declared.world.Client.{Client}
-use Rattle.cluster_core.specs.declared.world.World.{World}
-use Rattle.cluster_core.specs.World.{acts, client_at, client_does, comes, comes_to, deliver_first, is_lost, node_at, not_lost, opens, taken_from_link, takes, with_acted, with_client, with_written}
 use Rattle.cluster_core.proofs.Links.Thinned.{IsPart, IsPart, IsThinned, all_of, behind_same, same_thinned}
 use Rattle.cluster_core.proofs.Nodes.AllCome.{all_come, all_come_to, all_first, all_of_client, all_open, all_takes}
 use Rattle.cluster_core.proofs.Nodes.Carried.{IsCarried, all_carried, given_all, given_out, made, mark_made, marks_made}

@@ -1,5 +1,4 @@
 -- What a step does for a command that has no reply: it carries it out, sees it, or leaves it; and what its new place tells then.
-use Rattle.link_queue.specs.Broken.{Broken}
 use Rattle.std.proofs.Common.{◌≡◌, ℕ, ◌+◌, List, [], ◌∷◌, ◌++◌, length, Some, refl, sym, ◌∙◌, ap, subst, arith, length-append}
 use Rattle.imap_talk.proofs.AnswersEnd.{worked_ends}
 use Rattle.imap_types.specs.declared.command.Command.{Command}
@@ -9,6 +8,7 @@ use Rattle.imap_types.specs.declared.request.Request.{Request}
 use Rattle.imap_types.specs.declared.request.Request.TheVariants.{Command as a_command}
 use Rattle.link_msg.specs.declared.counts.Counts.{Counts}
 use Rattle.link_msg.specs.declared.counts.Counts.TheVariants.{IfAnswered}
+use Rattle.link_queue.specs.Broken.{Broken}
 use Rattle.mark_history.specs.Marked.{Tale, acting, done, open_ask, with_list}
 use Rattle.mark_history.specs.declared.mark.Mark.{Mark}
 use Rattle.mark_history.specs.declared.mark.MarkKind.TheVariants.{Home}

@@ -1,6 +1,5 @@
 -- A backend takes the ask of a CREATE or DELETE, the master's response to the line of its flow, or anything else of the master: what its place tells then. No such step
 -- makes a mark, and the store does nothing.
-use Rattle.link_queue.specs.Broken.{Broken}
 use Rattle.std.proofs.Common.{◌≡◌, ◌≢◌, ℕ, ◌&&◌, Bool, true, false, List, [], ◌∷◌, Option, None, Some, refl, sym, ◌∙◌, ap, subst}
 use Rattle.back_links.specs.BackEvents.{IsFitting, fits_by}
 use Rattle.back_links.specs.Written.{response_message}
@@ -15,6 +14,7 @@ use Rattle.imap_types.specs.declared.command.Tag.{Tag}
 use Rattle.imap_types.specs.declared.op.Op.{Op}
 use Rattle.link_msg.specs.declared.message.LinkMsg.{LinkMsg}
 use Rattle.link_msg.specs.declared.message.LinkMsg.TheVariants.{Ask}
+use Rattle.link_queue.specs.Broken.{Broken}
 use Rattle.link_queue.specs.Links.{on_link}
 use Rattle.many_links.specs.Murder.{Murder, home_takes}
 use Rattle.many_links.specs.ManyHold.{ManyHold}

@@ -1,6 +1,5 @@
 -- The master takes the NOOP of a command that waits for its OK: where the mailbox is missing this is the command's point, and else the step only sees it. The
 -- OK will tell it by the table of this step, for whatever reason the NOOP was sent.
-use Rattle.link_queue.specs.Broken.{Broken}
 use Rattle.std.proofs.Common.{◌≡◌, ◌≢◌, ◌⊎◌, inl, inr, ℕ, List, [], ◌∷◌, ◌++◌, Option, None, Some, refl, sym, ◌∙◌}
 use Rattle.ask_routes.specs.declared.next.Why.{Why}
 use Rattle.ask_routes.specs.declared.next.Why.TheVariants as why
@@ -8,6 +7,7 @@ use Rattle.asking_core.specs.declared.waiting.At.{At}
 use Rattle.imap_types.specs.declared.command.Tag.{Tag}
 use Rattle.link_msg.specs.declared.counts.Counts.TheVariants.{IfAnswered}
 use Rattle.link_msg.specs.declared.out.Out.TheVariants.{Link, Mark as mark}
+use Rattle.link_queue.specs.Broken.{Broken}
 use Rattle.many_links.specs.Murder.{Murder, master_takes}
 use Rattle.many_links.specs.ManyHold.{ManyHold}
 use Rattle.mark_history.specs.Marked.{Tale, last_mark}

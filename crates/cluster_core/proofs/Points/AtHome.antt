@@ -1,5 +1,4 @@
 -- A backend takes the ask of a command at a mailbox: where it has the name open this is the command's point, and else the step only sees it.
-use Rattle.link_queue.specs.Broken.{Broken}
 use Rattle.std.proofs.Common.{◌≡◌, ℕ, true, false, List, [], ◌∷◌, refl, ap, subst}
 use Rattle.asking_core.specs.Answered.{answered}
 use Rattle.asking_core.specs.declared.waiting.At.{At}
@@ -15,6 +14,7 @@ use Rattle.link_msg.specs.declared.counts.Counts.TheVariants.{IfAnswered}
 use Rattle.link_msg.specs.declared.message.LinkMsg.TheVariants.{Ask, Answer}
 use Rattle.link_msg.specs.declared.out.Out.{Out}
 use Rattle.link_msg.specs.declared.out.Out.TheVariants.{Link, Mark as mark}
+use Rattle.link_queue.specs.Broken.{Broken}
 use Rattle.many_links.specs.Murder.{Murder, home_takes}
 use Rattle.many_links.specs.ManyHold.{ManyHold}
 use Rattle.mark_history.specs.Marked.{Tale}

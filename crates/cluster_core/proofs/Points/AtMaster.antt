@@ -1,6 +1,5 @@
 -- The master takes the line of a CREATE's or DELETE's flow. ACTIVATE, a RESERVE that is refused for good, or DELETE is the command's point; a RESERVE or
 -- DEACTIVATE whose OK lets its backend go on, or a RESERVE that puts it off, isn't, and the step makes no mark for it.
-use Rattle.link_queue.specs.Broken.{Broken}
 use Rattle.std.proofs.Common.{◌≡◌, ◌≢◌, ◌⊎◌, inl, inr, ℕ, Bool, true, false, List, [], ◌∷◌, ◌++◌, filter, Option, None, Some, refl, sym, ◌∙◌, ap, subst}
 use Rattle.asking_core.specs.Answered.{answered}
 use Rattle.asking_core.specs.declared.waiting.At.{At}
@@ -14,6 +13,7 @@ use Rattle.link_msg.specs.declared.message.LinkMsg.{LinkMsg}
 use Rattle.link_msg.specs.declared.out.Out.{Out}
 use Rattle.link_msg.specs.declared.out.Out.TheVariants.{Link, Mark as mark}
 use Rattle.link_msg.specs.declared.outcome.Outcome.TheVariants.{None as nothing, Exists, Limit}
+use Rattle.link_queue.specs.Broken.{Broken}
 use Rattle.mail_message.specs.Boxes.{Content}
 use Rattle.many_links.specs.Murder.{Murder, master_takes}
 use Rattle.many_links.specs.ManyHold.{ManyHold}

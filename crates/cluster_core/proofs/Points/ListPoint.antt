@@ -1,6 +1,5 @@
 -- The master takes the NOOP of a LIST that waits for its OK: this is the LIST's point. The store replies by its mailboxes, which are those of the table of this
 -- step, and the OK will tell the reply by that table.
-use Rattle.link_queue.specs.Broken.{Broken}
 use Rattle.std.proofs.Common.{◌≡◌, ℕ, ◌+◌, List, [], ◌∷◌, ◌++◌, length, Some, refl, sym, ◌∙◌, ap, subst}
 use Rattle.feed_core.specs.Listing.{mailbox_names}
 use Rattle.feed_links.specs.Replicas.{recs_of}
@@ -11,6 +10,7 @@ use Rattle.imap_types.specs.declared.command.Tag.{Tag}
 use Rattle.imap_types.specs.declared.request.Request.TheVariants.{Command as a_command}
 use Rattle.link_msg.specs.declared.counts.Counts.TheVariants.{IfAnswered}
 use Rattle.link_msg.specs.declared.message.LinkMsg.{LinkMsg}
+use Rattle.link_queue.specs.Broken.{Broken}
 use Rattle.link_queue.specs.Links.{on_link, without_first}
 use Rattle.many_links.specs.ManyHold.{ManyHold}
 use Rattle.many_links.specs.Murder.{Murder, after_master}

@@ -1,6 +1,4 @@
 -- A LIST waits at its frontend: its message is between the frontend and the master. Wherever it is behind a step, its connection goes on so.
-use Rattle.imap_talk.specs.Transcript.{Stop}
-use Rattle.imap_talk.specs.Transcript.Stop.{silent}
 use Rattle.std.proofs.Common.{◌≡◌, ℕ, ◌+◌, List, length, Some, sym, ◌∙◌, ap, subst}
 use Rattle.front_core.specs.Ending.{EndsOnlyLast}
 use Rattle.front_core.proofs.OneConnection.Readings.{inputs_in}
@@ -10,6 +8,8 @@ use Rattle.imap_talk.proofs.RequestsOf.{requests_of}
 use Rattle.imap_talk.proofs.TranscriptGrows.{AreAnswered}
 use Rattle.imap_talk.specs.Heard.{Heard, frames_heard}
 use Rattle.imap_talk.specs.Inputs.{requests_in}
+use Rattle.imap_talk.specs.Transcript.{Stop}
+use Rattle.imap_talk.specs.Transcript.Stop.{silent}
 use Rattle.imap_types.specs.declared.command.Command.{Command}
 use Rattle.imap_types.specs.declared.command.Tag.{Tag}
 use Rattle.imap_types.specs.declared.request.Answer.{Answer}

@@ -1,8 +1,5 @@
 -- A backend takes a message that isn't about a connection: the connection's command stays where it is, or the message ends the resync for which it waits, and
 -- it is tested.
-use Rattle.imap_talk.specs.Transcript.{Stop}
-use Rattle.imap_talk.specs.Transcript.Stop.{is_lost, silent}
-use Rattle.link_queue.specs.Broken.{Broken, is_broken}
 use Rattle.std.proofs.Common.{◌≡◌, ◌≢◌, ◌⊎◌, inl, inr, ℕ, ◌+◌, true, false, List, ◌∷◌, length, Option, Some, sym, ◌∙◌, ap, subst, Bool}
 use Rattle.std.specs.Ordering.{nat_cmp}
 use Rattle.std.specs.Cmp.Lexicographic.{slice_cmp}
@@ -17,6 +14,8 @@ use Rattle.front_core.proofs.OneConnection.Readings.{inputs_in}
 use Rattle.front_core.specs.declared.connection.Connection.{Connection}
 use Rattle.front_core.specs.declared.front.Front.{Front}
 use Rattle.imap_talk.specs.Heard.{Heard, client}
+use Rattle.imap_talk.specs.Transcript.{Stop}
+use Rattle.imap_talk.specs.Transcript.Stop.{is_lost, silent}
 use Rattle.imap_talk.specs.declared.inputs.Input.{Input}
 use Rattle.imap_types.specs.declared.command.Tag.{Tag}
 use Rattle.imap_wire.specs.Frames.{begun}
@@ -40,10 +39,10 @@ use Rattle.cluster_core.specs.World.{client_at, front_at, home_at, taken_from_li
 use Rattle.cluster_core.proofs.Commands.Knows.Knows.{is_decided, undecided}
 use Rattle.cluster_core.proofs.Commands.Place.{Place, Place as place}
 use Rattle.cluster_core.proofs.Commands.Standing.{Fixed, WaitsAt, next_id}
-use Rattle.cluster_core.proofs.Connections.ConnectionLaw.{IsDroppedAt, IsInNoneOf, IsInPlaceOf, IsMarkedAt, IsStanding, MarksStay, client_till, client_with}
+use Rattle.cluster_core.proofs.Connections.ConnectionLaw.{IsInNoneOf, IsInPlaceOf, IsMarkedAt, IsStanding, MarksStay, client_till, client_with}
 use Rattle.cluster_core.proofs.Connections.KeepsLaw.{ConnectionIs, IsAt, IsGone, IsUntold, KeepsLaw, fixed_of, murder_of}
 use Rattle.cluster_core.proofs.Connections.KeepsLaw.ConnectionIs.{is_nobody, is_elsewhere, is_open, is_cut_off, is_closed}
-use Rattle.cluster_core.proofs.Connections.Stays.{marked_stays}
+use Rattle.cluster_core.proofs.Connections.Stays.{dropped_stays, marked_stays}
 use Rattle.cluster_core.proofs.Nodes.Comes.{with_home}
 use Rattle.cluster_core.proofs.Steps.HomeHears.{other_lines_stay_none, other_lines_stay_or_test}
 use Rattle.cluster_core.proofs.Steps.HomeLinks.{IsInThen, IsNowhereThen}
@@ -67,14 +66,6 @@ pub record LeavesElse (conn : ℕ) (world next : World) (story later : Tale) : T
   pub said : later.talk.answers conn ≡ story.talk.answers conn
   pub session : later.course.sessions conn ≡ story.course.sessions conn
   pub moving : later.talk.moving ≡ story.talk.moving
-
-pub dropped_same : (world next : World) (node : List ℕ) (here : Place) → next.broken ≡ world.broken → IsDroppedAt world node here → IsDroppedAt next node here
-dropped_same world next node place.nowhere same is = tt
-dropped_same world next node (place.is_asked server ask) same is = tt
-dropped_same world next node (place.is_answered server answer) same is = tt
-dropped_same world next node (place.is_dropped server) same is = ap (λ (b : Broken). is_broken b server node) same ∙ is
-dropped_same world next node (place.is_at me name) same is = tt
-dropped_same world next node (place.is_barred at) same is = tt
 
 module _ (fixed : Fixed) (conn : ℕ) (world next : World) (story later : Tale) (same : LeavesElse conn world next story later) where
   abbrev id : AskId
@@ -104,7 +95,7 @@ module _ (fixed : Fixed) (conn : ℕ) (world next : World) (story later : Tale) 
     here = standing.here;
     placed = placed_then node replica standing.here placed;
     marked = marked_then standing.here standing.marked;
-    dropped = dropped_same world next node standing.here same.broken standing.dropped;
+    dropped = dropped_stays world next node same.broken standing.here standing.dropped;
     stands = rw (same.told, same.said, same.session) standing.stands;
   }
 

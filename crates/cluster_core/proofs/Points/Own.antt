@@ -1,14 +1,14 @@
 -- What a step that is about the command of a connection makes of its tale, its marks, and the connection itself.
-use Rattle.link_queue.specs.Broken.{Broken}
-use Rattle.imap_talk.specs.Transcript.{Stop}
 use Rattle.std.proofs.Common.{◌≡◌, ◌≢◌, ℕ, List, [], ◌∷◌, ◌++◌, Option, None, Some, refl, sym, ◌∙◌, ap, subst, append-nil}
 use Rattle.asking_core.specs.declared.waiting.At.{At}
 use Rattle.cluster_core.specs.World.{setting_of, client_at, front_at}
 use Rattle.front_core.specs.declared.front.Front.{Front}
 use Rattle.imap_talk.specs.Heard.{Heard}
+use Rattle.imap_talk.specs.Transcript.{Stop}
 use Rattle.imap_types.specs.declared.command.Tag.{Tag}
 use Rattle.link_msg.specs.declared.counts.Counts.{Counts}
 use Rattle.link_msg.specs.declared.counts.Counts.TheVariants.{IfAnswered}
+use Rattle.link_queue.specs.Broken.{Broken}
 use Rattle.many_links.specs.ManyHold.{ManyHold}
 use Rattle.mark_history.specs.Marked.{Tale}
 use Rattle.mark_history.specs.declared.mark.Mark.{Mark}

@@ -1,8 +1,5 @@
 -- The first message of a link tells whose command it is of, what the connection of that is at, and where the command is. Wherever it is behind the step, its
 -- connection goes on so. That of a LIST is told in ListWaits.
-use Rattle.link_queue.specs.Broken.{Broken}
-use Rattle.imap_talk.specs.Transcript.{Stop}
-use Rattle.imap_talk.specs.Transcript.Stop.{is_lost, silent}
 use Rattle.std.proofs.Common.{◌≡◌, ℕ, ◌≢◌, ◌+◌, Bool, true, false, List, [], ◌∷◌, ◌++◌, length, None, Some, refl, sym, ◌∙◌, ap, subst}
 use Rattle.asking_core.specs.declared.waiting.At.{At}
 use Rattle.asking_core.specs.declared.waiting.At.TheVariants.{Home, Barrier as at_master}
@@ -17,6 +14,8 @@ use Rattle.imap_talk.proofs.RequestsOf.{answered_lengths, next_request, requests
 use Rattle.imap_talk.proofs.TranscriptGrows.{AreAnswered}
 use Rattle.imap_talk.specs.Heard.{Heard, client, frames_heard}
 use Rattle.imap_talk.specs.Inputs.{requests_in}
+use Rattle.imap_talk.specs.Transcript.{Stop}
+use Rattle.imap_talk.specs.Transcript.Stop.{is_lost, silent}
 use Rattle.imap_talk.specs.declared.inputs.Input.{Input}
 use Rattle.imap_talk.specs.declared.inputs.Input.TheVariants.{Asks}
 use Rattle.imap_types.specs.declared.command.Command.{Command}
@@ -29,6 +28,7 @@ use Rattle.link_msg.specs.declared.answer.BackAnswer.{BackAnswer}
 use Rattle.link_msg.specs.declared.ask.FrontAsk.{FrontAsk}
 use Rattle.link_msg.specs.declared.message.LinkMsg.{LinkMsg}
 use Rattle.link_queue.proofs.Placed.{Carried}
+use Rattle.link_queue.specs.Broken.{Broken}
 use Rattle.link_queue.specs.Links.{on_link}
 use Rattle.mark_history.specs.Marked.{Tale}
 use Rattle.mark_history.specs.declared.mark.Mark.{Mark}

@@ -22,12 +22,12 @@ use Rattle.front_core.specs.Front.{connection_at, new_front}
 use Rattle.imap_talk.specs.Heard.{nobody, frames_heard}
 use Rattle.imap_talk.specs.Inputs.{inputs_of, requests_in}
 use Rattle.imap_talk.proofs.RequestsOf.{requests_of}
+use Rattle.imap_talk.specs.Transcript.Stop.{silent}
 use Rattle.link_msg.specs.declared.message.LinkMsg.TheVariants.{Line}
 use Rattle.link_queue.specs.Links.{on_link}
 use Rattle.many_links.specs.ManyHold.{ManyHold}
 use Rattle.many_links.specs.Start.{HasBegun, told_up}
 use Rattle.many_links.proofs.BegunLaw.{many_begin}
-use Rattle.imap_talk.specs.Transcript.Stop.{silent}
 use Rattle.mark_history.specs.Marked.{first_tale}
 use Rattle.master_core.specs.declared.master.Master.{Master}
 use Rattle.master_core.specs.Boot.{booted}
