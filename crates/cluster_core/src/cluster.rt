@@ -1,11 +1,12 @@
 // The cluster as one value.
-ghost use Rattle.std.specs.Prelude.{◌≡◌, List, IfOk, OnOk};
+ghost use Rattle.std.specs.Prelude.{◌≡◌, ◌≤◌, List, length, IfOk, OnOk};
 ghost use Rattle.std.specs.Option.{option_copied, option_map};
 ghost use Rattle.master_core.specs.declared.master.Master.{Master};
 ghost use Rattle.mur_config.specs.declared.config.Config.{Config};
 ghost use Rattle.imap_command.specs.Ruled.{IsDate};
 ghost use Rattle.mur_config.specs.Nodes.{AreNodes};
 ghost use Rattle.schedule_text.specs.declared.event.Event.{Event};
+ghost use Rattle.schedule_text.specs.Brings.{most_links};
 ghost use Rattle.schedule_text.specs.ScheduleFits.{HasCountRoom};
 ghost use Rattle.cluster_core.specs.Headline.AtRest.{NothingWaitsBehind};
 ghost use Rattle.cluster_core.specs.Flow.{happens, ran, run_steps, steps_of_event, steps_of_run};
@@ -89,7 +90,8 @@ impl Cluster {
     /// Takes one event, in single steps, in each of which one node works, for its own clients alone. For want of memory the cluster is spent: drop it.
     #[tactic(auto, using(crate::proofs::Runs::Unrolled::event_made))]
     pub fn step(&mut self, event: Event) -> Result<(), Memory>
-        requires { HasRoom self.old.world event }
+        requires room { HasRoom self.old.world event }
+        requires links { length self.old.layout.pairs ≤ most_links }
         ensures event { OnOk result (self.new ≡ record self.old { world = happens self.old.layout self.old.world event }) }
         ensures steps { OnOk result (self.new.world ≡ run_steps self.old.world (steps_of_event self.old.layout self.old.world event)) }
         ensures its_steps { AreItsSteps self.old.layout self.old.world event }

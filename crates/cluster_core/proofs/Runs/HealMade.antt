@@ -1,10 +1,13 @@
 -- What a heal does is the same whatever joins were made before, and it takes at most one step for each link.
-use Rattle.std.proofs.Common.{◌≡◌, ℕ, ◌+◌, ◌≤◌, ◌<◌, ◌^◌, Bool, true, false, List, [], ◌∷◌, length, ◌∙◌, ap, subst, arith}
+use Rattle.std.proofs.Common.{◌≡◌, ℕ, ◌+◌, ◌≤◌, ◌<◌, ◌^◌, Bool, true, false, List, [], ◌∷◌, length, Result, Ok, Err, OnOk, ◌∙◌, ap, subst, arith}
 use Rattle.mur_config.specs.declared.node.Link.{Link}
-use Rattle.schedule_text.specs.declared.event.Event.TheVariants.{Join}
+use Rattle.schedule_text.specs.Brings.{most_links, steps_of}
+use Rattle.schedule_text.specs.declared.event.Event.TheVariants.{Heal, Join}
 use Rattle.cluster_core.specs.declared.world.World.{World}
 use Rattle.cluster_core.specs.Flow.{Healing, heal_by, heal_link, heal_links}
+use Rattle.cluster_core.specs.Room.{HasRoom}
 use Rattle.cluster_core.specs.World.{may_join, steps_by}
+use Rattle.cluster_core.proofs.Runs.RoomLaw.{step_steps}
 
 -- no join so far
 abbrev pub unhealed : World → Healing
@@ -42,3 +45,14 @@ heal_over left world end none whole = subst (λ l. (heal_links (unhealed world) 
 pub heal_room : (all rest : List Link) (link : Link) (steps later : ℕ) → all ≡ link ∷ rest → later ≤ steps + 1 → steps + length all < 2 ^ 64
     → later + length rest < 2 ^ 64
 heal_room all rest link steps later e few room = omega (arith, few, room, ap length e)
+
+-- a join is one step
+pub join_counts : {X E : Type 0} (result : Result X E) (world next : World) (one other : List ℕ) → OnOk result (next ≡ steps_by world (Join one other))
+    → OnOk result (next.steps ≤ world.steps + 1)
+join_counts (Ok x) world next one other e = omega (arith, ap (λ (w : World). w.steps) e, step_steps world (Join one other))
+join_counts (Err x) world next one other e = tt
+
+-- there are as many steps as a configuration has links at most
+pub heal_fits : (world : World) (links all : List Link) → HasRoom world Heal → length all ≤ most_links → links ≡ all → world.steps + length links < 2 ^ 64
+unfolding steps_of
+heal_fits world links all room few same = omega (arith, room.steps, few, ap length same)

@@ -1,15 +1,17 @@
 use Rattle.std.proofs.Common.{rules, sym, ◌∙◌}
 use Rattle.cluster_core.proofs.Whole.HeadlineLaw.{one_server_by_room}
 use Rattle.cluster_core.proofs.Runs.CarryOn.{empty_by_length, shorter}
-use Rattle.cluster_core.proofs.Runs.RunRoom.{way_begins, way_goes_on, way_has_room, way_ends}
+use Rattle.cluster_core.proofs.Runs.RunRoom.{way_begins, way_goes_on, way_has_room, way_is_few, way_ends}
 use Rattle.cluster_core.proofs.cluster.run.Goals as goal
 
 pub loop-event-init : goal.loop-event-init
 loop-event-init c = record { can_next = tt; is_finite = tt; count = search rules; way = way_begins _ _ _ _ c.in_ok-cluster.ensures.nodes c.in_ok-cluster.ensures.start (search rules) }
 
 pub step-requires : goal.step-requires
-step-requires c =
-    way_has_room c.args.config.now c.args.events _ _ _ _ c.requires c.in-Some.ensures.steps.0 c.loop-event.invariant.way
+step-requires c = record {
+  room = way_has_room c.args.config.now c.args.events _ _ _ _ c.requires c.in-Some.ensures.steps.0 c.loop-event.invariant.way;
+  links = way_is_few c.args.config.now c.args.events _ _ c.loop-event.invariant.way;
+}
 
 pub loop-event-preserved : goal.loop-event-preserved
 loop-event-preserved c = record {

@@ -3,10 +3,10 @@ use Rattle.cluster_core.proofs.Runs.RoomLaw.{step_fits}
 use Rattle.cluster_core.proofs.happens.happens.Goals as goal
 
 pub open-requires : goal.open-requires
-open-requires c = step_fits c.args.world.now _ c.requires
+open-requires c = step_fits c.args.world.now _ c.requires.room
 
 pub hang-requires : goal.hang-requires
-hang-requires c = step_fits c.args.world.now _ c.requires
+hang-requires c = step_fits c.args.world.now _ c.requires.room
 
 pub overflow_add-world : goal.overflow_add-world
-overflow_add-world c = omega (arith, step_fits c.args.world.now _ c.requires)
+overflow_add-world c = omega (arith, step_fits c.args.world.now _ c.requires.room)
