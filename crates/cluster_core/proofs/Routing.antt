@@ -7,6 +7,7 @@ pub mod Begun
 pub mod Works
 pub mod HomeAnswers
 pub mod Makes
+pub mod Unreached
 pub mod HowMade
 pub mod NamesTaken
 pub mod Alone

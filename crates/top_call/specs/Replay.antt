@@ -164,7 +164,8 @@ pub record EndsBehindConfig (names : Names) (before now : HostFacts) (status : S
   pub ended : EndsAtSchedule config names.schedule between now status
 
 -- both were right, and the call ended as it wrote the text of the run. Of this run the headline holds: its clients were given what one
--- mailbox store replies to the printed history, a mailbox has at most one writable home, and each refusal of relocation has its cause.
+-- mailbox store replies to the printed history, up to a line that a command was lost with a link; a mailbox has at most one writable home,
+-- and each refusal of relocation has its cause.
 -- The text tells what this run gave its clients, its history, its mailboxes and its counts, whether or not an output took it
 pub record EndsBehindRun (names : Names) (before now : HostFacts) (status : Status) : Type 0 where
   pub config : Configuration

@@ -3,7 +3,6 @@ use Rattle.std.proofs.Common.{◌≡◌, ◌≢◌, ℕ, ◌+◌, ◌≤◌, ◌
 use Rattle.ask_routes.specs.Ways.{ask_for, behind_ok}
 use Rattle.ask_routes.specs.declared.next.Next.{Next}
 use Rattle.ask_routes.specs.declared.next.Next.TheVariants as next
-use Rattle.ask_routes.specs.declared.next.Why.{Why}
 use Rattle.asking_core.specs.Answered.{answered, goes_on, refused, told, told_in}
 use Rattle.asking_core.specs.Begins.{first_by}
 use Rattle.asking_core.specs.Cleared.{cleared}

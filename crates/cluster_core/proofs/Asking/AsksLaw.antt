@@ -37,9 +37,9 @@ use Rattle.cluster_core.specs.Headline.Asks.{AsksByRecords, AsksRightly, IsFirst
 use Rattle.cluster_core.specs.Headline.OneNode.{leaves_on, node_of, worker}
 use Rattle.cluster_core.specs.World.{backends_of, carry, carry_all, client_at, client_does, comes_to, deliver_first, front_at, home_of, master_of, node_at, not_lost, opens, or_backend, start, stepped, steps_by, taken_from_link, takes, with_client, with_acted}
 use Rattle.cluster_core.proofs.Asking.NodeAsks.{KnowsFirst, MovesNobody, node_asks, taken_in}
-use Rattle.cluster_core.proofs.Runs.NeverMoved.{WorldIsQuiet, given_links, never_moved, quiet_moves_none}
+use Rattle.cluster_core.proofs.Runs.NeverMoved.{WorldIsQuiet, never_moved, quiet_moves_none}
 use Rattle.cluster_core.proofs.Runs.NotLost.{let_left}
-use Rattle.cluster_core.proofs.Runs.OneNodeLaw.{carry_all_sends, nothing_first, one_more_step, same_worker}
+use Rattle.cluster_core.proofs.Runs.OneNodeLaw.{carry_all_sends, given_links, nothing_first, one_more_step, same_worker}
 use Rattle.cluster_core.proofs.Runs.QuietNodes.{AnyClient, IsQuietOn}
 use Rattle.cluster_core.proofs.Starts.Kinds.{first_backend}
 

@@ -1,5 +1,5 @@
 -- A command that waits is left without a reply only as its client closes the connection, or as its frontend takes the End of the link to its server.
-use Rattle.std.proofs.Common.{◌≡◌, ◌≢◌, ◌⊎◌, inl, inr, ℕ, ◌+◌, ◌==◌, nat_eq, Bool, true, false, List, [], ◌∷◌, ◌++◌, Option, None, Some, refl, sym, ◌∙◌, ap, subst, arith}
+use Rattle.std.proofs.Common.{◌≡◌, ◌≢◌, ◌⊎◌, inl, inr, ℕ, nat_eq, Bool, true, false, List, [], ◌∷◌, Option, None, Some, refl, sym, ◌∙◌, ap, subst, arith}
 use Rattle.std.specs.Prelude.{⊤, slice_get}
 use Rattle.std.specs.List.{AllByRecursion}
 use Rattle.std.specs.Ordering.{nat_cmp}
@@ -8,9 +8,8 @@ use Rattle.std.proofs.Math.Logic.{⊎_elim}
 use Rattle.ask_routes.specs.Barrier.{barrier_answered}
 use Rattle.asking_core.specs.declared.waiting.At.{At}
 use Rattle.asking_core.specs.declared.waiting.At.TheVariants.{Home, Barrier}
-use Rattle.asking_core.specs.declared.waiting.Waiting.{Waiting}
 use Rattle.front_core.specs.Ended.{released, released_at}
-use Rattle.front_core.specs.Front.{Stepped, answer_at, answer_from, bytes_by, bytes_in, connect, connect_at, connection_at, deliver, end_from, front_bytes_at, front_hang_at, hang, having_read, hung_up, is_asked, line_by, line_from, ok_at, still, up_from, waits_for, ways_of, with_turned, with_up, without_up}
+use Rattle.front_core.specs.Front.{answer_at, answer_from, bytes_by, bytes_in, connect, connect_at, connection_at, deliver, end_from, front_bytes_at, front_hang_at, hang, having_read, hung_up, is_asked, line_by, line_from, ok_at, up_from, waits_for, ways_of, with_turned, with_up, without_up}
 use Rattle.front_core.specs.Reading.{inputs_of_more}
 use Rattle.front_core.specs.Slots.{new_connection}
 use Rattle.front_core.specs.Stages.{asks_at, has_asked}
@@ -20,13 +19,11 @@ use Rattle.front_core.specs.declared.connection.Stage.{Stage}
 use Rattle.front_core.specs.declared.connection.Stage.TheVariants.{Reading, Waits, Lists, Ended}
 use Rattle.front_core.specs.declared.front.Front.{Front}
 use Rattle.front_core.proofs.FramesLaws.{HoldsBack}
-use Rattle.imap_types.specs.declared.command.Tag.{Tag}
 use Rattle.link_msg.specs.declared.answer.AnswerBody.TheVariants.{Lost}
 use Rattle.link_msg.specs.declared.answer.BackAnswer.{BackAnswer}
 use Rattle.link_msg.specs.declared.message.LinkMsg.{LinkMsg}
 use Rattle.link_msg.specs.declared.message.LinkMsg.TheVariants.{Up, End, Line, Ask, Answer}
 use Rattle.link_queue.specs.Links.{on_link}
-use Rattle.mur_base.specs.Map.{with_entry, with_value}
 use Rattle.mur_base.specs.declared.point.AskId.{AskId}
 use Rattle.mur_base.proofs.MapLaws.{names_apart, numbers_apart, same_or_other, value_at-with_entry-other, value_at-with_value, value_at-with_value-other}
 use Rattle.mur_config.specs.declared.config.Config.{Config}
@@ -35,8 +32,8 @@ use Rattle.node_step.specs.declared.input.NodeInput.{NodeInput}
 use Rattle.node_step.specs.declared.input.NodeInput.TheVariants.{Opened, Piece, Hung, From}
 use Rattle.node_step.specs.declared.node.NodeState.{NodeState}
 use Rattle.node_step.specs.declared.node.NodeState.TheVariants as state
-use Rattle.node_step.specs.NodeStep.{as_front, back_takes, front_takes, master_takes, takes as node_takes}
-use Rattle.node_step.proofs.NodeKinds.{a_front, front_is}
+use Rattle.node_step.specs.NodeStep.{as_front, front_takes, takes as node_takes}
+use Rattle.node_step.proofs.NodeKinds.{a_front}
 use Rattle.schedule_text.specs.declared.event.Event.{Event}
 use Rattle.schedule_text.specs.declared.event.Event.TheVariants.{Hang, Deliver}
 use Rattle.cluster_core.specs.declared.world.World.{World}
@@ -44,7 +41,7 @@ use Rattle.cluster_core.specs.Flow.{run_steps, steps_of_run}
 use Rattle.cluster_core.specs.Headline.Asks.{taken_by}
 use Rattle.cluster_core.specs.Headline.AsksOnce.{Awaits}
 use Rattle.cluster_core.specs.Headline.Lost.{IsLeft, LeavesRightly, LeavesRightlyEach, TakesItsEnd, WaitsOn}
-use Rattle.cluster_core.specs.Headline.OneNode.{ChangesLinks, WorksBy, relinks, worker}
+use Rattle.cluster_core.specs.Headline.OneNode.{WorksBy, relinks, worker}
 use Rattle.cluster_core.specs.World.{front_at, master_of, node_at, start, steps_by}
 use Rattle.cluster_core.proofs.Asking.Answers.{EndsAnswered, answer_answers, bytes_wait, ok_answers}
 use Rattle.cluster_core.proofs.Asking.NodeAsks.{back_other, master_other, taken_in}
@@ -258,65 +255,65 @@ has_asked_home (Home asked) server is = ap Home (same_text asked server (sym is)
 has_asked_home (Barrier why) server is = cc
 
 module _ (world next : World) (event : Event) (node : List ℕ) (id : AskId) (waits : WaitsOn (front_at world node) id) (left : IsLeft (front_at next node) id)
-    where
-  abbrev c : Connection
-  c = waits.connection
+  where
+    abbrev c : Connection
+    c = waits.connection
 
-  -- a frontend that is as it was left nobody
-  same_leaves : front_at next node ≡ front_at world node → ⊥
-  same_leaves same =
-      let fronts : left.front ≡ waits.front = same_front (sym left.is ∙ same ∙ waits.is) in
-      let its : left.connection ≡ c = same_connection (sym left.there ∙ ap (λ (f : Front). connection_at f id.conn) fronts ∙ waits.there) in
-      waits_on c.stage waits.waits (ap (λ (d : Connection). d.stage) (sym its) ∙ left.ended)
+    -- a frontend that is as it was left nobody
+    same_leaves : front_at next node ≡ front_at world node → ⊥
+    same_leaves same =
+        let fronts : left.front ≡ waits.front = same_front (sym left.is ∙ same ∙ waits.is) in
+        let its : left.connection ≡ c = same_connection (sym left.there ∙ ap (λ (f : Front). connection_at f id.conn) fronts ∙ waits.there) in
+        waits_on c.stage waits.waits (ap (λ (d : Connection). d.stage) (sym its) ∙ left.ended)
 
-  left_so : Left left.front id.conn c
-  left_so = record { then = left.connection; there = left.there; ended = left.ended; same = omega (arith, waits.number, left.number) }
+    left_so : Left left.front id.conn c
+    left_so = record { then = left.connection; there = left.there; ended = left.ended; same = omega (arith, waits.number, left.number) }
 
-  -- its stage, of the server that it has asked
-  awaits_by : (server : List ℕ) (stage : Stage) → c.stage ≡ stage → has_asked stage server ≡ true → Awaits (front_at world node) id server
-  unfolding has_asked
-  awaits_by server Reading is asked = cc
-  awaits_by server (Waits tag it) is asked = record {
-    front = waits.front;
-    is = waits.is;
-    connection = c;
-    there = waits.there;
-    number = waits.number;
-    tag = tag;
-    it = it;
-    stage = is;
-    at = has_asked_home it.at server asked;
-  }
-  awaits_by server (Lists tag it) is asked = cc
-  awaits_by server Ended is asked = cc
+    -- its stage, of the server that it has asked
+    awaits_by : (server : List ℕ) (stage : Stage) → c.stage ≡ stage → has_asked stage server ≡ true → Awaits (front_at world node) id server
+    unfolding has_asked
+    awaits_by server Reading is asked = cc
+    awaits_by server (Waits tag it) is asked = record {
+      front = waits.front;
+      is = waits.is;
+      connection = c;
+      there = waits.there;
+      number = waits.number;
+      tag = tag;
+      it = it;
+      stage = is;
+      at = has_asked_home it.at server asked;
+    }
+    awaits_by server (Lists tag it) is asked = cc
+    awaits_by server Ended is asked = cc
 
-  by_input : (input : NodeInput) → IsBrought event node input → taken_by event world ≡ taken_in input → LeftBy input id.conn c
-      → (event ≡ Hang id.conn) ⊎ TakesItsEnd event world node id
-  by_input input brought taken (by_client is) = inl (subst (IsBrought event node) is brought)
-  by_input input brought taken (by_end server is asked) = inr (record {
-    server = server;
-    event_is = subst (IsBrought event node) is brought;
-    taken = taken ∙ ap taken_in is;
-    waits = awaits_by server c.stage refl asked;
-  })
+    by_input : (input : NodeInput) → IsBrought event node input → taken_by event world ≡ taken_in input → LeftBy input id.conn c
+        → (event ≡ Hang id.conn) ⊎ TakesItsEnd event world node id
+    by_input input brought taken (by_client is) = inl (subst (IsBrought event node) is brought)
+    by_input input brought taken (by_end server is asked) = inr (record {
+      server = server;
+      event_is = subst (IsBrought event node) is brought;
+      taken = taken ∙ ap taken_in is;
+      waits = awaits_by server c.stage refl asked;
+    })
 
-  by_sends : TakesPlain world event → StepSends world event node next → (event ≡ Hang id.conn) ⊎ TakesItsEnd event world node id
-  unfolding node_takes
-  by_sends plain (rests none same links) = absurd (same_leaves (ap as_front same))
-  by_sends plain (is_away away now links) = absurd (same_leaves (ap as_front (now ∙ sym away)))
-  by_sends plain (sends it input there brought taken then links lost) = by_state it there then
-    where
-      by_state : (it : NodeState) → node_at world node ≡ Some it → node_at next node ≡ Some (node_takes it input).state
-          → (event ≡ Hang id.conn) ⊎ TakesItsEnd event world node id
-      by_state (state.Front front) at now =
-          let fronts : front ≡ waits.front = same_front (sym (ap as_front at ∙ a_front front) ∙ waits.is) in
-          by_input input brought taken
-          (front_leaves front id.conn c (ap (λ (f : Front). connection_at f id.conn) fronts ∙ waits.there) waits.waits input left.front
-          (plain node front input (ap as_front at ∙ a_front front) brought taken) (sym (ap as_front now) ∙ left.is) left_so)
-      by_state (state.Back home) at now =
-          absurd (let no : None ≡ Some left.front = sym (ap as_front now ∙ back_other home input) ∙ left.is in cc)
-      by_state (state.Master master) at now =
-          absurd (let no : None ≡ Some left.front = sym (ap as_front now ∙ master_other master input) ∙ left.is in cc)
+    by_sends : TakesPlain world event → StepSends world event node next → (event ≡ Hang id.conn) ⊎ TakesItsEnd event world node id
+    unfolding node_takes
+    by_sends plain (rests none same links) = absurd (same_leaves (ap as_front same))
+    by_sends plain (is_away away now links) = absurd (same_leaves (ap as_front (now ∙ sym away)))
+    by_sends plain (sends it input there brought taken then links lost) = by_state it there then
+      where
+        by_state : (it : NodeState) → node_at world node ≡ Some it → node_at next node ≡ Some (node_takes it input).state
+            → (event ≡ Hang id.conn) ⊎ TakesItsEnd event world node id
+        by_state (state.Front front) at now =
+            let fronts : front ≡ waits.front = same_front (sym (ap as_front at ∙ a_front front) ∙ waits.is) in
+            by_input input brought taken
+            (front_leaves front id.conn c (ap (λ (f : Front). connection_at f id.conn) fronts ∙ waits.there) waits.waits input left.front
+            (plain node front input (ap as_front at ∙ a_front front) brought taken) (sym (ap as_front now) ∙ left.is) left_so)
+        by_state (state.Back home) at now =
+            absurd (let no : None ≡ Some left.front = sym (ap as_front now ∙ back_other home input) ∙ left.is in cc)
+        by_state (state.Master master) at now =
+            absurd (let no : None ≡ Some left.front = sym (ap as_front now ∙ master_other master input) ∙ left.is in cc)
 
 -- whichever node works
 step_leaves : (world : World) (event : Event) → TakesPlain world event → LeavesRightly event world (steps_by world event)

@@ -1,5 +1,5 @@
 -- The link from a server to a frontend ends, which isn't the master: nothing goes out on any link, and each connection is as it was, or has ended.
-use Rattle.std.proofs.Common.{◌≡◌, ◌≢◌, ◌⊎◌, inl, inr, ℕ, nat_eq, Bool, true, false, List, [], ◌∷◌, ◌++◌, Option, None, Some, refl, sym, ◌∙◌, ap, subst}
+use Rattle.std.proofs.Common.{◌≡◌, ◌≢◌, ◌⊎◌, inl, inr, ℕ, nat_eq, Bool, true, false, List, [], ◌∷◌, Option, None, Some, refl, sym, ◌∙◌, ap, subst}
 use Rattle.std.specs.List.{AllByRecursion}
 use Rattle.std.specs.Map.{keys_of}
 use Rattle.std.specs.Ordering.{nat_cmp}
@@ -20,7 +20,7 @@ use Rattle.imap_types.specs.declared.reply.Bye.TheVariants.{Lost}
 use Rattle.imap_types.specs.declared.command.Tag.{Tag}
 use Rattle.asking_core.specs.declared.waiting.Waiting.{Waiting}
 use Rattle.link_msg.specs.declared.out.Out.{Out}
-use Rattle.link_msg.specs.declared.out.Out.TheVariants.{Client, Close, Link, Mark, Told}
+use Rattle.link_msg.specs.declared.out.Out.TheVariants.{Client, Close}
 use Rattle.mur_base.proofs.MapLaws.{numbers_apart, same_or_other, value_at-with_value, value_at-with_value-other}
 
 -- a connection then: it is as it was; or its command waited for the answer of the server, and it has ended

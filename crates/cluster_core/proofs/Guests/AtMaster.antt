@@ -1,7 +1,7 @@
 -- What happens at the master leaves it each of its clients as its dialog says.
 use Rattle.std.proofs.Common.{◌≡◌, ℕ, List, [], ◌++◌, Option, None, Some, refl, sym, ◌∙◌, ap, subst}
 use Rattle.std.specs.Option.{option_map}
-use Rattle.cluster_core.specs.World.{master_of, client_at, comes, master_at}
+use Rattle.cluster_core.specs.World.{master_of, client_at, master_at}
 use Rattle.cluster_core.specs.declared.world.Client.{Client}
 use Rattle.feed_links.specs.Spelled.{CanBeTold}
 use Rattle.guest_links.specs.Guests.{Guest, arrived}

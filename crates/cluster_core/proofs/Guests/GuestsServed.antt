@@ -24,7 +24,7 @@ use Rattle.cluster_core.proofs.Guests.GuestLaw.{GuestIs, GuestsLaw, IsPlacedSo}
 use Rattle.cluster_core.proofs.Guests.GuestSteps.{Fits, KnowsMaster, law_same, step_guests}
 use Rattle.cluster_core.proofs.Guests.StartGuests.{start_nobody}
 use Rattle.cluster_core.proofs.Guests.TablesStay.{step_tables}
-use Rattle.cluster_core.proofs.OneServer.EachStep.{EachKeeps, LawBehind, kept_all, kept_behind}
+use Rattle.cluster_core.proofs.OneServer.EachStep.{EachKeeps, LawBehind, kept_behind}
 use Rattle.cluster_core.proofs.OneServer.SaysOf.{IsSilent}
 use Rattle.cluster_core.proofs.OneServer.ToldSoFar.{OthersAreSilent}
 use Rattle.cluster_core.proofs.Starts.Kinds.{master_named, only_master}

@@ -1,10 +1,10 @@
 -- The links of a node that come up one after another: to each node from which one came, its link is up.
-use Rattle.std.proofs.Common.{◌≡◌, ◌≢◌, ℕ, zero, suc, ◌<◌, Bool, true, false, is_some, List, [], ◌∷◌, length, sym, ap, ◌∙◌, subst, arith, slice_index_or}
+use Rattle.std.proofs.Common.{◌≡◌, ℕ, zero, suc, ◌<◌, Bool, true, false, List, [], ◌∷◌, length, sym, subst, arith, slice_index_or}
 use Rattle.std.specs.Ordering.{nat_cmp, is_eq}
 use Rattle.std.specs.Cmp.Lexicographic.{slice_cmp}
-use Rattle.std.proofs.Math.Logic.{⊎_elim}
 use Rattle.front_core.specs.Ups.{Ups, coming_up, is_up}
-use Rattle.mur_base.proofs.MapLaws.{names_apart, same_or_other, value_at-with_entry, value_at-with_entry-other}
+use Rattle.front_core.proofs.UpsLaws.{coming_keeps, up_comes}
+use Rattle.mur_base.proofs.MapLaws.{names_apart}
 use Rattle.mur_config.specs.declared.node.Link.{Link}
 
 abbrev pub up_if : Bool → Ups → List ℕ → Ups
@@ -17,17 +17,6 @@ ups_on node ups [] = ups
 ups_on node ups (link ∷ links) = ups_on node (up_if (is_eq (slice_cmp nat_cmp link.to node)) ups link.from) links
 
 -- a link that came up is up
-
-up_comes : (ups : Ups) (node : List ℕ) → is_up (coming_up ups node) node ≡ true
-unfolding is_up
-up_comes ups node = ap is_some (value_at-with_entry (slice_cmp nat_cmp) names_apart ups node tt)
-
-coming_keeps : (ups : Ups) (other node : List ℕ) → is_up ups node ≡ true → is_up (coming_up ups other) node ≡ true
-unfolding is_up
-coming_keeps ups other node up = ⊎_elim
-    (λ (e : node ≡ other). subst (λ n. is_up (coming_up ups other) n ≡ true) (sym e) (up_comes ups other))
-    (λ (ne : node ≢ other). ap is_some (value_at-with_entry-other (slice_cmp nat_cmp) names_apart ups other node tt ne) ∙ up)
-    (same_or_other (slice_cmp nat_cmp) names_apart node other)
 
 if_keeps : (test : Bool) (ups : Ups) (other node : List ℕ) → is_up ups node ≡ true → is_up (up_if test ups other) node ≡ true
 if_keeps true ups other node up = coming_keeps ups other node up

@@ -1,7 +1,5 @@
 -- How the links of a run hold.
 use Rattle.std.proofs.Common.{◌≡◌, ℕ, Bool, true, List, Some, sym, ◌∙◌, ap}
-use Rattle.asking_core.specs.declared.waiting.At.TheVariants.{Home}
-use Rattle.front_core.specs.declared.connection.Connection.{Connection}
 use Rattle.front_core.specs.declared.front.Front.{Front}
 use Rattle.front_core.specs.Front.{connection_at, waits_for}
 use Rattle.front_core.specs.Stages.{asks_at, has_asked}

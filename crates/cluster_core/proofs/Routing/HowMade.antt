@@ -1,10 +1,12 @@
 -- How each mark of a run was made: a step works on its command, or the frontend of its client tells it.
 use Rattle.std.proofs.Common.{◌≡◌, ℕ, ◌+◌, false, List, [], ◌∷◌, ◌++◌, length, Option, None, Some, refl, sym, ◌∙◌, ap, subst, append_assoc, get_or}
 use Rattle.std.specs.Prelude.{All}
+use Rattle.std.specs.List.{AllByRecursion}
 use Rattle.std.proofs.lemmas.List.{append-nil}
 use Rattle.std.proofs.lemmas.List.Elements.{All-append, All-nil}
 use Rattle.front_core.specs.declared.connection.Connection.{Connection}
 use Rattle.front_core.specs.Front.{connection_at}
+use Rattle.front_core.specs.declared.front.Front.{Front}
 use Rattle.imap_types.specs.declared.op.Op.{Op}
 use Rattle.imap_types.specs.declared.op.Op.TheVariants.{Create, Delete}
 use Rattle.cluster_core.specs.Heard.{heard}
@@ -13,6 +15,7 @@ use Rattle.link_msg.specs.declared.counts.Counts.{Counts}
 use Rattle.link_msg.specs.declared.how.How.{How}
 use Rattle.link_msg.specs.declared.how.How.TheVariants.{Here, Unreached}
 use Rattle.link_msg.specs.declared.message.LinkMsg.{LinkMsg}
+use Rattle.link_msg.specs.declared.message.LinkMsg.TheVariants.{Up, End, Line, Ask, Answer}
 use Rattle.link_msg.specs.declared.out.Out.{Out}
 use Rattle.link_queue.specs.Links.{on_link}
 use Rattle.mark_history.specs.declared.mark.Mark.{Mark}
@@ -20,10 +23,11 @@ use Rattle.mark_history.specs.declared.mark.MarkKind.TheVariants.{Home, Told}
 use Rattle.mur_config.specs.declared.config.Config.{Config}
 use Rattle.mur_config.specs.Nodes.{AreNodes}
 use Rattle.node_step.specs.declared.input.NodeInput.{NodeInput}
-use Rattle.node_step.specs.declared.input.NodeInput.TheVariants.{From}
+use Rattle.node_step.specs.declared.input.NodeInput.TheVariants.{Opened, Piece, Hung, From}
 use Rattle.node_step.specs.declared.node.NodeState.{NodeState}
 use Rattle.node_step.specs.declared.node.NodeState.TheVariants as state
-use Rattle.node_step.specs.NodeStep.{as_back, as_master, takes as node_takes}
+use Rattle.node_step.specs.NodeStep.{as_back, as_front, as_master, takes as node_takes}
+use Rattle.node_step.proofs.NodeKinds.{a_front}
 use Rattle.schedule_text.specs.declared.event.Event.{Event}
 use Rattle.schedule_text.specs.declared.event.Event.TheVariants.{Deliver}
 use Rattle.back_node.specs.declared.node.BackNode.{BackNode}
@@ -31,9 +35,9 @@ use Rattle.master_core.specs.declared.master.Master.{Master}
 use Rattle.cluster_core.specs.declared.world.World.{World}
 use Rattle.cluster_core.specs.Flow.{run_steps}
 use Rattle.cluster_core.specs.Headline.OneNode.{node_of, worker}
-use Rattle.cluster_core.specs.Headline.Routing.{IsAtItsNode, IsStepOf, Taken, is_of_name}
+use Rattle.cluster_core.specs.Headline.Routing.{IsAtItsNode, IsRefusedThere, IsStepOf, Taken, is_of_name}
 use Rattle.cluster_core.specs.Headline.Routing.IsStepOf.{at_home, at_master}
-use Rattle.cluster_core.specs.World.{client_at, node_at, start, steps_by}
+use Rattle.cluster_core.specs.World.{client_at, master_of, node_at, start, steps_by}
 use Rattle.cluster_core.proofs.Runs.OneNodeLaw.{one_more_step}
 use Rattle.cluster_core.proofs.Runs.OwnClientsLaw.{run_own, start_own}
 use Rattle.cluster_core.proofs.Nodes.Carried.{marks_made}
@@ -47,7 +51,10 @@ use Rattle.cluster_core.proofs.Routing.NodeMarks.MarkIs.{by_home, by_master, by_
 use Rattle.cluster_core.proofs.Routing.StepMarks.{ComesBy, StepMarks, step_marks}
 use Rattle.cluster_core.proofs.Routing.StepMarks.ComesBy.{a_message, of_client}
 use Rattle.cluster_core.proofs.Routing.StepMarks.StepMarks.{no_marks, works}
-use Rattle.cluster_core.proofs.Routing.Works.{backend_is}
+use Rattle.cluster_core.proofs.Routing.Unreached.{IsDownMark, IsPlainAt, IsPlainFor, down_marks}
+use Rattle.cluster_core.proofs.Routing.Works.{answer_is_plain, backend_is}
+use Rattle.cluster_core.proofs.Runs.NeverMoved.{never_moved}
+use Rattle.cluster_core.proofs.Runs.QuietNodes.{IsQuietOn}
 
 -- a frontend answered the command alone, in this step
 pub record IsToldAlone (config : Config) (steps : List Event) (made : Mark) : Type 0 where
@@ -58,7 +65,7 @@ pub data IsMadeSo (config : Config) (steps : List Event) (made : Mark) : Type 0 
   is_taken : (counts : Counts) → made.kind ≡ Home counts → (taken : Taken config steps) → IsStepOf config steps made.ask taken
       → made.step ≡ length taken.before + 1 → IsMadeSo config steps made
   is_told : (how : How) → made.kind ≡ Told how → (how ≡ Here → IsToldAlone config steps made)
-      → ((node : List ℕ) → how ≡ Unreached node → IsAtItsNode config steps (made.ask).conn made.step) → IsMadeSo config steps made
+      → ((node : List ℕ) → how ≡ Unreached node → IsRefusedThere config steps (made.ask).conn made.step node) → IsMadeSo config steps made
 
 no_name : (op : Op) → name_kind op ≡ None → is_of_name op ≡ false
 unfolding is_of_name
@@ -105,21 +112,29 @@ module _ (config : Config) (are : AreNodes config.nodes) (steps : List Event) wh
     worker_is _ (a_message from message rest is first) = ap (worker world) is
     worker_is _ (of_client input at of) = at
 
-    mark_is : (made : Mark) (input : NodeInput) → ComesBy world event node input → made.step ≡ length before + 1 → MarkIs it input made
+    mark_is : (made : Mark) (input : NodeInput) → ComesBy world event node input → made.step ≡ length before + 1 → IsDownMark it made → MarkIs it input made
         → IsMadeSo config steps made
-    mark_is made _ (a_message from message rest is first) step (by_home home name ask counts at same none its kind) =
+    mark_is made _ (a_message from message rest is first) step down (by_home home name ask counts at same none its kind) =
         is_taken counts kind (taken_so from message rest is first)
         (at_home ask (same_input same) (sym its) (no_name ask.op none)
         (backend_is config (λ conn. heard config conn before) world are law node home
         (home_there (node_at world node) home (there ∙ ap (λ i. Some i) at)))) step
-    mark_is made _ (a_message from message rest is first) step (by_master master name line counts at same its kind) =
+    mark_is made _ (a_message from message rest is first) step down (by_master master name line counts at same its kind) =
         is_taken counts kind (taken_so from message rest is first)
         (at_master line (same_input same) its
         (law.nodes.only node master (master_there (node_at world node) master (there ∙ ap (λ i. Some i) at)))) step
-    mark_is made _ (of_client input comes of) step (by_home home name ask counts at same none its kind) = absurd (subst IsOfClient same of)
-    mark_is made _ (of_client input comes of) step (by_master master name line counts at same its kind) = absurd (subst IsOfClient same of)
-    mark_is made input comes step (by_front front how at kind so refuses) =
-        is_told how kind (λ here. told_alone (so here)) (λ node unreached. let there = refuses node unreached in its_node there.connection there.at)
+    mark_is made _ (of_client input comes of) step down (by_home home name ask counts at same none its kind) = absurd (subst IsOfClient same of)
+    mark_is made _ (of_client input comes of) step down (by_master master name line counts at same its kind) = absurd (subst IsOfClient same of)
+    mark_is made input comes step down (by_front front how at kind so refuses) =
+        is_told how kind (λ here. told_alone (so here))
+        (λ other unreached.
+        let has = refuses other unreached in
+        record {
+          at = its_node has.connection has.at;
+          front = front;
+          is = ap as_front is_front ∙ a_front front;
+          down = subst (λ i. IsDownMark i made) at down other (kind ∙ ap Told unreached);
+        })
       where
         is_front : node_at world node ≡ Some (state.Front front)
         is_front = there ∙ ap (λ i. Some i) at
@@ -146,6 +161,29 @@ module _ (config : Config) (are : AreNodes config.nodes) (steps : List Event) wh
               alone = record { node = node; front = front; at = is_front; client = its_client alone.connection alone.at; alone = alone };
             }
 
+    -- what comes to it is plain
+    plain_at : (front : Front) (input : NodeInput) → it ≡ state.Front front → ComesBy world event node input → IsPlainAt front input
+    plain_at front _ same (a_message from (Answer answer) rest is first) =
+        answer_is_plain config (λ conn. heard config conn before) world law from node answer rest first
+    plain_at front _ same (a_message from End rest is first) =
+        λ e. (subst (AllByRecursion (IsQuietOn (master_of config) from node)) first ((never_moved config before are).links from node)).0.0
+        (e ∙ (law.nodes.fronts node front (ap as_front (there ∙ ap (λ i. Some i) same) ∙ a_front front)).master_is)
+    plain_at front _ same (a_message from Up rest is first) = tt
+    plain_at front _ same (a_message from (Line line) rest is first) = tt
+    plain_at front _ same (a_message from (Ask ask) rest is first) = tt
+    plain_at front _ same (of_client (Opened conn) comes of) = tt
+    plain_at front _ same (of_client (Piece conn bytes) comes of) = tt
+    plain_at front _ same (of_client (Hung conn) comes of) = tt
+    plain_at front _ same (of_client (From name message) comes of) = absurd of
+
+    plain_by : (own : NodeState) (input : NodeInput) → it ≡ own → ComesBy world event node input → IsPlainFor own input
+    plain_by (state.Front front) input same comes = plain_at front input same comes
+    plain_by (state.Back home) input same comes = tt
+    plain_by (state.Master master) input same comes = tt
+
+    plain : (input : NodeInput) → ComesBy world event node input → IsPlainFor it input
+    plain input comes = plain_by it input refl comes
+
   abbrev AllMade : List Mark → Type 0
   AllMade marks = All (IsMadeSo config steps) marks
 
@@ -158,7 +196,8 @@ module _ (config : Config) (are : AreNodes config.nodes) (steps : List Event) wh
       subst AllMade (sym more)
       (All-append (IsMadeSo config steps) (run_steps (start config) before).marks (marks_made now outs) all
       (λ k d h. mark_is before event later parts law node it there (get_or (marks_made now outs) k d) input comes
-      (marks_now now outs k d h ∙ ap (λ n. n + 1) (steps_made config before)) (marks_are now it input k d h)))
+      (marks_now now outs k d h ∙ ap (λ n. n + 1) (steps_made config before))
+      (down_marks now it input (plain before event later parts law node it there input comes) k d h) (marks_are now it input k d h)))
 
   module _ (laws : (before later : List Event) → steps ≡ before ++ later → LawBehind config before) where
     one_more : (before : List Event) (event : Event) (later : List Event) → steps ≡ before ++ event ∷ later → AllMade (run_steps (start config) before).marks

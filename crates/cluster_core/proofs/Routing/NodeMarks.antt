@@ -58,12 +58,12 @@ IsMute out = ⊤
 
 -- what holds of the outputs as marks holds of the marks
 module _ (now : ℕ) (P : Mark → Type 0) where
-  abbrev MarkHas : Out → Type 0
+  abbrev pub MarkHas : Out → Type 0
   MarkHas (mark ask counts) = P (record { step = now; ask = ask; kind = Home counts })
   MarkHas (tell ask how) = P (record { step = now; ask = ask; kind = Told how })
   MarkHas out = ⊤
 
-  marks_have : (outs : List Out) → AllByRecursion MarkHas outs → All P (marks_made now outs)
+  pub marks_have : (outs : List Out) → AllByRecursion MarkHas outs → All P (marks_made now outs)
   marks_have [] are = All-nil P
   marks_have (mark ask counts ∷ outs) are = All-cons P _ (marks_made now outs) are.0 (marks_have outs are.1)
   marks_have (tell ask how ∷ outs) are = All-cons P _ (marks_made now outs) are.0 (marks_have outs are.1)

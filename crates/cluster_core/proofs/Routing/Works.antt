@@ -1,5 +1,5 @@
 -- A message of a command is taken: the command waits at its client's frontend, and an ask is the one for it, at a backend. Of a LIST that is its NOOP.
-use Rattle.std.proofs.Common.{◌≡◌, ◌||◌, ℕ, ◌+◌, nat_eq, Bool, true, false, is_some, List, [], ◌∷◌, length, Some, refl, sym, ◌∙◌, ap, subst, arith}
+use Rattle.std.proofs.Common.{◌≡◌, ◌≢◌, ◌||◌, ℕ, ◌+◌, nat_eq, Bool, true, false, is_some, List, [], ◌∷◌, length, Some, refl, sym, ◌∙◌, ap, subst, arith}
 use Rattle.std.specs.Prelude.{All}
 use Rattle.std.specs.List.{list_any}
 use Rattle.std.specs.Cmp.Lexicographic.{pointwise}
@@ -20,6 +20,12 @@ use Rattle.imap_types.specs.declared.command.Tag.{Tag}
 use Rattle.imap_types.specs.declared.request.Answer.{Answer as Replied}
 use Rattle.imap_types.specs.declared.request.Request.{Request}
 use Rattle.imap_types.specs.declared.request.Request.TheVariants.{Command as a_command}
+use Rattle.asking_core.specs.Answered.{WentOn, answered}
+use Rattle.asking_core.specs.declared.waiting.At.TheVariants.{Home}
+use Rattle.asking_core.specs.declared.waiting.Waiting.{Waiting}
+use Rattle.link_msg.specs.declared.answer.AnswerBody.{AnswerBody}
+use Rattle.link_msg.specs.declared.answer.AnswerBody.TheVariants.{Unreached}
+use Rattle.link_msg.specs.declared.answer.BackAnswer.{BackAnswer}
 use Rattle.link_msg.specs.declared.ask.FrontAsk.{FrontAsk}
 use Rattle.link_msg.specs.declared.message.LinkMsg.{LinkMsg}
 use Rattle.link_msg.specs.declared.message.LinkMsg.TheVariants.{Line, Ask, Answer}
@@ -38,8 +44,8 @@ use Rattle.node_step.proofs.NodeKinds.{front_is}
 use Rattle.name_commands.specs.Places.{IsNumbered, flow_message, stage_command, NamePlace as name_at}
 use Rattle.name_commands.specs.Whose.{its_command}
 use Rattle.name_flows.specs.declared.flow.Flow.{Flow}
-use Rattle.point_links.specs.AtHome.{its_ask}
-use Rattle.point_links.specs.Commands.{ClientCommand}
+use Rattle.point_links.specs.AtHome.{IsElsewhere, its_ask, moved, not_now}
+use Rattle.point_links.specs.Commands.{ClientCommand, told_turn}
 use Rattle.route_links.proofs.Tags.{noop_tells}
 use Rattle.route_links.specs.Answered.{noop_of}
 use Rattle.route_links.specs.Barriers.{Place as Barrier, Place as barrier}
@@ -48,7 +54,7 @@ use Rattle.cluster_core.specs.declared.world.World.{World}
 use Rattle.cluster_core.specs.Headline.OneNode.{node_of}
 use Rattle.cluster_core.specs.Numbers.{NumbersFit}
 use Rattle.cluster_core.proofs.Commands.InPlace.{IsThere}
-use Rattle.cluster_core.proofs.Commands.Knows.{IsFlowOf, KnowsNames, undecided, is_decided, not_yet, is_listed}
+use Rattle.cluster_core.proofs.Commands.Knows.{IsFlowOf, KnowsNames, undecided, is_decided, not_yet, is_listed, waiting_at}
 use Rattle.cluster_core.proofs.Commands.Place.{Place, Place as place}
 use Rattle.cluster_core.proofs.Commands.Standing.{Fixed, next_id}
 use Rattle.cluster_core.proofs.Connections.KeepsLaw.{IsAt, IsFrontOf, KeepsLaw, fixed_of}
@@ -109,6 +115,11 @@ module _ (fixed : Fixed) (conn : ℕ) (node : List ℕ) (connection : Connection
   asked_so front at count (of_list (open_lists bytes silently e reader given waiting)) = barred waiting.knows
   asked_so front at count (of_list (ended_lists bytes shut e ended stage lasts given cut waiting)) = barred waiting.knows
 
+-- an answer that tells where else the mailbox is tells nothing of a node that isn't reached
+elsewhere_plain : (body : AnswerBody) → IsElsewhere body → (node : List ℕ) → body ≢ Unreached node
+elsewhere_plain _ not_now node e = cc
+elsewhere_plain _ (moved server) node e = cc
+
 -- what its place tells, where nothing is decided there
 module _ (fixed : Fixed) (front : List ℕ) (conn : ℕ) (tag : Tag) (c : ClientCommand) (story : Tale) where
   asked_of : (server : List ℕ) (ask : FrontAsk) → KnowsOf fixed front conn tag c story (place.is_asked server ask) → ask ≡ its_ask c
@@ -120,6 +131,19 @@ module _ (fixed : Fixed) (front : List ℕ) (conn : ℕ) (tag : Tag) (c : Client
   sent_of me name flow (undecided said was tells) = tells
   sent_of me name flow (is_decided turn said session ends brings) = absurd brings
 
+  -- an answer on its way to it
+  answer_plain : (server : List ℕ) (answer : BackAnswer) → KnowsOf fixed front conn tag c story (place.is_answered server answer) → (other : List ℕ)
+      → answer.body ≢ Unreached other
+  unfolding answered
+  answer_plain server answer (undecided said was tells) other e = elsewhere_plain answer.body tells.1 other e
+  answer_plain server answer (is_decided turn said session ends brings) other e =
+      told_plain fixed.master c.id c.was (waiting_at c (Home [])).waiting other
+      (sym (ap (λ b. answered fixed.master c.id c.was (waiting_at c (Home [])).waiting b) e) ∙ brings.1 (Home []))
+    where
+      told_plain : (master : List ℕ) (id : AskId) (was : Sess) (it : Waiting) (node : List ℕ)
+          → answered master id was it (Unreached node) ≡ told_turn (waiting_at c (Home [])) turn → ⊥
+      told_plain master id was it node same = absurd (let no = ap (λ (w : WentOn). w.then) same in cc)
+
 same_ask : {one other : FrontAsk} → Ask one ≡ Ask other → one ≡ other
 same_ask e = cc
 
@@ -128,6 +152,12 @@ same_line e = cc
 
 same_id : {one other : AskId} → Some one ≡ Some other → one ≡ other
 same_id e = cc
+
+same_answer : {one other : BackAnswer} → Answer one ≡ Answer other → one ≡ other
+same_answer e = cc
+
+no_answer_line : (bytes : List ℕ) (answer : BackAnswer) → Line bytes ≡ Answer answer → ⊥
+no_answer_line bytes answer e = cc
 
 no_line : (bytes : List ℕ) (ask : FrontAsk) → Line bytes ≡ Ask ask → ⊥
 no_line bytes ask e = cc
@@ -243,6 +273,22 @@ module _ (config : Config) (heard : ℕ → Heard) (world : World) (law : KeepsL
     ask_so : (ask : FrontAsk) → message ≡ Ask ask → AskTells from to ask
     ask_so ask is = ask_by ask is tells.here found asked (tells.placed).there
 
+    -- an answer to it is taken: it tells of no node that isn't reached
+    answer_by : (answer : BackAnswer) → message ≡ Answer answer → (here : Place) → IsFoundIn (master_of config) tells.node open_id from to message here
+        → IsAsked (fixed_of config) conn tells.node law.story requests here → (other : List ℕ) → answer.body ≢ Unreached other
+    answer_by answer is _ (in_answer server found_there e1 e2 e3) (for_mailbox tag c its request knows) other = λ e.
+        answer_plain (fixed_of config) tells.node conn tag c law.story server found_there knows other
+        (ap (λ (a : BackAnswer). a.body) (same_answer (e3 ∙ is)) ∙ e)
+    answer_by answer is _ (in_answer server found_there e1 e2 e3) (for_names at barred) other = cc
+    answer_by answer is _ (in_ask server asking e1 e2 e3) asked other = absurd (let no : Ask asking ≡ Answer answer = e3 ∙ is in cc)
+    answer_by answer is _ (in_line me name flow e1 e2 e3) asked other = absurd (no_answer_line _ answer (e3 ∙ is))
+    answer_by answer is _ (in_response me name flow it e1 e2 e3) asked other = absurd (no_answer_line _ answer (e3 ∙ is))
+    answer_by answer is _ (in_noop e1 e2 e3) asked other = absurd (no_answer_line _ answer (e3 ∙ is))
+    answer_by answer is _ (in_ok table e1 e2 e3) asked other = absurd (no_answer_line _ answer (e3 ∙ is))
+
+    answer_so : (answer : BackAnswer) → message ≡ Answer answer → (other : List ℕ) → answer.body ≢ Unreached other
+    answer_so answer is = answer_by answer is tells.here found asked
+
     -- the master takes a line of it
     module _ (line : List ℕ) (id : AskId) (is : message ≡ Line line) (its : line_ask line ≡ Some id) (mine : to ≡ master_of config)
         (numbered_so : IsNumbered open_id) where
@@ -284,6 +330,10 @@ module _ (config : Config) (heard : ℕ → Heard) (world : World) (law : KeepsL
 
   pub ask_tells : (from to : List ℕ) (ask : FrontAsk) (rest : List LinkMsg) → on_link world.links from to ≡ Ask ask ∷ rest → AskTells from to ask
   ask_tells from to ask rest first = ask_so from to (Ask ask) rest first (ask.id).conn refl ask refl
+
+  pub answer_is_plain : (from to : List ℕ) (answer : BackAnswer) (rest : List LinkMsg) → on_link world.links from to ≡ Answer answer ∷ rest → (other : List ℕ)
+      → answer.body ≢ Unreached other
+  answer_is_plain from to answer rest first = answer_so from to (Answer answer) rest first (answer.id).conn refl answer refl
 
   pub line_tells : (from to line : List ℕ) (rest : List LinkMsg) (id : AskId) → on_link world.links from to ≡ Line line ∷ rest → line_ask line ≡ Some id
       → to ≡ master_of config → NumbersFit heard → LineTells id line

@@ -37,10 +37,10 @@ use Rattle.schedule_text.specs.declared.event.Event.{Event}
 use Rattle.schedule_text.specs.declared.event.Event.TheVariants.{Open, Data, Hang, Deliver, Cut, Join}
 use Rattle.cluster_core.specs.declared.world.World.{World}
 use Rattle.cluster_core.specs.Flow.{run_steps}
-use Rattle.cluster_core.specs.World.{are_parted, carry, carry_all, client_at, client_does, comes_to, cuts_if, deliver_first, first_state, given_more, is_nothing, joins_if, master_of, may_cut, may_join, may_part, no_world, node_at, not_lost, opens, start, stepped, steps_by, taken_from_link, takes, told_up, with_client, with_node, with_nodes, with_ups, with_acted}
+use Rattle.cluster_core.specs.World.{are_parted, carry, carry_all, client_at, client_does, comes_to, cuts_if, deliver_first, first_state, is_nothing, joins_if, master_of, may_cut, may_join, may_part, no_world, node_at, not_lost, opens, start, stepped, steps_by, taken_from_link, takes, told_up, with_client, with_node, with_nodes, with_ups, with_acted}
 use Rattle.cluster_core.proofs.Runs.LinkedNodes.{apart_kinds, the_master}
 use Rattle.cluster_core.proofs.Runs.NotLost.{let_left}
-use Rattle.cluster_core.proofs.Runs.OneNodeLaw.{comes_broken}
+use Rattle.cluster_core.proofs.Runs.OneNodeLaw.{comes_broken, given_links}
 use Rattle.cluster_core.proofs.Runs.OwnNodes.{OfEachNode, comes_of_each}
 use Rattle.cluster_core.proofs.Runs.QuietFlows.{LooksForNone}
 use Rattle.cluster_core.proofs.Runs.QuietNodes.{AnyClient, AreQuietOuts, InputIsQuiet, IsQuiet, IsQuietOn, NodeIsFresh, NodeIsQuiet, QuietTo, fresh_is_quiet, outs_quiet, quiet_on, stays_quiet, ups_fresh, ups_outs}
@@ -62,11 +62,6 @@ pub one_more : (P : LinkMsg → Type 0) (queue : List LinkMsg) (message : LinkMs
     → AllByRecursion P (queue ++ cond same (message ∷ []) [])
 one_more P queue message true is all = both P queue (message ∷ []) all (is refl, tt)
 one_more P queue message false is all = both P queue [] all tt
-
-pub given_links : (world : World) (conn : ℕ) (bytes : List ℕ) (found : Option Client) → (given_more world conn bytes found).links ≡ world.links
-unfolding given_more
-given_links world conn bytes None = refl
-given_links world conn bytes (Some client) = refl
 
 module _ (P : List ℕ → List ℕ → LinkMsg → Type 0) (said : (from to : List ℕ) (message : LinkMsg) → IsQuiet message → P from to message) where
   carry_quiet : (marks : Type 0) (node : List ℕ) (world : World) (out : Out) → IsLetOut AnyClient QuietTo marks out → AreAllOn P world.links

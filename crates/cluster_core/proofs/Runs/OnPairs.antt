@@ -55,9 +55,9 @@ use Rattle.cluster_core.proofs.Connections.AsksFirst.{home_is_so}
 use Rattle.cluster_core.proofs.Connections.KeepsLaw.{KeepsLaw, NamesBackends}
 use Rattle.cluster_core.proofs.Starts.Kinds.{HasNode}
 use Rattle.cluster_core.proofs.Runs.LinkedNodes.{Joined, backends_joined, backend_with_master, front_with_backend, front_with_master, the_first}
-use Rattle.cluster_core.proofs.Runs.NeverMoved.{given_links, may_cut_parts, may_join_broken, none_moved}
+use Rattle.cluster_core.proofs.Runs.NeverMoved.{may_cut_parts, may_join_broken, none_moved}
 use Rattle.cluster_core.proofs.Runs.NotLost.{let_left}
-use Rattle.cluster_core.proofs.Runs.OneNodeLaw.{comes_broken, may_cut_apart}
+use Rattle.cluster_core.proofs.Runs.OneNodeLaw.{comes_broken, given_links, may_cut_apart}
 use Rattle.cluster_core.proofs.Runs.OwnNodes.{OfEachNode, comes_of_each}
 
 -- ---- where frontends ask

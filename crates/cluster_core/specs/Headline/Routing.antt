@@ -1,9 +1,11 @@
 -- Which step is the point of a command: one in which a backend takes its ask for a mailbox's messages or the master takes a line under its tag, or one in
--- which its frontend answers it alone, or refuses it as a node isn't reached. A LIST asks no backend: the point of one that tells names is the step in which the master takes its NOOP; of one that
--- asks for the separator alone, or whose session may not list, its frontend's own. A step that carries it out counts though its client is never told: a
--- backend says so in its answer, and the master makes a mailbox or takes one away.
+-- which its frontend answers it alone, or refuses it since it has the link to a node as down. A LIST asks no backend: the point of one that tells names is
+-- the step in which the master takes its NOOP; of one that asks for the separator alone, or whose session may not list, its frontend's own. A step that
+-- carries it out counts though its client is never told: a backend says so in its answer, and the master makes a mailbox or takes one away.
 use Rattle.std.specs.Prelude.{◌≡◌, ◌≢◌, ℕ, ◌+◌, ◌≤◌, ◌<◌, Bool, true, false, List, [], ◌∷◌, ◌++◌, length, All, Contains, Some}
 use Rattle.ask_routes.specs.Barrier.{noop_line}
+use Rattle.front_core.specs.declared.front.Front.{Front}
+use Rattle.front_core.specs.Ups.{is_up}
 use Rattle.imap_types.specs.declared.command.Command.TheVariants as command
 use Rattle.imap_types.specs.declared.command.Tag.{Tag}
 use Rattle.imap_types.specs.declared.op.Op.{Op}
@@ -30,7 +32,7 @@ use Rattle.node_record.specs.Table.{is_mailbox_if, record_at}
 use Rattle.schedule_text.specs.declared.event.Event.{Event}
 use Rattle.schedule_text.specs.declared.event.Event.TheVariants.{Deliver}
 use Rattle.cluster_core.specs.Headline.Backends.{IsBackend}
-use Rattle.cluster_core.specs.World.{master_of, client_at, start}
+use Rattle.cluster_core.specs.World.{master_of, client_at, front_at, start}
 use Rattle.cluster_core.specs.Flow.{run_steps}
 use Rattle.cluster_core.specs.Headline.OneNode.{node_of, worker}
 use Rattle.cluster_core.specs.Headline.OpenAt.{IsOpenAt}
@@ -119,14 +121,21 @@ pub data Does (config : Config) (steps : List Event) (taken : Taken config steps
   only_answers : what ≢ lost → table_at (run_steps (start config) (taken.before ++ Deliver taken.from taken.to ∷ [])) (master_of config)
       ≡ table_at (run_steps (start config) taken.before) (master_of config) → Does config steps taken what
 
--- a point stands where a step works on its command; or the frontend of its client answered it there alone, and no step works on it; or refused it there, since
--- a node isn't reached
+-- in one of these steps the frontend at which a client is connected works, and has the link to this node as down
+pub record IsRefusedThere (config : Config) (steps : List Event) (conn : ℕ) (step : ℕ) (node : List ℕ) : Type 0 where
+  pub at : IsAtItsNode config steps conn step
+  pub front : Front
+  pub is : front_at (run_steps (start config) at.before) at.node ≡ Some front
+  pub down : is_up front.ups node ≡ false
+
+-- a point stands where a step works on its command; or the frontend of its client answered it there alone, and no step works on it; or refused it there,
+-- since it has the link to a node as down
 pub data StandsAt (config : Config) (steps : List Event) (point : Point) : Type 0 where
   where_taken : (taken : Taken config steps) → IsStepOf config steps point.ask taken → point.step ≡ length taken.before + 1
       → Does config steps taken point.what → StandsAt config steps point
   at_frontend : point.what ≡ replied → IsAtItsNode config steps (point.ask).conn point.step
       → ((taken : Taken config steps) → IsStepOf config steps point.ask taken → ⊥) → StandsAt config steps point
-  not_reached : (node : List ℕ) → point.what ≡ unreached node → IsAtItsNode config steps (point.ask).conn point.step → StandsAt config steps point
+  not_reached : (node : List ℕ) → point.what ≡ unreached node → IsRefusedThere config steps (point.ask).conn point.step node → StandsAt config steps point
 
 abbrev pub point_at : ℕ → AskId → What → Point
 point_at step ask what = record { step = step; ask = ask; what = what }
