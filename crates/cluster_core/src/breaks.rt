@@ -50,8 +50,20 @@ pub fn join(
     if !world.may_join(one, other) {
         return Ok(());
     }
-    send(alloc, &mut world.links, one, other.copy(alloc)?, LinkMsg::Up)?;
-    send(alloc, &mut world.links, other, one.copy(alloc)?, LinkMsg::Up)?;
+    send(
+        alloc,
+        &mut world.links,
+        one,
+        other.copy(alloc)?,
+        LinkMsg::Up,
+    )?;
+    send(
+        alloc,
+        &mut world.links,
+        other,
+        one.copy(alloc)?,
+        LinkMsg::Up,
+    )?;
     mend(alloc, &mut world.broken, one, other)?;
     mend(alloc, &mut world.broken, other, one)
 }
@@ -64,7 +76,9 @@ impl World {
     {
         match (self.nodes.get(one), self.nodes.get(other)) {
             (Some(from), Some(to)) => {
-                are_parted(from, to) && !one.cmp(other).is_eq() && !is_broken(&self.broken, one, other)
+                are_parted(from, to)
+                    && !one.cmp(other).is_eq()
+                    && !is_broken(&self.broken, one, other)
             }
             _ => false,
         }
@@ -87,7 +101,8 @@ fn are_parted(one: &NodeState, other: &NodeState) -> bool
     ensures { result ≡ are_parted one.now other.now }
 {
     match (one, other) {
-        (NodeState::Front(_), NodeState::Back(_)) | (NodeState::Back(_), NodeState::Front(_) | NodeState::Back(_)) => true,
+        (NodeState::Front(_), NodeState::Back(_))
+        | (NodeState::Back(_), NodeState::Front(_) | NodeState::Back(_)) => true,
         _ => false,
     }
 }

@@ -7,9 +7,9 @@ ghost use Rattle.cluster_core.specs.Room.{HasRoom};
 ghost use Rattle.cluster_core.specs.World.{client_at, client_does, node_at, steps_by};
 ghost use Rattle.cluster_core.specs.Flow.{happens};
 
+use crate::breaks::{cut, join};
 use crate::coming::comes;
 use crate::delivery::deliver;
-use crate::breaks::{cut, join};
 use crate::flow::flow;
 use crate::heal::heal;
 use crate::layout::Layout;

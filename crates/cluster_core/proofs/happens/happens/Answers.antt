@@ -10,3 +10,9 @@ hang-requires c = step_fits c.args.world.now _ c.requires.room
 
 pub overflow_add-world : goal.overflow_add-world
 overflow_add-world c = omega (arith, step_fits c.args.world.now _ c.requires.room)
+
+pub cut-requires : goal.cut-requires
+cut-requires c = step_fits c.args.world.now _ c.requires.room
+
+pub join-requires : goal.join-requires
+join-requires c = step_fits c.args.world.now _ c.requires.room
