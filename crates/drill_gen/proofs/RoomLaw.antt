@@ -186,7 +186,7 @@ transfer_fits turn value early =
     let short = moving_short (session_of value) (backend_of value) (omega arith) (omega arith) in
     record { steps_fit = omega arith; bytes_fit = omega arith; conns_fit = (omega arith, (tt, tt)) }
 
-crash_fits : (value : ℕ) → FitIn 20112 0 (crash_events value)
+crash_fits : (value : ℕ) → FitIn 20293 0 (crash_events value)
 unfolding crash_events steps_of_all bytes_of_all steps_of bytes_brought
 crash_fits value = record { steps_fit = omega arith; bytes_fit = omega arith; conns_fit = (tt, (tt, (tt, (tt, (tt, tt))))) }
 
@@ -198,13 +198,13 @@ fits_if false steps bytes events fit = record { steps_fit = omega arith; bytes_f
 turn_fits : (turn value : ℕ) → turn < 10000 → FitIn 40000 1000 (turn_by turn value)
 unfolding turn_by transfers_at crashes_at
 turn_fits turn value early =
-    let crash : FitIn 30129 320 (crash_events value ++ sessions (turn / 100)) =
-    joined (crash_events value) (sessions (turn / 100)) 20112 10017 0 320 (crash_fits value) (sessions_fit (turn / 100) (omega arith)) in
+    let crash : FitIn 30310 320 (crash_events value ++ sessions (turn / 100)) =
+    joined (crash_events value) (sessions (turn / 100)) 20293 10017 0 320 (crash_fits value) (sessions_fit (turn / 100) (omega arith)) in
     let move = fits_if (turn % 40 == 0) 2 100 (transfer_events turn value) (transfer_fits turn value early) in
-    let restart = fits_if (turn % 100 == 0) 30129 320 (crash_events value ++ sessions (turn / 100)) crash in
-    let all = joined (command_events ((turn - 1) / 100) value) _ 13 30131 250 420 (commands_fit ((turn - 1) / 100) value)
-    (joined _ _ 2 30129 100 320 move restart) in
-    let steps : steps_of_all (turn_by turn value) ≤ 30144 = all.steps_fit in
+    let restart = fits_if (turn % 100 == 0) 30310 320 (crash_events value ++ sessions (turn / 100)) crash in
+    let all = joined (command_events ((turn - 1) / 100) value) _ 13 30312 250 420 (commands_fit ((turn - 1) / 100) value)
+    (joined _ _ 2 30310 100 320 move restart) in
+    let steps : steps_of_all (turn_by turn value) ≤ 30325 = all.steps_fit in
     let bytes : bytes_of_all (turn_by turn value) ≤ 670 = all.bytes_fit in
     record { steps_fit = omega arith; bytes_fit = omega arith; conns_fit = all.conns_fit }
 
