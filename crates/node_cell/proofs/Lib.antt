@@ -1,3 +1,4 @@
+pub mod BatchLaws
 pub mod FrontLaws
 pub mod LineLaws
 pub mod LogLaws

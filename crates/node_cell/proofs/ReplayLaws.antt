@@ -14,7 +14,6 @@ use Rattle.node_cell.specs.Stamps.{StampsTo}
 
 pub replays_by : (rules : Rules NodeState NodeInput Out LinkMsg) (it : NodeState) (log : List (Logged NodeInput)) → AreOfNodes rules
     → state_after it log ≡ replayed rules it log
-unfolding state_after
 replays_by rules it [] are = refl
 replays_by rules it (entry ∷ log) are =
     ap (λ (s : NodeState). state_after s log) (sym (are.after it entry.input)) ∙ replays_by rules (rules.after it entry.input) log are

@@ -6,10 +6,10 @@ use Rattle.node_step.specs.declared.node.NodeState.{NodeState}
 use Rattle.node_step.specs.NodeStep.{takes}
 use Rattle.record_merge.specs.declared.logged.Logged.{Logged}
 
-unfoldable pub state_after : NodeState → List (Logged NodeInput) → NodeState
+abbrev pub state_after : NodeState → List (Logged NodeInput) → NodeState
 state_after node [] = node
 state_after node (entry ∷ log) = state_after (takes node entry.input).state log
 
-unfoldable pub entries_after : NodeState → List (Logged NodeInput) → List (List ℕ)
+abbrev pub entries_after : NodeState → List (Logged NodeInput) → List (List ℕ)
 entries_after node [] = []
 entries_after node (entry ∷ log) = option_to_list (takes node entry.input).entry ++ entries_after (takes node entry.input).state log

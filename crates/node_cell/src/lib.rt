@@ -3,15 +3,20 @@
 #![tactic(auto)]
 
 mod act;
+mod act_all;
+mod batch;
 mod cell;
 mod fault;
 mod measure;
+mod measure_all;
 mod start;
 mod taken;
 mod turn;
+mod turns;
 mod write;
+mod write_all;
 
 pub use cell::Cell;
 pub use fault::CellFault;
 pub use taken::{Kept, Taken};
-pub use turn::Turn;
+pub use turn::{Turn, Turns};

@@ -17,6 +17,7 @@ use crate::fault::CellFault;
 use crate::measure::room_behind;
 use crate::taken::Taken;
 use link_msg::Outs;
+use mur_base::Items;
 use mur_disk::Disk;
 use node_step::NodeInput;
 use record_merge::Logged;
@@ -30,6 +31,9 @@ pub struct Turn {
     /// The stamp of the step, which its messages carry.
     pub stamp: u64,
 }
+
+/// What several turns give, in order.
+pub type Turns = Items<Turn>;
 
 impl<D: Disk> Cell<D> {
     /// The node takes an input, whose stamp is that of the step that sent it, or 0 for a client's input and for a message that was on its

@@ -11,7 +11,7 @@ use mur_journal::{AppendFault, Journal};
 use std::alloc::Global;
 
 /// The most bytes of an entry.
-const LONGEST: usize = 1_073_741_824;
+pub(crate) const LONGEST: usize = 1_073_741_824;
 
 /// Writes the entry of a step, if it has one, and syncs. An entry of more than 2^30 bytes is refused as if memory were wanting.
 pub(crate) fn write<D: Disk>(
