@@ -19,7 +19,7 @@ front-entry (node.Front front) (From name message) is = refl
 front-entry (node.Back home) input is = cc
 front-entry (node.Master master) input is = cc
 
-front-stays : (it : NodeState) (input : NodeInput) → is_front (takes it input).state ≡ is_front it
+pub front-stays : (it : NodeState) (input : NodeInput) → is_front (takes it input).state ≡ is_front it
 unfolding is_front takes front_takes back_takes master_takes
 front-stays (node.Front front) (Opened conn) = refl
 front-stays (node.Front front) (Piece conn bytes) = refl

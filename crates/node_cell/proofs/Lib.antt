@@ -3,3 +3,4 @@ pub mod FrontLaws
 pub mod LineLaws
 pub mod LogLaws
 pub mod ReplayLaws
+pub mod RoomLaws

@@ -20,3 +20,6 @@ pub use cell::Cell;
 pub use fault::CellFault;
 pub use taken::{Kept, Taken};
 pub use turn::{Turn, Turns};
+
+#[cfg(test)]
+mod tests;
