@@ -7,9 +7,8 @@ use Rattle.node_step.specs.declared.node.NodeState.{NodeState}
 use Rattle.record_merge.specs.declared.logged.Logged.{Logged}
 use Rattle.schedule_text.specs.Printed.{event_text, schedule_text}
 use Rattle.node_cell.specs.Batch.{AreNext, IsFullForAll, last_stamp, steps_behind}
-use Rattle.node_cell.specs.Faults.{HasWriteCause}
 use Rattle.node_cell.specs.declared.fault.CellFault.{CellFault}
-use Rattle.node_cell.specs.declared.fault.CellFault.TheVariants.{Down, LogFull, Memory}
+use Rattle.node_cell.specs.declared.fault.CellFault.TheVariants.{LogFull}
 use Rattle.node_cell.specs.Full.{IsFull, IsNext}
 use Rattle.node_cell.specs.Lines.{event_of, line_length, log_length}
 use Rattle.node_cell.specs.Replayed.{state_after}
@@ -54,11 +53,6 @@ pub stamps-one : (low : ℕ) (log : List (Logged NodeInput)) (last heard : ℕ) 
 stamps-one low [] last heard input is = (ap (λ (n : ℕ). next_stamp n heard) (sym is), refl)
 stamps-one low (first ∷ log) last heard input is = (is.0, stamps-one first.stamp log last heard input is.1)
 
--- a log whose next stamp passes its type
-pub full_by_stamp : (name : List ℕ) (log : List (Logged NodeInput)) (last heard : ℕ) (input : NodeInput) → 2 ^ 64 ≤ next_stamp last heard
-    → IsFull name log last heard input
-full_by_stamp name log last heard input great = inl great
-
 -- a log whose next line passes the limit
 pub full_by_line : (name : List ℕ) (log : List (Logged NodeInput)) (last heard room : ℕ) (input : NodeInput) → log_length name log + room ≡ LOG_LIMIT
     → room < line_length name input → IsFull name log last heard input
@@ -96,12 +90,6 @@ stamps_on log more last heard next input were stamp is =
 pub limited_on : (name : List ℕ) (log more : List (Logged NodeInput)) (last heard next room : ℕ) (input : NodeInput)
     → IsNext name log last heard input next room → more ≡ log ++ logged_behind last heard input ∷ [] → log_length name more + room ≡ LOG_LIMIT
 limited_on name log more last heard next room input step is = ap (λ (m : List (Logged NodeInput)). log_length name m + room) is ∙ step.left
-
--- a disk never answers that a log is full
-pub never_full : (T : Type 0) (before now : ℕ) (fault : CellFault) → HasWriteCause {T = T} before now (Err fault) → Some fault ≢ Some LogFull
-never_full T before now Down h = λ e. cc
-never_full T before now LogFull h = absurd h
-never_full T before now Memory h = λ e. cc
 
 -- a cell that was stopped answers its fault
 pub not_stopped_full : (T : Type 0) (stored : Option CellFault) (fault : CellFault) → stored ≢ Some LogFull → stored ≡ Some fault
