@@ -1,0 +1,11 @@
+pub mod Batch
+pub mod Faults
+pub mod Full
+pub mod Kept
+pub mod Lines
+pub mod Parts
+pub mod Replayed
+pub mod Replays
+pub mod Rest
+pub mod Stamps
+pub mod Written
