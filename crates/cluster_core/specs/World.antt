@@ -249,10 +249,12 @@ deliver_first world from to (message ∷ rest) = comes (taken_from_link world fr
 
 -- ---- a link breaks, and comes up
 
--- a link joins a frontend and a backend, or two backends; those of the master don't break
+-- a link joins a frontend and a backend, two backends, or a frontend and the master; those of the master with backends don't break
 unfoldable pub are_parted : NodeState → NodeState → Bool
 are_parted (state.Front front) (state.Back home) = true
 are_parted (state.Back home) (state.Front front) = true
+are_parted (state.Front front) (state.Master master) = true
+are_parted (state.Master master) (state.Front front) = true
 are_parted (state.Back home) (state.Back other) = true
 are_parted one other = false
 
@@ -260,7 +262,7 @@ unfoldable pub may_part : Option NodeState → Option NodeState → Bool
 may_part (Some one) (Some other) = are_parted one other
 may_part one other = false
 
--- a link may break that isn't broken and doesn't lead to the master
+-- a link may break that isn't broken
 unfoldable pub may_cut : World → List ℕ → List ℕ → Bool
 may_cut world one other = may_part (node_at world one) (node_at world other) && not (is_eq (slice_cmp nat_cmp one other)) && not (is_broken world.broken one other)
 

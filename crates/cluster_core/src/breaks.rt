@@ -11,7 +11,7 @@ use mur_base::{Copied, Memory, NodeName};
 use node_step::NodeState;
 use std::alloc::Global;
 
-/// The link of two nodes breaks, unless it is broken or leads to the master: of each direction so many messages stay, and End comes behind them. For want
+/// The link of two nodes breaks, unless it is broken or joins the master with a backend: of each direction so many messages stay, and End comes behind them. For want
 /// of memory the world is spent.
 #[tactic(auto, unfolding(crate::specs::World::takes, crate::specs::World::cuts_if))]
 pub fn cut(
@@ -101,8 +101,9 @@ fn are_parted(one: &NodeState, other: &NodeState) -> bool
     ensures { result ≡ are_parted one.now other.now }
 {
     match (one, other) {
-        (NodeState::Front(_), NodeState::Back(_))
-        | (NodeState::Back(_), NodeState::Front(_) | NodeState::Back(_)) => true,
+        (NodeState::Front(_), NodeState::Back(_) | NodeState::Master(_))
+        | (NodeState::Back(_), NodeState::Front(_) | NodeState::Back(_))
+        | (NodeState::Master(_), NodeState::Front(_)) => true,
         _ => false,
     }
 }

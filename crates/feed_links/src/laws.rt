@@ -1,5 +1,5 @@
 // What a step of the master is to the replicas of frontends.
-ghost use Rattle.feed_links.specs.OneFeed.{NoopsKeepIt, HearsKeepsIt, TakesKeepsIt, OthersKeepIt, ClientsKeepIt, SendsLines};
+ghost use Rattle.feed_links.specs.OneFeed.{NoopsKeepIt, HearsKeepsIt, EndKeepsIt, UpKeepsIt, TakesKeepsIt, LateKeepsIt, OthersKeepIt, ClientsKeepIt, BreaksKeepIt, MendsKeepIt, SendsLines};
 ghost use Rattle.feed_links.specs.Streams.{StreamsFollow, UpdateBegins, OthersLeave, NoopTellsNothing, TablesCanBeTold, StreamsStayInOrder};
 
 /// Whatever line comes to the master, whoever sent it: what is sent to a node with a stream makes of the replica of the table that of the table after the
@@ -22,8 +22,13 @@ pub fn a_node_keeps_its_stream()
 pub fn each_event_keeps_a_feed()
     ensures noops { NoopsKeepIt }
     ensures hears { HearsKeepsIt }
+    ensures ends { EndKeepsIt }
+    ensures comes_up { UpKeepsIt }
     ensures takes { TakesKeepsIt }
+    ensures late { LateKeepsIt }
     ensures others { OthersKeepIt }
     ensures clients { ClientsKeepIt }
+    ensures breaks { BreaksKeepIt }
+    ensures mends { MendsKeepIt }
     ensures lines { SendsLines }
 {}

@@ -1,7 +1,7 @@
 -- How marks come about. Of each connection the first command that its client wasn't told of is open: steps see it, and one may act on it. What a step did
 -- on condition that the client is told may be taken back as long as it isn't; then others see the command, or one acts on it anew. A command that was
 -- only seen may be refused, as its mailbox is being moved; the step that saw it last is then its point. One without a reply may be refused as a node isn't
--- reached; that is a step of its own.
+-- reached; that is a step of its own. Of a command of which its client was told, a later step may see what is left of it on a link.
 use Rattle.std.specs.Prelude.{◌≡◌, ℕ, ◌+◌, ◌≤◌, ◌==◌, Bool, if◌then◌else◌, List, [], ◌∷◌, ◌++◌, length, take, Option, None, Some}
 use Rattle.imap_types.specs.declared.command.Command.{Command}
 use Rattle.imap_types.specs.declared.command.Tag.{Tag}
@@ -168,6 +168,9 @@ pub data AreMarked (setting : Setting) : ℕ → List Mark → Tale → Type 0 w
   sees : (now : ℕ) (marks : List Mark) (tale : Tale) (conn : ℕ) (request : Request) → IsUnreplied tale conn
       → numbered (tale.talk.requests conn) (length (tale.told conn) + 1) ≡ Some request
       → AreMarked setting now marks tale → AreMarked setting now (marks ++ mark_now now tale conn (Home IfAnswered) ∷ []) tale
+  -- a step sees a command of which its client was told before: that counts for nothing
+  sees_late : (now : ℕ) (marks : List Mark) (tale : Tale) (id : AskId) → id.command ≤ length (tale.told id.conn)
+      → AreMarked setting now marks tale → AreMarked setting now (marks ++ (record { step = now; ask = id; kind = Home IfAnswered }) ∷ []) tale
   -- a step carries it out: if that doesn't always count, it leaves the store as it was
   carries_out : (now : ℕ) (marks : List Mark) (tale : Tale) (conn : ℕ) (counts : Counts) (request : Request) (serial : ℕ)
       → CanAct setting tale conn request serial → (counts ≡ IfAnswered → (done setting tale conn request serial).store ≡ tale.course.store)

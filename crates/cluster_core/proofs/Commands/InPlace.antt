@@ -1,5 +1,5 @@
--- The command of a connection is in one place: of all that is on its way over all links just one message is about the connection, no backend but the one of
--- the place has a flow or a waiting ask of it, and its barrier is where the place says.
+-- The command of a connection is in one place: of all that is on its way over all links just one message is about the connection, but for what is left of
+-- commands before this one, no backend but the one of the place has a flow or a waiting ask of it, and its barrier is where the place says.
 use Rattle.std.specs.Prelude.{◌≡◌, ℕ, List, None, Some}
 use Rattle.back_node.specs.declared.node.BackNode.{BackNode}
 use Rattle.feed_core.specs.declared.replica.Replica.{Replica}
@@ -32,12 +32,12 @@ ShowEach master nodes links conn here = (name : List ℕ) (node : BackNode) → 
 
 -- the command of this number, of a connection of this frontend
 pub record IsInPlace (master : List ℕ) (nodes : Nodes) (links : Links LinkMsg) (front : List ℕ) (replica : Replica) (id : AskId) (here : Place) : Type 0 where
-  pub message : IsPlaced (of_connection id.conn) links (its_message master front id here)
+  pub message : IsPlaced id.command (of_connection id.conn) links (its_message master front id here)
   pub shows : ShowEach master nodes links id.conn here
   pub barrier : IsBarrierAt id (at_barrier here) (on_link links front master) (on_link links master front) replica
   pub there : IsThere nodes here
 
 -- a connection that no frontend has is in none
 pub record IsInNone (master : List ℕ) (nodes : Nodes) (links : Links LinkMsg) (conn : ℕ) : Type 0 where
-  pub message : IsPlaced (of_connection conn) links None
+  pub message : IsPlaced 0 (of_connection conn) links None
   pub shows : ShowEach master nodes links conn place.nowhere

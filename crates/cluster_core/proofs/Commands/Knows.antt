@@ -117,7 +117,7 @@ pub data GoesOnAtOk (table : MailboxTable) (master : List ℕ) (c : ClientComman
   asks_on : WaitsOn master c next → GoesOnAtOk table master c next
 
 abbrev pub undecided_barrier : List ℕ → List ℕ → ClientCommand → Barrier → Type 0
-undecided_barrier master first c barrier.nowhere = ⊥
+undecided_barrier master first c barrier.nowhere = Unit {0}
 undecided_barrier master first c barrier.asked = Unit {0}
 undecided_barrier master first c (barrier.answered table) =
     (at : At) (cause : Why) → GoesOnAtOk table master (waiting_at c at) (decided table master first (waiting_at c at) cause)
@@ -136,10 +136,11 @@ Undecided master first front c (place.is_barred at) = undecided_barrier master f
 abbrev pub listed_by : Tag → Listing → MailboxTable → Answer
 listed_by tag it table = record { tag = tag; reply = list_reply it (mailbox_names (recs_of table)) }
 
--- WHAT ITS PLACE TELLS OF A LIST THAT WAITS: its NOOP is on its way, and the one store has replied nothing; or the master's OK is, and the store has replied
--- what there was in the table of the step in which the master took the NOOP
+-- WHAT ITS PLACE TELLS OF A LIST THAT WAITS: its NOOP is on its way, or that or the OK is gone with the link, and the one store has replied nothing; or the
+-- master's OK is on its way, and the store has replied what there was in the table of the step in which the master took the NOOP
 pub data KnowsNames (tag : Tag) (it : Listing) (was : Sess) (told said : List Answer) (session : Sess) (here : Place) : Type 0 where
   not_yet : said ≡ told → was ≡ session → here ≡ place.is_barred barrier.asked → KnowsNames tag it was told said session here
+  is_gone : said ≡ told → was ≡ session → here ≡ place.is_barred barrier.nowhere → KnowsNames tag it was told said session here
   is_listed : (table : MailboxTable) → said ≡ told ++ listed_by tag it table ∷ [] → was ≡ session → here ≡ place.is_barred (barrier.answered table)
       → KnowsNames tag it was told said session here
 

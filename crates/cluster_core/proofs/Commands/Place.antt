@@ -1,5 +1,6 @@
 -- Where a command of a connection is: nowhere on its way; in its frontend's ask to a backend, or in the answer, or dropped with one of these, as their link
--- broke; a CREATE at its backend, or between that and the master; or at the barrier of its frontend with the master.
+-- broke; a CREATE at its backend, or between that and the master; or at the barrier of its frontend with the master, of which nothing is on its way any more
+-- where their link broke.
 use Rattle.std.specs.Prelude.{ℕ, nat_eq, List, Option, None, Some, if◌then◌else◌}
 use Rattle.std.specs.Cmp.Lexicographic.{pointwise}
 use Rattle.link_msg.specs.declared.answer.BackAnswer.{BackAnswer}

@@ -1,6 +1,6 @@
 -- What holds of a connection: what its client was told is a front of what the one store replied, and at most one command waits,
 -- in one place.
-use Rattle.std.proofs.Common.{◌≡◌, ◌≢◌, ℕ, ◌≤◌, Bool, true, false, nat_eq, List, [], ◌++◌, length, Option, Some, refl, sym, ◌∙◌, ap, subst, arith}
+use Rattle.std.proofs.Common.{◌≡◌, ◌≢◌, ◌⊎◌, ℕ, ◌≤◌, Bool, true, false, nat_eq, List, [], ◌++◌, length, Option, Some, refl, sym, ◌∙◌, ap, subst, arith}
 use Rattle.std.proofs.Math.Logic.{⊎_elim}
 use Rattle.std.proofs.lemmas.Bool.{cases_eq}
 use Rattle.std.proofs.lemmas.Bool.Decides.{nat_tests}
@@ -101,6 +101,7 @@ pub record GoesOnAt (conn : ℕ) (story next : Tale) : Type 0 where
   pub grows : length (story.talk.answers conn) ≤ length (next.talk.answers conn)
   pub told : (other : ℕ) → other ≢ conn → next.told other ≡ story.told other
   pub sessions : (other : ℕ) → other ≢ conn → next.course.sessions other ≡ story.course.sessions other
+  pub before : (other : ℕ) → other ≢ conn → next.before other ≡ story.before other
   pub more : TalkGoesOn (talk_told story) (talk_told next)
 
 pub same_story : (conn : ℕ) (story : Tale) → GoesOnAt conn story story
@@ -110,6 +111,7 @@ same_story conn story = record {
   grows = omega arith;
   told = λ other ne. refl;
   sessions = λ other ne. refl;
+  before = λ other ne. refl;
   more = same_talk (talk_told story);
 }
 
@@ -120,6 +122,7 @@ stories_follow conn one two three first second = record {
   grows = omega (arith, first.grows, second.grows);
   told = λ other ne. second.told other ne ∙ first.told other ne;
   sessions = λ other ne. second.sessions other ne ∙ first.sessions other ne;
+  before = λ other ne. second.before other ne ∙ first.before other ne;
   more = talks_follow (talk_told one) (talk_told two) (talk_told three) first.more second.more;
 }
 
@@ -147,9 +150,16 @@ abbrev pub client_with : List ℕ → List Input → List Answer → Client
 client_with front inputs told = client_till silent front inputs told
 
 -- a command is dropped only with a link that is broken
-abbrev pub IsDroppedAt : World → List ℕ → Place → Type 0
-IsDroppedAt world front (place.is_dropped server) = is_broken world.broken server front ≡ true
-IsDroppedAt world front other = Unit {0}
+abbrev pub IsDroppedAt : List ℕ → World → List ℕ → Place → Type 0
+IsDroppedAt master world front (place.is_dropped server) = is_broken world.broken server front ≡ true
+IsDroppedAt master world front (place.is_barred barrier.nowhere) = is_broken world.broken master front ≡ true
+IsDroppedAt master world front other = Unit {0}
+
+-- where the master's OK is on its way, and the store has replied, the session before that reply is the frontend's
+abbrev pub CanRestore : Tale → ℕ → Connection → Place → Type 0
+CanRestore story conn connection (place.is_barred (barrier.answered table)) =
+    (story.talk.answers conn ≡ story.told conn) ⊎ (story.before conn ≡ connection.session)
+CanRestore story conn connection other = Unit {0}
 
 -- a connection of a frontend with this replica, in the middle of a step, in which it reads
 pub record IsReading (fixed : Fixed) (front : List ℕ) (replica : Replica) (conn : ℕ) (inputs : List Input) (connection : Connection) (world : World)
@@ -172,7 +182,8 @@ pub record IsStanding (fixed : Fixed) (front : List ℕ) (replica : Replica) (co
   pub here : Place
   pub placed : IsInPlaceOf fixed world front replica (next_id conn (story.told conn)) here
   pub marked : IsMarkedAt story.talk.moving world.marks (next_id conn (story.told conn)) here
-  pub dropped : IsDroppedAt world front here
+  pub dropped : IsDroppedAt fixed.master world front here
+  pub restores : CanRestore story conn connection here
   pub stands : Stands fixed front conn inputs held connection (story.told conn) (story.talk.answers conn) (story.course.sessions conn) here
 
 -- a world and a tale that a step of one connection made of another

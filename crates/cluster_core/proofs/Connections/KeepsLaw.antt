@@ -1,5 +1,5 @@
 -- THE LAW THAT EVERY STEP KEEPS: of the nodes, the names, the feeds, and of each connection by what was heard of its client.
-use Rattle.std.specs.Prelude.{◌≡◌, ◌≢◌, ℕ, nat_eq, true, false, List, [], ◌∷◌, ◌++◌, length, None, Some, is_some}
+use Rattle.std.specs.Prelude.{◌≡◌, ◌≢◌, ℕ, nat_eq, true, false, List, [], ◌∷◌, ◌++◌, ◌≤◌, length, take, None, Some, is_some}
 use Rattle.std.specs.List.{list_any, AllByRecursion}
 use Rattle.std.specs.Option.{IsSome}
 use Rattle.std.specs.Cmp.Lexicographic.{pointwise}
@@ -8,7 +8,7 @@ use Rattle.feed_core.specs.declared.rec.Rec.{Rec}
 use Rattle.feed_core.specs.declared.replica.Replica.{Replica}
 use Rattle.feed_core.specs.Routes.{server_at, server_in}
 use Rattle.feed_links.specs.Lines.{HasStreams}
-use Rattle.feed_links.specs.OneFeed.{AreLines, IsFed}
+use Rattle.feed_links.specs.OneFeed.{IsFed}
 use Rattle.feed_links.specs.Replicas.{hears}
 use Rattle.feed_links.specs.Spelled.{CanBeTold}
 use Rattle.front_core.specs.Ending.{EndsOnlyLast}
@@ -16,7 +16,8 @@ use Rattle.front_core.proofs.OneConnection.Readings.{inputs_in, reading_of}
 use Rattle.front_core.specs.declared.connection.Connection.{Connection}
 use Rattle.front_core.specs.declared.connection.Stage.TheVariants.{Ended}
 use Rattle.front_core.specs.declared.front.Front.{Front}
-use Rattle.front_core.specs.Front.{connection_at}
+use Rattle.front_core.specs.Front.{awaited, connection_at}
+use Rattle.front_core.specs.Ups.{is_up}
 use Rattle.imap_talk.specs.Heard.{Heard, nobody, elsewhere, client, frames_heard, has_closed}
 use Rattle.imap_talk.specs.Inputs.{requests_in}
 use Rattle.imap_talk.specs.declared.inputs.Input.{Input}
@@ -28,16 +29,19 @@ use Rattle.imap_talk.specs.declared.inputs.Input.TheVariants.{Asks}
 use Rattle.imap_types.specs.declared.request.Answer.{Answer}
 use Rattle.imap_types.specs.declared.request.Request.{Request}
 use Rattle.imap_wire.specs.Frames.{begun}
+use Rattle.link_msg.specs.declared.counts.Counts.TheVariants.{IfAnswered}
 use Rattle.link_msg.specs.declared.message.LinkMsg.{LinkMsg}
+use Rattle.link_queue.specs.Broken.{is_broken}
 use Rattle.link_queue.specs.Links.{on_link}
 use Rattle.many_links.specs.ManyHold.{ManyHold}
 use Rattle.many_links.specs.Murder.{Murder, Nodes}
-use Rattle.mark_history.specs.Marked.{Tale, talk_told}
+use Rattle.mark_history.specs.Marked.{Tale, last_of, talk_told}
+use Rattle.mark_history.specs.declared.mark.MarkKind.TheVariants.{Home}
 use Rattle.master_core.specs.declared.master.Master.{Master}
 use Rattle.master_core.specs.Whose.{TellNobody}
 use Rattle.mur_config.specs.declared.config.Config.{Config}
 use Rattle.mur_model.specs.declared.session.Sess.TheVariants.{Off}
-use Rattle.mur_model.specs.History.{TalkGoesOn}
+use Rattle.mur_model.specs.History.{GoesOn, TalkGoesOn}
 use Rattle.name_links.specs.Serials.{Given}
 use Rattle.node_record.specs.Table.{MailboxTable, record_at}
 use Rattle.node_record.specs.declared.table.Record.{Record}
@@ -162,11 +166,10 @@ pub record KnowsBackends (nodes : Nodes) (down : List LinkMsg) (replica : Replic
 
 -- ---- feeds
 
--- a frontend's replica follows the master's table
+-- a frontend's replica follows the master's table, as long as their link stands
 pub record IsFedAt (config : Config) (world : World) (master : Master) (node : List ℕ) (front : Front) : Type 0 where
-  pub fed : IsFed master node (on_link world.links node (master_of config)) (on_link world.links (master_of config) node) front.replica
-  -- the master sends it nothing but lines
-  pub lines : AreLines (on_link world.links (master_of config) node)
+  pub fed : IsFed master node (is_broken world.broken (master_of config) node) (is_up front.ups (master_of config)) (on_link world.links node (master_of config))
+      (on_link world.links (master_of config) node) front.replica
   pub knows : KnowsBackends (home_at world) (on_link world.links (master_of config) node) front.replica
 
 pub record FeedsHold (config : Config) (world : World) (master : Master) : Type 0 where
@@ -192,9 +195,39 @@ pub record KeepsLaw (config : Config) (heard : ℕ → Heard) (world : World) : 
   pub requests : (conn : ℕ) → story.talk.requests conn ≡ requests_of (setting_of config) (frames_heard (heard conn))
   pub connections : (conn : ℕ) → ConnectionIs (fixed_of config) conn world story (stops conn) (heard conn)
 
--- so it does behind a world with this tale; the one store took no reply back, and a client that has closed its connection was told no more
+-- so it does behind a world with this tale, whatever step was made but a cut; the one store took no reply back, and a client that has closed its connection was told no more
 pub record KeepsOn (config : Config) (before : Tale) (stopped : ℕ → Stop) (heard : ℕ → Heard) (world : World) : Type 0 where
   pub law : KeepsLaw config heard world
   pub more : TalkGoesOn (talk_told before) (talk_told law.story)
   pub grows : SaysOn before law.story
+  pub closed : (conn : ℕ) → has_closed (heard conn) ≡ true → (law.story.told conn ≡ before.told conn) × (law.stops conn ≡ stopped conn)
+
+-- so it does behind any step, where a cut may have taken replies back. Of a connection whose reply was taken back the client was told no more, and nothing of its
+-- command is on its way.
+pub record IsTakenBack (fixed : Fixed) (before : Tale) (world : World) (story : Tale) (conn : ℕ) : Type 0 where
+  pub told : story.told conn ≡ before.told conn
+  pub said : story.talk.answers conn ≡ story.told conn
+  pub serials : story.talk.serials conn ≡ take (length (story.told conn)) (before.talk.serials conn)
+  pub seen : last_of (next_id conn (before.told conn)) world.marks ≡ Some (Home IfAnswered)
+  pub node : List ℕ
+  pub front : Front
+  pub connection : Connection
+  pub at : IsAt world conn node front connection
+  pub waits : awaited fixed.master (Some connection) fixed.master ≡ true
+
+-- one list stands in front of another
+abbrev pub ListGoesOn : {T : Type 0} → List T → List T → Type 0
+ListGoesOn {T} list longer = (more : List T) × (longer ≡ list ++ more)
+
+pub data SaidOn (fixed : Fixed) (before : Tale) (world : World) (story : Tale) (conn : ℕ) : Type 0 where
+  on : ListGoesOn (before.talk.serials conn) (story.talk.serials conn) → length (before.talk.answers conn) ≤ length (story.talk.answers conn)
+      → SaidOn fixed before world story conn
+  back : IsTakenBack fixed before world story conn → SaidOn fixed before world story conn
+
+pub record KeepsBehind (config : Config) (before : Tale) (stopped : ℕ → Stop) (heard : ℕ → Heard) (world : World) : Type 0 where
+  pub law : KeepsLaw config heard world
+  pub requests : GoesOn before.talk.requests law.story.talk.requests
+  pub answers : GoesOn before.told law.story.told
+  pub moving : law.story.talk.moving ≡ before.talk.moving
+  pub said : (conn : ℕ) → SaidOn (fixed_of config) before world law.story conn
   pub closed : (conn : ℕ) → has_closed (heard conn) ≡ true → (law.story.told conn ≡ before.told conn) × (law.stops conn ≡ stopped conn)

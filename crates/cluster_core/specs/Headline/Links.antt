@@ -13,6 +13,7 @@ use Rattle.schedule_text.specs.declared.event.Event.{Event}
 use Rattle.cluster_core.specs.declared.world.World.{World}
 use Rattle.cluster_core.specs.Flow.{run_steps, steps_of_run}
 use Rattle.cluster_core.specs.Headline.AsksOnce.{Awaits}
+use Rattle.cluster_core.specs.Headline.Backends.{IsBackend}
 use Rattle.cluster_core.specs.World.{front_at, master_of, start}
 
 -- of a broken link, by whether the node to which it leads has it as up: its End is on its way, behind all else; or it was taken, and nothing is on its way
@@ -21,9 +22,9 @@ pub data IsNoticed (queue : List LinkMsg) (up : Bool) : Type 0 where
   was_taken : queue ≡ [] → up ≡ false → IsNoticed queue up
 
 pub record LinksHold (config : Config) (world : World) : Type 0 where
-  -- no link of the master is broken
-  pub from_master : (node : List ℕ) → is_broken world.broken (master_of config) node ≡ false
-  pub to_master : (node : List ℕ) → is_broken world.broken node (master_of config) ≡ false
+  -- no link of the master with a backend is broken
+  pub from_master : (node : List ℕ) → IsBackend config node → is_broken world.broken (master_of config) node ≡ false
+  pub to_master : (node : List ℕ) → IsBackend config node → is_broken world.broken node (master_of config) ≡ false
   -- one that is broken is so in both directions
   pub both : (one other : List ℕ) → is_broken world.broken one other ≡ is_broken world.broken other one
   -- each frontend notices it

@@ -121,12 +121,15 @@ pub data Does (config : Config) (steps : List Event) (taken : Taken config steps
   only_answers : what ≢ lost → table_at (run_steps (start config) (taken.before ++ Deliver taken.from taken.to ∷ [])) (master_of config)
       ≡ table_at (run_steps (start config) taken.before) (master_of config) → Does config steps taken what
 
+-- the frontend has the link to this node as down before a step or behind it
+pub data HasDown (before after : World) (front node : List ℕ) : Type 0 where
+  was_down : (it : Front) → front_at before front ≡ Some it → is_up it.ups node ≡ false → HasDown before after front node
+  goes_down : (it : Front) → front_at after front ≡ Some it → is_up it.ups node ≡ false → HasDown before after front node
+
 -- in one of these steps the frontend at which a client is connected works, and has the link to this node as down
 pub record IsRefusedThere (config : Config) (steps : List Event) (conn : ℕ) (step : ℕ) (node : List ℕ) : Type 0 where
   pub at : IsAtItsNode config steps conn step
-  pub front : Front
-  pub is : front_at (run_steps (start config) at.before) at.node ≡ Some front
-  pub down : is_up front.ups node ≡ false
+  pub down : HasDown (run_steps (start config) at.before) (run_steps (start config) (at.before ++ at.event ∷ [])) at.node node
 
 -- a point stands where a step works on its command; or the frontend of its client answered it there alone, and no step works on it; or refused it there,
 -- since it has the link to a node as down

@@ -1,5 +1,5 @@
 -- Where a command of a connection is: nowhere, or in one message on one link.
-use Rattle.std.proofs.Common.{◌≡◌, ◌≢◌, ℕ, Bool, true, false, nat_eq, List, [], ◌∷◌, Option, None, Some, refl, ◌∙◌, ap, arith}
+use Rattle.std.proofs.Common.{◌≡◌, ◌≢◌, ◌&&◌, ℕ, Bool, true, false, not, nat_eq, nat_lt, List, [], ◌∷◌, Option, None, Some, refl, ◌∙◌, ap, arith}
 use Rattle.std.proofs.lemmas.Bool.Decides.{nat_tests}
 use Rattle.link_msg.specs.declared.message.LinkMsg.{LinkMsg}
 use Rattle.link_msg.specs.declared.message.LinkMsg.TheVariants.{Up, End, Line, Ask, Answer}
@@ -36,16 +36,26 @@ same_about (of_connection one) of_nobody = false
 same_about of_nobody (of_connection other) = false
 same_about of_nobody of_nobody = true
 
-abbrev pub is_about : About → LinkMsg → Bool
-is_about whom message = same_about (about message) whom
+-- a line of a command that is over: its number is below the first one that isn't
+abbrev pub is_below : ℕ → Option AskId → Bool
+is_below first None = false
+is_below first (Some ask) = nat_lt ask.command first
 
--- of all that is on its way, over all links, just this is about them
-abbrev pub IsPlaced : About → Links LinkMsg → Option (Carried LinkMsg) → Type 0
-IsPlaced whom links found = IsFound (is_about whom) links found
+unfoldable pub is_over : ℕ → LinkMsg → Bool
+is_over first (Line bytes) = is_below first (line_ask bytes)
+is_over first message = false
 
--- what is about them stays where it is
+-- the message is about them, and isn't what is left of a command below this number
+abbrev pub is_about : ℕ → About → LinkMsg → Bool
+is_about first whom message = same_about (about message) whom && not (is_over first message)
+
+-- of all that is on its way, over all links, just this is about them, from this number on
+abbrev pub IsPlaced : ℕ → About → Links LinkMsg → Option (Carried LinkMsg) → Type 0
+IsPlaced first whom links found = IsFound (is_about first whom) links found
+
+-- what is about them stays where it is, from whatever number on
 abbrev pub PlacesStay : About → Links LinkMsg → Links LinkMsg → Type 0
-PlacesStay whom links next = (found : Option (Carried LinkMsg)) → IsPlaced whom links found → IsPlaced whom next found
+PlacesStay whom links next = (first : ℕ) (found : Option (Carried LinkMsg)) → IsPlaced first whom links found → IsPlaced first whom next found
 
 pub about_itself : (whom : About) → same_about whom whom ≡ true
 unfolding same_about
@@ -85,32 +95,56 @@ pub of_no_command : (ask : Option AskId) → about_command ask ≡ of_nobody →
 of_no_command None e = refl
 of_no_command (Some ask) e = cc
 
-own_about : (whom : About) (message : LinkMsg) → about message ≡ whom → is_about whom message ≡ true
-own_about whom message e = ap (λ a. same_about a whom) e ∙ about_itself whom
+not_about : (first : ℕ) (whom : About) (message : LinkMsg) → about message ≢ whom → is_about first whom message ≡ false
+not_about first whom message ne = ap (λ a. a && not (is_over first message)) (about_apart (about message) whom ne)
+
+pub own_about : (first : ℕ) (whom : About) (message : LinkMsg) → about message ≡ whom → is_over first message ≡ false → is_about first whom message ≡ true
+own_about first whom message e on =
+    ap (λ a. same_about a whom && not (is_over first message)) e ∙ ap (λ a. a && not (is_over first message)) (about_itself whom) ∙ ap not on
+
+and_not : (one : Bool) → (one && not true) ≡ false
+and_not true = refl
+and_not false = refl
+
+-- what is left of a command that is over is about nobody
+pub over_about : (first : ℕ) (whom : About) (message : LinkMsg) → is_over first message ≡ true → is_about first whom message ≡ false
+over_about first whom message over = ap (λ o. same_about (about message) whom && not o) over ∙ and_not (same_about (about message) whom)
 
 -- what is sent or taken of others leaves it
 pub others_sent : (links : Links LinkMsg) (f t : List ℕ) (message : LinkMsg) (whom : About) → about message ≢ whom
     → PlacesStay whom links (sent links f t message)
-others_sent links f t message whom ne = λ here placed.
-    another_sent (is_about whom) links f t message here (about_apart (about message) whom ne) placed
+others_sent links f t message whom ne = λ first here placed.
+    another_sent (is_about first whom) links f t message here (not_about first whom message ne) placed
 
 pub others_taken : (links : Links LinkMsg) (f t : List ℕ) (message : LinkMsg) (rest : List LinkMsg) (whom : About) → on_link links f t ≡ message ∷ rest
     → about message ≢ whom → PlacesStay whom links (without_first links f t)
-others_taken links f t message rest whom e ne = λ here placed.
-    another_taken (is_about whom) links f t message rest here e (about_apart (about message) whom ne) placed
+others_taken links f t message rest whom e ne = λ first here placed.
+    another_taken (is_about first whom) links f t message rest here e (not_about first whom message ne) placed
 
--- the first message of a link that is about them is what is on its way of them
-pub first_of : (links : Links LinkMsg) (f t : List ℕ) (message : LinkMsg) (rest : List LinkMsg) (whom : About) (here : Option (Carried LinkMsg))
-    → on_link links f t ≡ message ∷ rest → about message ≡ whom → IsPlaced whom links here
-    → (here ≡ Some (record { from = f; to = t; message = message })) × IsPlaced whom (without_first links f t) None
-first_of links f t message rest whom here e own placed = own_first (is_about whom) links f t message rest here e (own_about whom message own) placed
+-- and so does what is left of a command that is over, from a number above it on
+pub over_sent : (first : ℕ) (links : Links LinkMsg) (f t : List ℕ) (message : LinkMsg) (whom : About) (here : Option (Carried LinkMsg))
+    → is_over first message ≡ true → IsPlaced first whom links here → IsPlaced first whom (sent links f t message) here
+over_sent first links f t message whom here over placed =
+    another_sent (is_about first whom) links f t message here (over_about first whom message over) placed
+
+pub over_taken : (first : ℕ) (links : Links LinkMsg) (f t : List ℕ) (message : LinkMsg) (rest : List LinkMsg) (whom : About) (here : Option (Carried LinkMsg))
+    → on_link links f t ≡ message ∷ rest → is_over first message ≡ true → IsPlaced first whom links here → IsPlaced first whom (without_first links f t) here
+over_taken first links f t message rest whom here e over placed =
+    another_taken (is_about first whom) links f t message rest here e (over_about first whom message over) placed
+
+-- the first message of a link that is about them, of no command that is over, is what is on its way of them
+pub first_of : (first : ℕ) (links : Links LinkMsg) (f t : List ℕ) (message : LinkMsg) (rest : List LinkMsg) (whom : About) (here : Option (Carried LinkMsg))
+    → on_link links f t ≡ message ∷ rest → about message ≡ whom → is_over first message ≡ false → IsPlaced first whom links here
+    → (here ≡ Some (record { from = f; to = t; message = message })) × IsPlaced first whom (without_first links f t) None
+first_of first links f t message rest whom here e own on placed =
+    own_first (is_about first whom) links f t message rest here e (own_about first whom message own on) placed
 
 -- a message is sent where nothing was on its way
-pub sent_alone : (links : Links LinkMsg) (f t : List ℕ) (message : LinkMsg) (whom : About) → about message ≡ whom → IsPlaced whom links None
-    → IsPlaced whom (sent links f t message) (Some (record { from = f; to = t; message = message }))
-sent_alone links f t message whom own none = own_sent (is_about whom) links f t message (own_about whom message own) none
+pub sent_alone : (first : ℕ) (links : Links LinkMsg) (f t : List ℕ) (message : LinkMsg) (whom : About) → about message ≡ whom → is_over first message ≡ false
+    → IsPlaced first whom links None → IsPlaced first whom (sent links f t message) (Some (record { from = f; to = t; message = message }))
+sent_alone first links f t message whom own on none = own_sent (is_about first whom) links f t message (own_about first whom message own on) none
 
 -- where no link has a message, no command is in one
-pub nowhere_on_empty : (links : Links LinkMsg) (whom : About) (here : Option (Carried LinkMsg)) → ((a b : List ℕ) → on_link links a b ≡ [])
-    → IsPlaced whom links here → here ≡ None
-nowhere_on_empty links whom here empty placed = none_on_empty (is_about whom) links here empty placed
+pub nowhere_on_empty : (first : ℕ) (links : Links LinkMsg) (whom : About) (here : Option (Carried LinkMsg)) → ((a b : List ℕ) → on_link links a b ≡ [])
+    → IsPlaced first whom links here → here ≡ None
+nowhere_on_empty first links whom here empty placed = none_on_empty (is_about first whom) links here empty placed
