@@ -1,4 +1,6 @@
 pub mod ReaderLaws
+pub mod InOrder
+pub mod AskOrder
 pub mod ReadingLaws
 pub mod OneConnection
 pub mod FrameLaws

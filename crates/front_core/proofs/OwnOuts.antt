@@ -70,11 +70,12 @@ use Rattle.front_core.specs.Answered.{how_for, reads_on, refused_behind, sends_i
 use Rattle.front_core.specs.Ended.{released}
 use Rattle.front_core.specs.Front.{Stepped, answer_at, answer_from, bytes_by, bytes_in, connect, connect_at, connection_at, deliver, front_bytes_at}
 use Rattle.front_core.specs.Front.{all_end, awaited, end_at, end_from, end_if, front_hang_at, hang, having_read, hung_up, line_by, line_from, ok_at, one_ends}
-use Rattle.front_core.specs.Front.{up_from, waits_for, ways_of, with_up, without_up}
+use Rattle.front_core.specs.Front.{up_from, waits_for, ways_of, with_asks_in_order, with_up, without_up}
 use Rattle.front_core.specs.Slots.{new_connection}
 use Rattle.front_core.specs.Taken.{Turned, Ways, answers_last, asks, begins_if, comes_at, input_comes, input_in, inputs_come, lists, lists_if, next_of, request_in}
 use Rattle.front_core.specs.Taken.{list_refused, to_begin, told_now, turned_by_need}
 use Rattle.front_core.specs.Ups.{Ups, is_up}
+use Rattle.front_core.proofs.AskOrder.{outs_all}
 
 -- bytes for these clients alone, messages for these nodes alone, and marks where they may be
 abbrev pub IsLetOut : (ℕ → Type 0) → (List ℕ → LinkMsg → Type 0) → Type 0 → Out → Type 0
@@ -566,6 +567,11 @@ module _ (own : ℕ → Type 0) (may : List ℕ → LinkMsg → Type 0) where
   own_still : (front : Front) (ups : Ups) (stepped : Stepped) → LetsItsOwn own may (record front { ups = ups }) stepped → LetsItsOwn own may front stepped
   own_still front ups stepped its = record { outs = its.outs; has = its.has; master = its.master; first = its.first }
 
+  -- in whatever order the asks go
+  ordered_own : (front : Front) (stepped : Stepped) → LetsItsOwn own may front stepped → LetsItsOwn own may front (with_asks_in_order stepped)
+  ordered_own front stepped its =
+      record { outs = outs_all (IsLetOut own may ⊥) stepped.outs its.outs; has = its.has; master = its.master; first = its.first }
+
   pub message_own : (front : Front) (has : HasConnections own front) (may_ask : MayAsk may (ways_of front)) (from : List ℕ) (message : LinkMsg)
       → MovesBy may message → LetsItsOwn own may front (deliver front from message)
   unfolding deliver
@@ -576,6 +582,7 @@ module _ (own : ℕ → Type 0) (may : List ℕ → LinkMsg → Type 0) where
       (up_own own may (with_up front from) has (asks_still (ways_of front) _ may_ask) (pointwise nat_eq from front.master))
   message_own front has may_ask from End moves =
       own_still front _ (end_from (without_up front from) from)
-      (all_own (without_up front from) has (asks_still (ways_of front) _ may_ask) from (keys_of front.connections))
+      (ordered_own (without_up front from) (all_end (without_up front from) from (keys_of front.connections))
+      (all_own (without_up front from) has (asks_still (ways_of front) _ may_ask) from (keys_of front.connections)))
   message_own front has may_ask from (Line line) moves = line_own own may front has may_ask line (pointwise nat_eq from front.master)
   message_own front has may_ask from (Ask ask) moves = nothing_own own may front has

@@ -9,7 +9,8 @@ use Rattle.front_core.specs.declared.connection.Connection.{Connection}
 use Rattle.front_core.specs.declared.connection.Stage.{Stage}
 use Rattle.front_core.specs.declared.connection.Stage.TheVariants.{Reading, Waits, Lists, Ended}
 use Rattle.front_core.specs.Front.{WaitsForNone, all_end, answer_from, awaited, behind_them, connection_at, deliver, end_from, end_if, line_from, noting, still}
-use Rattle.front_core.specs.Front.{up_from, waits_for, with_up, without_up}
+use Rattle.front_core.specs.Front.{up_from, waits_for, with_asks_in_order, with_up, without_up}
+use Rattle.front_core.specs.AskOrder.{in_order}
 use Rattle.front_core.specs.Stages.{asks_at, awaits, has_asked, waits_at}
 use Rattle.link_msg.specs.declared.answer.BackAnswer.{BackAnswer}
 use Rattle.link_msg.specs.declared.ask.FrontAsk.{FrontAsk}
@@ -74,7 +75,8 @@ none_end front node (conn ∷ conns) none ne =
 
 end_stranger : (front : Front) (node : List ℕ) → WaitsForNone front node → node ≢ front.master
     → end_from (without_up front node) node ≡ still (without_up front node)
-end_stranger front node none ne = none_end (without_up front node) node (keys_of front.connections) none ne
+unfolding in_order
+end_stranger front node none ne = ap with_asks_in_order (none_end (without_up front node) node (keys_of front.connections) none ne)
 
 pub strangers : (front : Front) (from : List ℕ) (message : LinkMsg) → WaitsForNone front from → from ≢ front.master
     → deliver front from message ≡ still (noting front from message)

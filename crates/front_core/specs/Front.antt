@@ -19,6 +19,7 @@ use Rattle.front_core.specs.declared.connection.Connection.{Connection}
 use Rattle.front_core.specs.declared.connection.Stage.{Stage}
 use Rattle.front_core.specs.declared.connection.Stage.TheVariants.{Reading, Waits, Lists, Ended}
 use Rattle.front_core.specs.declared.front.Front.{Front}
+use Rattle.front_core.specs.AskOrder.{in_ask_order}
 use Rattle.front_core.specs.Answered.{answer_comes, end_comes, ok_comes}
 use Rattle.front_core.specs.Ended.{ended, released, with_released}
 use Rattle.front_core.specs.Reading.{inputs_of_more, read_more}
@@ -169,9 +170,12 @@ all_end front node (conn ∷ conns) =
     let stepped = one_ends front node conn in
     behind_them stepped.outs (all_end stepped.front node conns)
 
--- to all connections, in rising order of their numbers
+abbrev pub with_asks_in_order : Stepped → Stepped
+with_asks_in_order stepped = record stepped { outs = in_ask_order stepped.outs }
+
+-- to all connections, in rising order of their numbers; what they ask then goes by the names of mailboxes
 abbrev pub end_from : Front → List ℕ → Stepped
-end_from front node = all_end front node (keys_of front.connections)
+end_from front node = with_asks_in_order (all_end front node (keys_of front.connections))
 
 -- ---- what a node tells
 

@@ -2,6 +2,7 @@ pub mod Reading
 pub mod Given
 pub mod Ups
 pub mod Taken
+pub mod AskOrder
 pub mod Answered
 pub mod Behind
 pub mod Begun

@@ -9,7 +9,7 @@
 //! | the master's OK to a command's NOOP | the same, by the replica of then | [`Front::deliver`], `specs/Answered.antt` |
 //! | another line of the master | the replica changes (RFC 3656, 4.11) | [`Front::deliver`], `specs/Front.antt` |
 //! | the link to the master comes up | the replica is empty, and the master is asked for its table | [`Front::deliver`], `specs/Front.antt` |
-//! | the link to a node ends | what asked it is lost with its connection; what waits for the OK of the master is refused | [`Front::deliver`], `specs/Answered.antt` |
+//! | the link to a node ends | what asked it is lost with its connection; what waits for the OK of the master is refused | [`Front::deliver`], `specs/Answered.antt`, `specs/AskOrder.antt` |
 //! | a client closes its connection | what the connection held is let go | [`Front::hang`], `specs/Ended.antt` |
 //!
 //! Whom a command asks, and what comes of each answer, is decided in `asking_core`. Nothing is sent where a link isn't up: the command is refused. What any
@@ -17,6 +17,7 @@
 #![tactic(auto)]
 
 mod answered;
+mod ask_order;
 mod asks;
 mod connection;
 mod desk;

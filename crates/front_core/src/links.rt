@@ -6,6 +6,7 @@ ghost use Rattle.front_core.specs.Front.{connection_at, up_from, with_up, withou
 ghost use Rattle.front_core.specs.Front.{all_end, awaited, behind_them, end_at, end_from, one_ends};
 ghost use Rattle.front_core.specs.Room.{HasRoomAt, HasRooms};
 
+use crate::ask_order::in_ask_order;
 use crate::desk::Desk;
 use crate::front::Front;
 use feed_core::{Replica, update_line};
@@ -46,7 +47,8 @@ impl Front {
         Ok(outs)
     }
 
-    // The link to a node has ended, of which each connection is told in the order of their numbers. It takes a look-up for each.
+    // The link to a node has ended, of which each connection is told in the order of their numbers. It takes a look-up for each; what they ask then is
+    // sorted by the names of mailboxes.
     fn end_from(&mut self, alloc: Global, from: &NodeName) -> Result<Outs, Memory>
         requires room { HasRooms self.old }
         ensures { IfOk result (λ outs. record { front = self.new; outs = outs } ≡ end_from self.old from.now) }
@@ -54,7 +56,7 @@ impl Front {
         let conns = self.numbers(alloc)?;
         let mut outs = Outs::new(alloc);
         self.all_end(alloc, from, conns.as_slice(), &mut outs)?;
-        Ok(outs)
+        in_ask_order(outs)
     }
 
     // The numbers of all connections, in their order.
