@@ -1,7 +1,8 @@
 """Links that break and nodes that crash, for random schedules. Breaks(dice, frontends, backends) gives lines of cuts, joins and heals of the links of frontends
-with the first backend most of all, now and then one of the master's, by which the program changes nothing; Faults(..) also those of the master as often, and of
-crashes and what mends them, at the first backend and the master most of all; both the lines behind which all is mended. narrow(dice, config) gives schedules about
-one name or two, in which a message comes only where one is on its way, so that rare orders of the master's lines come often.
+with the first backend most of all, and with the master; now and then of one of the master with a backend, by which the program changes nothing. Faults(..) gives
+also those of the latter as often, and crashes and what mends them, at the first backend and the master most of all; both give the lines behind which all is
+mended. narrow(dice, config) gives schedules about one name or two, in which a message comes only where one is on its way, so that rare orders of the master's
+lines come often.
 """
 import json
 
@@ -21,7 +22,7 @@ class Breaks:
     def links(self):
         """Links, of which one is taken."""
         front, back = self.one(*self.fronts), self.one(self.backs[0], self.backs[0], *self.backs)
-        return [(front, self.backs[0])] * 4 + [(front, back)] * 4 + [self.one(('m', front), ('m', back))] + self.between_backends()
+        return [(front, self.backs[0])] * 4 + [(front, back)] * 4 + [('m', front)] * 4 + [('m', back)] + self.between_backends()
 
     def between_backends(self):
         others = [(a, b) for a in self.backs for b in self.backs if a != b]

@@ -8,7 +8,7 @@ use Rattle.std.specs.Option.{option_cmp}
 use Rattle.std.specs.Ordering.{is_lt, nat_cmp}
 use Rattle.std.proofs.lemmas.List.MinMax.{ranks_by}
 use Rattle.link_msg.specs.declared.out.Out.{Out}
-use Rattle.front_core.specs.AskOrder.{ask_cmp, asked_name, asks_earlier, in_ask_order}
+use Rattle.front_core.specs.AskOrder.{asked_name, asks_earlier, in_ask_order}
 use Rattle.front_core.proofs.InOrder.{Rise, ordered_all, part_stays, rising_stays}
 
 pub ask_order : IsStrictWeakOrder asks_earlier
