@@ -24,11 +24,12 @@ use Rattle.front_core.specs.Answered.{answer_by, answer_comes, by_then, clears_a
 use Rattle.front_core.specs.Answered.{reads_on, refused_behind, sends_if, waiting_come}
 use Rattle.front_core.specs.Ended.{released, released_at}
 use Rattle.front_core.specs.Front.{Stepped, all_end, answer_at, answer_from, awaited, behind_them, bytes_by, bytes_in, connect, connect_at, connection_at, deliver, end_at}
-use Rattle.front_core.specs.Front.{end_from, end_if, front_bytes_at, front_hang_at, hang, having_read, hung_up, line_by, line_from, ok_at, one_ends, still, up_from}
-use Rattle.front_core.specs.Front.{waits_for, ways_of, with_turned, with_up, without_up}
+use Rattle.front_core.specs.Front.{end_if, front_bytes_at, front_hang_at, hang, having_read, hung_up, line_by, line_from, ok_at, one_ends, still, up_from}
+use Rattle.front_core.specs.Front.{waits_for, ways_of, with_asks_in_order, with_turned, with_up, without_up}
 use Rattle.front_core.specs.Taken.{Turned, Ways, answers_last, answers_now, asks, begins_if, comes_at, input_comes, input_in, inputs_come, list_refused, lists, lists_if}
 use Rattle.front_core.specs.Taken.{request_in, says_bye, told_now, turned_by_need}
 use Rattle.front_core.specs.Ups.{Ups, coming_up, going_down, is_up}
+use Rattle.front_core.proofs.AskOrder.{outs_all}
 use Rattle.imap_talk.specs.declared.inputs.Input.{Input}
 use Rattle.imap_talk.specs.declared.inputs.Input.TheVariants.{GoesOn, Asks, Faults}
 use Rattle.imap_reply.specs.ReplyText.{reply_text}
@@ -357,6 +358,10 @@ pub record FrontGoes (front : Front) (next : Stepped) : Type 0 where
 nothing_goes : (front : Front) → FrontGoes front (still front)
 nothing_goes front = record { outs = tt; more = λ conn number has. has }
 
+-- in whatever order the asks go
+ordered_goes : (front : Front) (next : Stepped) → FrontGoes front next → FrontGoes front (with_asks_in_order next)
+ordered_goes front next its = record { outs = outs_all (FrontTells front) next.outs its.outs; more = its.more }
+
 same_connection : {one other : Connection} → Some one ≡ Some other → one ≡ other
 same_connection e = cc
 
@@ -608,6 +613,8 @@ message_goes front from (Answer answer) = answers_go front answer (waits_for (co
 message_goes front from (Line line) = lines_go front line (pointwise nat_eq from front.master)
 message_goes front from Up = ups_go front from (pointwise nat_eq from front.master)
 message_goes front from End =
-    (further front (still (without_up front from)) (end_from (without_up front from) from) (noted_goes front (going_down front.ups from))
+    let ended : Stepped = all_end (without_up front from) from (keys_of front.connections) in
+    ordered_goes front ended
+    (further front (still (without_up front from)) ended (noted_goes front (going_down front.ups from))
     (all_further (without_up front from) from (keys_of front.connections))).goes
 message_goes front from (Ask ask) = nothing_goes front
