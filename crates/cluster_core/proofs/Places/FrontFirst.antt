@@ -1,10 +1,10 @@
 -- The first message on a link to a frontend, where it is about a connection, tells the place of its command: it is the answer of its server, or the master's OK
 -- to its NOOP.
-use Rattle.std.proofs.Common.{◌≡◌, ◌≢◌, ℕ, ◌≤◌, ◌<◌, Bool, true, false, List, ◌∷◌, None, Some, refl, sym, ◌∙◌, ap, subst}
+use Rattle.std.proofs.Common.{◌≡◌, ◌≢◌, ℕ, ◌≤◌, ◌<◌, true, false, List, ◌∷◌, None, Some, refl, sym, ◌∙◌, ap, subst}
 use Rattle.ask_routes.specs.Barrier.{barrier_answered}
 use Rattle.ask_routes.proofs.BarrierLaw.{ok_tells_its_command}
 use Rattle.feed_core.specs.declared.replica.Replica.{Replica}
-use Rattle.front_core.proofs.OneConnection.Places.{About, about, about_command, about_of, answer_on, first_of, is_about, is_over, line_on, line_over, none_over, of_connection, on_of}
+use Rattle.front_core.proofs.OneConnection.Places.{about, about_command, answer_on, first_of, is_about, is_over, isnt_about, line_on, line_over, none_over, of_connection}
 use Rattle.link_msg.specs.declared.answer.BackAnswer.{BackAnswer}
 use Rattle.link_msg.specs.declared.message.LinkMsg.{LinkMsg}
 use Rattle.link_msg.specs.declared.message.LinkMsg.TheVariants.{Up, End, Line, Ask, Answer}
@@ -126,14 +126,6 @@ first_tells master nodes links from to message rest front replica id here fronte
     by_place master nodes from to message front id frontend here
     (first_of id.command links from to message rest (of_connection id.conn) (its_message master front id here) first own on is.message).0 is.there
 
--- a message of which nothing that could be in a place comes is about no command in one
-not_its : (first : ℕ) (whom : About) (message : LinkMsg) → (about message ≡ whom → is_over first message ≡ false → ⊥) → is_about first whom message ≡ false
-not_its first whom message no = by (is_about first whom message) refl
-  where
-    by : (own : Bool) → is_about first whom message ≡ own → own ≡ false
-    by true e = absurd (no (about_of first whom message e) (on_of first whom message e))
-    by false e = refl
-
 -- ---- an answer
 
 same_answer : (one other : BackAnswer) → Answer one ≡ Answer other → one ≡ other
@@ -190,7 +182,7 @@ none_by master from to bytes front id here none own (its_ok table is of_master a
 
 pub news_are_nobodys : NewsAreNobodys
 news_are_nobodys master nodes links from to bytes rest front replica id here frontend first none is =
-    not_its id.command (of_connection id.conn) (Line bytes) (λ own on. none_by master from to bytes front id here none own
+    isnt_about id.command (of_connection id.conn) (Line bytes) (λ own on. none_by master from to bytes front id here none own
     (first_tells master nodes links from to (Line bytes) rest front replica id here frontend first own on is))
 
 -- ---- a message that no command waits for
@@ -202,7 +194,7 @@ idle_by master from to message front id here idle (its_ok table is of_master at 
 
 pub idle_is_nobodys : IdleIsNobodys
 idle_is_nobodys master nodes links from to message rest front replica id here frontend first idle is =
-    not_its id.command (of_connection id.conn) message (λ own on. idle_by master from to message front id here idle
+    isnt_about id.command (of_connection id.conn) message (λ own on. idle_by master from to message front id here idle
     (first_tells master nodes links from to message rest front replica id here frontend first own on is))
 
 -- ---- a connection that is in none

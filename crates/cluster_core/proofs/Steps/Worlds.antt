@@ -6,9 +6,11 @@ use Rattle.cluster_core.specs.World.{master_of, front_at, home_at, master_at, ta
 use Rattle.feed_core.specs.declared.replica.Replica.{Replica}
 use Rattle.feed_links.specs.OneFeed.{IsFed}
 use Rattle.front_core.specs.declared.front.Front.{Front}
+use Rattle.front_core.specs.Ups.{is_up}
 use Rattle.imap_talk.specs.Heard.{Heard}
 use Rattle.imap_talk.specs.Transcript.{Stop}
 use Rattle.link_msg.specs.declared.message.LinkMsg.{LinkMsg}
+use Rattle.link_queue.specs.Broken.{is_broken}
 use Rattle.link_queue.specs.Links.{Links, on_link, without_first}
 use Rattle.many_links.specs.ManyHold.{ManyHold}
 use Rattle.many_links.specs.Murder.{Nodes, put_all, with_node}
@@ -69,7 +71,12 @@ module _ (config : Config) (world : World) (master : Master) (nodes : AreNodesOf
   is_fed_front feeds node front id at numbered = record {
     is_front = is_front node front at;
     streams = feeds.streams;
-    fed = subst (λ m. IsFed master node (on_link world.links node m) (on_link world.links m node) front.replica) (sym nodes.me) (feeds.each node front at).fed;
+    broken = is_broken world.broken (master_of config) node;
+    reached = is_up front.ups (master_of config);
+    fed = subst
+        (λ m. IsFed master node (is_broken world.broken (master_of config) node) (is_up front.ups (master_of config)) (on_link world.links node m)
+        (on_link world.links m node) front.replica)
+        (sym nodes.me) (feeds.each node front at).fed;
     numbered = numbered;
   }
 

@@ -175,6 +175,14 @@ on_of first whom message is = not_true (is_over first message) (and_right (same_
 pub not_about : (first : ℕ) (whom : About) (message : LinkMsg) → about message ≢ whom → is_about first whom message ≡ false
 not_about first whom message ne = ap (λ a. a && not (is_over first message)) (about_apart (about message) whom ne)
 
+-- a message is about none of this number on if one that is can't be
+pub isnt_about : (first : ℕ) (whom : About) (message : LinkMsg) → (about message ≡ whom → is_over first message ≡ false → ⊥) → is_about first whom message ≡ false
+isnt_about first whom message no = by (is_about first whom message) refl
+  where
+    by : (own : Bool) → is_about first whom message ≡ own → own ≡ false
+    by true e = absurd (no (about_of first whom message e) (on_of first whom message e))
+    by false e = refl
+
 pub own_about : (first : ℕ) (whom : About) (message : LinkMsg) → about message ≡ whom → is_over first message ≡ false → is_about first whom message ≡ true
 own_about first whom message e on =
     ap (λ a. same_about a whom && not (is_over first message)) e ∙ ap (λ a. a && not (is_over first message)) (about_itself whom) ∙ ap not on
