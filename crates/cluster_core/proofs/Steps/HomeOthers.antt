@@ -21,14 +21,14 @@ use Rattle.cluster_core.proofs.Steps.HomeSteps.{HomeTakes, OthersStay, OthersSta
 use Rattle.cluster_core.proofs.Steps.Outs.{about_it, not_about_it}
 use Rattle.cluster_core.proofs.Steps.HomeMoves.{apart, talk, left_so, left_none}
 
-pub asks_not : (whose : Whose) (message : LinkMsg) → is_own_message whose message ≡ false → asks_for whose message ≡ false
+asks_not : (whose : Whose) (message : LinkMsg) → is_own_message whose message ≡ false → asks_for whose message ≡ false
 asks_not whose Up e = refl
 asks_not whose End e = refl
 asks_not whose (Line bytes) e = refl
 asks_not whose (Ask ask) e = e
 asks_not whose (Answer answer) e = refl
 
-asks_other : (first conn : ℕ) (message : LinkMsg) → is_about first (of_connection conn) message ≡ false → asks_for (is_of_connection conn) message ≡ false
+pub asks_other : (first conn : ℕ) (message : LinkMsg) → is_about first (of_connection conn) message ≡ false → asks_for (is_of_connection conn) message ≡ false
 asks_other first conn Up e = refl
 asks_other first conn End e = refl
 asks_other first conn (Line bytes) e = refl
