@@ -1,5 +1,5 @@
 -- Where a command of a connection is: nowhere, or in one message on one link.
-use Rattle.std.proofs.Common.{◌≡◌, ◌≢◌, ◌⊎◌, inl, inr, ◌&&◌, ℕ, ◌≤◌, ◌<◌, Bool, true, false, not, nat_eq, nat_lt, List, [], ◌∷◌, Option, None, Some, refl, sym, ◌∙◌, ap, eqb-true, arith}
+use Rattle.std.proofs.Common.{◌≡◌, ◌≢◌, ◌⊎◌, inl, inr, ◌&&◌, ℕ, ◌≤◌, ◌<◌, Bool, true, false, not, nat_eq, nat_lt, cond, List, [], ◌∷◌, filter, Option, None, Some, refl, sym, ◌∙◌, ap, eqb-true, arith}
 use Rattle.std.proofs.lemmas.Bool.Decides.{nat_tests}
 use Rattle.link_msg.specs.declared.answer.BackAnswer.{BackAnswer}
 use Rattle.link_msg.specs.declared.ask.FrontAsk.{FrontAsk}
@@ -157,6 +157,22 @@ over_by false = inr refl
 pub over_or : (first : ℕ) (message : LinkMsg) → (is_over first message ≡ true) ⊎ (is_over first message ≡ false)
 over_or first message = over_by (is_over first message)
 
+below_later : (first later : ℕ) (ask : Option AskId) → first ≤ later → is_below later ask ≡ false → is_below first ask ≡ false
+below_later first later None le e = refl
+below_later first later (Some ask) le e = by le e
+  where
+    by : first ≤ later → nat_lt ask.command later ≡ false → nat_lt ask.command first ≡ false
+    by l k = grind (arith, nat_tests)
+
+-- what isn't over from a later number on isn't over from this one on
+pub earlier_on : (first later : ℕ) (message : LinkMsg) → first ≤ later → is_over later message ≡ false → is_over first message ≡ false
+unfolding is_over
+earlier_on first later Up le on = refl
+earlier_on first later End le on = refl
+earlier_on first later (Line bytes) le on = below_later first later (line_ask bytes) le on
+earlier_on first later (Ask ask) le on = refl
+earlier_on first later (Answer answer) le on = refl
+
 -- ---- what is about them
 
 pub same_whom : (one other : About) → same_about one other ≡ true → one ≡ other
@@ -237,3 +253,21 @@ sent_alone first links f t message whom own on none = own_sent (is_about first w
 pub nowhere_on_empty : (first : ℕ) (links : Links LinkMsg) (whom : About) (here : Option (Carried LinkMsg)) → ((a b : List ℕ) → on_link links a b ≡ [])
     → IsPlaced first whom links here → here ≡ None
 nowhere_on_empty first links whom here empty placed = none_on_empty (is_about first whom) links here empty placed
+
+none_kept : (p q : LinkMsg → Bool) → ((message : LinkMsg) → p message ≡ true → q message ≡ true) → (messages : List LinkMsg) → filter q messages ≡ []
+    → filter p messages ≡ []
+none_kept p q to [] none = refl
+none_kept p q to (message ∷ messages) none = by (p message) (q message) refl refl none (none_kept p q to messages)
+  where
+    by : (one other : Bool) → p message ≡ one → q message ≡ other → cond other (message ∷ filter q messages) (filter q messages) ≡ []
+        → (filter q messages ≡ [] → filter p messages ≡ []) → cond one (message ∷ filter p messages) (filter p messages) ≡ []
+    by one true e h k rest = cc
+    by true false e h k rest = (let no : true ≡ false = sym (to message e) ∙ h in cc)
+    by false false e h k rest = rest k
+
+-- and where nothing is about them from this number on, nothing is from a later one on
+pub later_none : (first later : ℕ) (whom : About) (links : Links LinkMsg) → first ≤ later → IsPlaced first whom links None → IsPlaced later whom links None
+later_none first later whom links le none = λ a b.
+    none_kept (is_about later whom) (is_about first whom)
+    (λ message e. own_about first whom message (about_of later whom message e) (earlier_on first later message le (on_of later whom message e)))
+    (on_link links a b) (none a b)
