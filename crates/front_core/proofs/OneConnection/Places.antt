@@ -193,10 +193,10 @@ not_about first whom message ne = ap (λ a. a && not (is_over first message)) (a
 
 -- a message is about none of this number on if one that is can't be
 pub isnt_about : (first : ℕ) (whom : About) (message : LinkMsg) → (about message ≡ whom → is_over first message ≡ false → ⊥) → is_about first whom message ≡ false
-isnt_about first whom message no = by (is_about first whom message) refl
+isnt_about first whom message never = by (is_about first whom message) refl
   where
     by : (own : Bool) → is_about first whom message ≡ own → own ≡ false
-    by true e = absurd (no (about_of first whom message e) (on_of first whom message e))
+    by true e = absurd (never (about_of first whom message e) (on_of first whom message e))
     by false e = refl
 
 pub own_about : (first : ℕ) (whom : About) (message : LinkMsg) → about message ≡ whom → is_over first message ≡ false → is_about first whom message ≡ true
