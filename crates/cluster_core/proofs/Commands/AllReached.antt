@@ -10,8 +10,8 @@ use Rattle.link_msg.specs.declared.counts.Counts.{Counts}
 use Rattle.link_msg.specs.declared.counts.Counts.TheVariants.{IfAnswered}
 use Rattle.link_queue.specs.Broken.{Broken}
 use Rattle.link_msg.specs.declared.how.How.TheVariants.{Here, Behind, Reserved, Unreached}
-use Rattle.mark_history.specs.Marked.{AreMarked, AreMarked as made, CanAct, CanRefuse, CanRefuseNow, IsUnreplied, IsUntold, Tale, acting, asking, done, first_tale, last_of, mark_now, open_ask, refusal}
-use Rattle.mark_history.specs.Marked.{refusing, taking_back, telling}
+use Rattle.mark_history.specs.Marked.{AreMarked, AreMarked as made, CanAct, CanRefuse, CanRefuseNow, IsUnreplied, IsUntold, Tale, acting, asking, done, first_tale, last_of}
+use Rattle.mark_history.specs.Marked.{mark_now, open_ask, refusal, refusing, taking_back, telling}
 use Rattle.mark_history.specs.declared.mark.Mark.{Mark}
 use Rattle.mark_history.specs.declared.mark.MarkKind.TheVariants.{Home, Told}
 use Rattle.mark_history.proofs.Reached.{TellsReached}
@@ -49,11 +49,10 @@ module _ {setting : Setting} {broken : Broken} where
   pub sees_late : (now : ℕ) (marks : List Mark) (tale : Tale) (id : AskId) → id.command ≤ length (tale.told id.conn)
       → AreMarkedSo setting broken now marks tale
       → AreMarkedSo setting broken now (marks ++ (record { step = now; ask = id; kind = Home IfAnswered }) ∷ []) tale
-  sees_late now marks tale id le so =
-      let mark : Mark = record { step = now; ask = id; kind = Home IfAnswered } in record {
-        marked = made.sees_late now marks tale id le so.marked;
-        reached = λ whole. one_more marks mark (so.reached whole) (λ node e. cc);
-      }
+  sees_late now marks tale id low so = record {
+    marked = made.sees_late now marks tale id low so.marked;
+    reached = λ whole. one_more marks (record { step = now; ask = id; kind = Home IfAnswered }) (so.reached whole) (λ node e. cc);
+  }
 
   pub carries_out : (now : ℕ) (marks : List Mark) (tale : Tale) (conn : ℕ) (counts : Counts) (request : Request) (serial : ℕ)
       → CanAct setting tale conn request serial → (counts ≡ IfAnswered → (done setting tale conn request serial).store ≡ tale.course.store)
@@ -103,10 +102,8 @@ module _ {setting : Setting} {broken : Broken} where
   pub takes_back : (now : ℕ) (marks : List Mark) (tale : Tale) (conn : ℕ) (answer : Answer) → IsUntold tale conn answer
       → last_of (open_ask tale conn) marks ≡ Some (Home IfAnswered) → AreMarkedSo setting broken now marks tale
       → AreMarkedSo setting broken now marks (taking_back tale conn)
-  takes_back now marks tale conn answer untold seen so = record {
-    marked = made.takes_back now marks tale conn answer untold seen so.marked;
-    reached = so.reached;
-  }
+  takes_back now marks tale conn answer untold last so =
+      record { marked = made.takes_back now marks tale conn answer untold last so.marked; reached = so.reached }
 
 -- another link breaks, or comes up
 pub relinked : (setting : Setting) (broken next : Broken) (now : ℕ) (marks : List Mark) (tale : Tale) → (next ≡ [] → broken ≡ [])

@@ -12,7 +12,7 @@ use Rattle.cluster_core.proofs.Commands.InPlace.{IsInNone, IsInPlace, ShowEach}
 use Rattle.cluster_core.proofs.Commands.Place.{Place as place}
 
 message_of_other : (id : AskId) (message : LinkMsg) → is_about id.command (of_connection id.conn) message ≡ false → IsOfOther id message
-message_of_other id (Line bytes) apart is =
+message_of_other id (Line bytes) apart = λ is.
     let own : is_about id.command (of_connection id.conn) (Line bytes) ≡ true =
     own_about id.command (of_connection id.conn) (Line bytes) (ap about_command is) (line_on id.command bytes id is (omega arith)) in
     let no : true ≡ false = sym own ∙ apart in cc
