@@ -27,7 +27,7 @@ use Rattle.cluster_core.specs.declared.world.World.{World}
 use Rattle.cluster_core.specs.World.{client_at, front_at}
 use Rattle.cluster_core.proofs.Commands.Place.{Place, Place as place}
 use Rattle.cluster_core.proofs.Commands.Standing.{Fixed, IsLeft, Stands, next_id}
-use Rattle.cluster_core.proofs.Connections.ConnectionLaw.{IsDroppedAt, IsInNoneOf, IsInPlaceOf, IsMarkedAt, MarksStay, PlacesStay, client_till, client_with, marked_at}
+use Rattle.cluster_core.proofs.Connections.ConnectionLaw.{IsDroppedAt, IsInNoneOf, IsInPlaceOf, IsMarkedAt, MarksStay, PlacesStay, client_till, client_with, marked_at, restores_as}
 use Rattle.cluster_core.proofs.Connections.KeepsLaw.{ConnectionIs, IsGone, IsUntold}
 use Rattle.cluster_core.proofs.Connections.KeepsLaw.ConnectionIs.{is_nobody, is_elsewhere, is_open, is_cut_off, is_closed}
 
@@ -52,6 +52,7 @@ pub record StaysAt (fixed : Fixed) (conn : ℕ) (world next : World) (story late
   pub told : later.told conn ≡ story.told conn
   pub said : later.talk.answers conn ≡ story.talk.answers conn
   pub session : later.course.sessions conn ≡ story.course.sessions conn
+  pub before : later.before conn ≡ story.before conn
   pub moving : later.talk.moving ≡ story.talk.moving
   pub broken : next.broken ≡ world.broken
 
@@ -79,14 +80,16 @@ module _ (moving : ℕ → List ℕ → Bool) (id : AskId) (before after : List 
   marked_stays (place.is_barred at) is = barrier_marked at is
 
 -- a link that is broken stays so
-pub dropped_stays : (world next : World) (node : List ℕ) → next.broken ≡ world.broken → (here : Place) → IsDroppedAt world node here
-    → IsDroppedAt next node here
-dropped_stays world next node same place.nowhere is = tt
-dropped_stays world next node same (place.is_asked server ask) is = tt
-dropped_stays world next node same (place.is_answered server answer) is = tt
-dropped_stays world next node same (place.is_dropped server) is = ap (λ (b : Broken). is_broken b server node) same ∙ is
-dropped_stays world next node same (place.is_at me at) is = tt
-dropped_stays world next node same (place.is_barred at) is = tt
+pub dropped_stays : (master : List ℕ) (world next : World) (node : List ℕ) → next.broken ≡ world.broken → (here : Place)
+    → IsDroppedAt master world node here → IsDroppedAt master next node here
+dropped_stays master world next node same place.nowhere is = tt
+dropped_stays master world next node same (place.is_asked server ask) is = tt
+dropped_stays master world next node same (place.is_answered server answer) is = tt
+dropped_stays master world next node same (place.is_dropped server) is = ap (λ (b : Broken). is_broken b server node) same ∙ is
+dropped_stays master world next node same (place.is_at me at) is = tt
+dropped_stays master world next node same (place.is_barred barrier.nowhere) is = ap (λ (b : Broken). is_broken b master node) same ∙ is
+dropped_stays master world next node same (place.is_barred barrier.asked) is = tt
+dropped_stays master world next node same (place.is_barred (barrier.answered table)) is = tt
 
 pub record FrontNow (conn : ℕ) (now : Option Front) (was : Front) : Type 0 where
   pub front : Front
@@ -173,7 +176,8 @@ connection_stays fixed conn world next story later stop heard stays (is_open byt
       here = standing.here;
       placed = there.0;
       marked = there.1;
-      dropped = dropped_stays world next node stays.broken standing.here standing.dropped;
+      dropped = dropped_stays fixed.master world next node stays.broken standing.here standing.dropped;
+      restores = restores_as story later conn connection connection standing.here stays.said stays.told stays.before refl standing.restores;
       stands = subst (λ t. Stands fixed node conn (inputs_in fixed.setting bytes) (begun bytes) connection t (later.talk.answers conn)
           (later.course.sessions conn) standing.here) (sym stays.told)
           (subst (λ s. Stands fixed node conn (inputs_in fixed.setting bytes) (begun bytes) connection (story.told conn) s (later.course.sessions conn)

@@ -26,7 +26,7 @@ use Rattle.imap_wire.specs.Frames.{begun}
 use Rattle.cluster_core.specs.declared.world.World.{World}
 use Rattle.cluster_core.proofs.Commands.Knows.{Knows, KnowsNames, listed_by}
 use Rattle.cluster_core.proofs.Commands.Knows.Knows.{is_decided, undecided}
-use Rattle.cluster_core.proofs.Commands.Knows.KnowsNames.{is_listed, not_yet}
+use Rattle.cluster_core.proofs.Commands.Knows.KnowsNames.{is_gone, is_listed, not_yet}
 use Rattle.cluster_core.proofs.Commands.Place.{Place}
 use Rattle.cluster_core.proofs.Commands.Released.{waits_next}
 use Rattle.cluster_core.proofs.Commands.Standing.{Fixed, IsLeft, IsNext, Stands, next_id}
@@ -50,6 +50,7 @@ known_few master first front {c} {tag} told said session here (is_decided turn s
 names_few : {tag : Tag} {it : Listing} {was : Sess} (told said : List Answer) (session : Sess) (here : Place) → KnowsNames tag it was told said session here
     → length told ≤ length said
 names_few told said session here (not_yet same was at) = omega (arith, ap length same)
+names_few told said session here (is_gone same was at) = omega (arith, ap length same)
 names_few {tag} {it} told said session here (is_listed table same was at) =
     omega (arith, ap length same, length-append told (listed_by tag it table ∷ []))
 

@@ -1,5 +1,5 @@
 -- What a step of a backend makes of the command of a connection, and what goes out about it.
-use Rattle.std.proofs.Common.{◌≡◌, ◌≢◌, ◌⊎◌, inl, inr, ℕ, true, List, [], ◌∷◌, filter, Option, None, Some, refl, sym, ap, subst, ◌∙◌}
+use Rattle.std.proofs.Common.{◌≡◌, ◌≢◌, ◌⊎◌, inl, inr, ℕ, ◌+◌, true, false, List, [], ◌∷◌, length, filter, Option, None, Some, refl, sym, ap, subst, ◌∙◌}
 use Rattle.std.specs.Ordering.{nat_cmp}
 use Rattle.std.specs.Cmp.Lexicographic.{slice_cmp}
 use Rattle.std.proofs.Math.Logic.{⊎_elim}
@@ -9,7 +9,7 @@ use Rattle.back_links.specs.OneTalk.{HasTalk}
 use Rattle.back_node.specs.declared.node.BackNode.{BackNode}
 use Rattle.back_node.specs.Acted.{BackActed}
 use Rattle.back_node.specs.Takes.{name_ask, name_kind, node_takes}
-use Rattle.front_core.proofs.OneConnection.Places.{About, about, of_connection, of_nobody}
+use Rattle.front_core.proofs.OneConnection.Places.{About, about, is_about, is_over, not_about, of_connection, of_nobody, over_about, over_or, own_about}
 use Rattle.imap_talk.specs.Heard.{Heard}
 use Rattle.link_msg.specs.declared.answer.AnswerBody.{AnswerBody}
 use Rattle.link_msg.specs.declared.ask.FrontAsk.{FrontAsk}
@@ -37,13 +37,13 @@ use Rattle.cluster_core.proofs.Commands.Place.{Place, at_backend}
 use Rattle.cluster_core.proofs.Commands.Standing.{next_id}
 use Rattle.cluster_core.proofs.Connections.KeepsLaw.{KeepsLaw, fixed_of}
 use Rattle.cluster_core.proofs.Points.Found.{IsFoundIn, found_in, in_answer, in_ask, in_line, in_noop, in_ok, in_response}
-use Rattle.cluster_core.proofs.Points.HomeStep.{nobody_fits}
+use Rattle.cluster_core.proofs.Points.HomeStep.{nobody_fits, over_fits}
 use Rattle.cluster_core.proofs.Points.OwnAtHome.{home_step_is_own}
 use Rattle.cluster_core.proofs.Points.Waits.{AskedFit, TellsPlace, first_tells}
-use Rattle.cluster_core.proofs.Steps.HomeOthers.{asks_not}
+use Rattle.cluster_core.proofs.Steps.HomeOthers.{asks_other}
 use Rattle.cluster_core.proofs.Steps.Murders.{at_own}
 use Rattle.cluster_core.proofs.Steps.Outs.{not_about_it, own_it}
-use Rattle.cluster_core.proofs.Steps.Worlds.{each_shown, law_tells}
+use Rattle.cluster_core.proofs.Steps.Worlds.{down_line_on, each_shown, law_tells}
 
 -- it is there then, and this goes out about it
 pub record Goes (whose : Whose) (master : List ℕ) (node : BackNode) (next : BackActed) (move : Move) : Type 0 where
@@ -85,7 +85,11 @@ module _ (config : Config) (heard : ℕ → Heard) (world : World) (law : KeepsL
 
   -- whatever it is about
   fits_by : (whom : About) → about message ≡ whom → IsFitting message
-  fits_by (of_connection conn) own = (home_step_is_own config heard world law conn from to node message rest fit there first own).fits
+  fits_by (of_connection conn) own = ⊎_elim
+      (λ (over : is_over (length (law.story.told conn) + 1) message ≡ true). over_fits (length (law.story.told conn) + 1) message over)
+      (λ (on : is_over (length (law.story.told conn) + 1) message ≡ false).
+      (home_step_is_own config heard world law conn from to node message rest fit there first own on).fits)
+      (over_or (length (law.story.told conn) + 1) message)
   fits_by of_nobody own = nobody_fits message own
 
   pub fits : IsFitting message
@@ -114,9 +118,18 @@ module _ (config : Config) (heard : ℕ → Heard) (world : World) (law : KeepsL
     shown_at at shows =
         subst (λ (m : List ℕ). TalkShows whose node (on_link world.links to m) (on_link world.links m to) at) (sym law.nodes.me) shows
 
-    -- ---- the message is about something else
+    abbrev first_on : ℕ
+    first_on = length (law.story.told conn) + 1
 
-    module _ (other : about message ≢ of_connection conn) where
+    -- ---- the message is about something else, or is left of a command that is over
+
+    module _ (other : is_about first_on (of_connection conn) message ≡ false) where
+      -- which doesn't come of the master
+      anothers : from ≡ me → about message ≢ of_connection conn
+      anothers mine own =
+          let on = down_line_on config heard world law conn to node there message own (record { rest = rest; first = down_is mine }) in
+          let no : true ≡ false = sym (own_about first_on (of_connection conn) message own on) ∙ other in cc
+
       abbrev at : NamePlace
       at = at_backend to (each_shown (fixed_of config) conn world law.story (law.stops conn) (heard conn) (law.connections conn)).0
 
@@ -136,16 +149,16 @@ module _ (config : Config) (heard : ℕ → Heard) (world : World) (law : KeepsL
       done_other = ⊎_elim
           (λ (mine : from ≡ me). subst Done (sym mine)
           (by_master (other_answers_leave whose law.master to node up rest law.given message at (hears mine) (law_tells config heard world law to node there)
-          (not_about_it conn message other) (shown_first mine whose at shows))))
+          (not_about_it conn message (anothers mine)) (shown_first mine whose at shows))))
           (λ (ne : from ≢ me). left (other_asks_leave whose law.master to node up down law.given from message at talk ne fits
-          (asks_not whose message (not_about_it conn message other)) shows))
+          (asks_other first_on conn message other) shows))
           (same_or_other (slice_cmp nat_cmp) names_apart from me)
 
     -- ---- it is about the command
 
-    module _ (own : about message ≡ of_connection conn) where
+    module _ (own : about message ≡ of_connection conn) (on : is_over first_on message ≡ false) where
       tells : TellsPlace (fixed_of config) conn world law.story (law.stops conn) (heard conn) from to message
-      tells = first_tells (fixed_of config) conn world law.story (law.stops conn) (heard conn) from to message rest first own (law.connections conn)
+      tells = first_tells (fixed_of config) conn world law.story (law.stops conn) (heard conn) from to message rest first own on (law.connections conn)
 
       abbrev id : AskId
       id = next_id conn (law.story.told conn)
@@ -211,8 +224,11 @@ module _ (config : Config) (heard : ℕ → Heard) (world : World) (law : KeepsL
           by_found tells.here (found_in (master_of config) tells.node id from to message tells.here tells.is_found) ((tells.placed).shows to node there)
 
     is_by : (whom : About) → about message ≡ whom → (whom ≡ of_connection conn) ⊎ (whom ≢ of_connection conn) → Done from
-    is_by whom is (inl same) = done_own (is ∙ same)
-    is_by whom is (inr ne) = done_other (λ e. ne (sym is ∙ e))
+    is_by whom is (inl same) = ⊎_elim
+        (λ (over : is_over first_on message ≡ true). done_other (over_about first_on (of_connection conn) message over))
+        (λ (on : is_over first_on message ≡ false). done_own (is ∙ same) on)
+        (over_or first_on message)
+    is_by whom is (inr ne) = done_other (not_about first_on (of_connection conn) message (λ e. ne (sym is ∙ e)))
 
     -- which of these it is
     whom_is : (whom : About) → (whom ≡ of_connection conn) ⊎ (whom ≢ of_connection conn)

@@ -1,10 +1,10 @@
 -- The first message on a link to a frontend, where it is about a connection, tells the place of its command: it is the answer of its server, or the master's OK
 -- to its NOOP.
-use Rattle.std.proofs.Common.{◌≡◌, ◌≢◌, ℕ, List, ◌∷◌, None, Some, refl, sym, ◌∙◌, ap, subst}
+use Rattle.std.proofs.Common.{◌≡◌, ◌≢◌, ℕ, ◌≤◌, ◌<◌, true, false, List, ◌∷◌, None, Some, refl, sym, ◌∙◌, ap, subst}
 use Rattle.ask_routes.specs.Barrier.{barrier_answered}
 use Rattle.ask_routes.proofs.BarrierLaw.{ok_tells_its_command}
 use Rattle.feed_core.specs.declared.replica.Replica.{Replica}
-use Rattle.front_core.proofs.OneConnection.Places.{about, about_command, first_of, of_connection}
+use Rattle.front_core.proofs.OneConnection.Places.{about, about_command, answer_on, first_of, is_about, is_over, isnt_about, line_on, line_over, none_over, of_connection}
 use Rattle.link_msg.specs.declared.answer.BackAnswer.{BackAnswer}
 use Rattle.link_msg.specs.declared.message.LinkMsg.{LinkMsg}
 use Rattle.link_msg.specs.declared.message.LinkMsg.TheVariants.{Up, End, Line, Ask, Answer}
@@ -25,7 +25,7 @@ use Rattle.cluster_core.proofs.Places.Stays.{IsFrontend, home_apart}
 
 -- ---- what holds
 
--- a message to a frontend that is about the command of this number, which is of a connection of `front`
+-- a message to a frontend that is about the command of this number, which is of a connection of `front`, and isn't what is left of an earlier one
 pub data WhatComes (master from to : List ℕ) (message : LinkMsg) (front : List ℕ) (id : AskId) (here : Place) : Type 0 where
   its_answer : (answer : BackAnswer) → message ≡ Answer answer → front ≡ to → here ≡ place.is_answered from answer
       → WhatComes master from to message front id here
@@ -35,7 +35,8 @@ pub data WhatComes (master from to : List ℕ) (message : LinkMsg) (front : List
 abbrev pub FirstTells : Type 0
 FirstTells = (master : List ℕ) (nodes : Nodes) (links : Links LinkMsg) (from to : List ℕ) (message : LinkMsg) (rest : List LinkMsg) (front : List ℕ)
     (replica : Replica) (id : AskId) (here : Place) → IsFrontend master nodes to → on_link links from to ≡ message ∷ rest
-    → about message ≡ of_connection id.conn → IsInPlace master nodes links front replica id here → WhatComes master from to message front id here
+    → about message ≡ of_connection id.conn → is_over id.command message ≡ false → IsInPlace master nodes links front replica id here
+    → WhatComes master from to message front id here
 
 -- an answer is that of its command's place
 abbrev pub AnswerTells : Type 0
@@ -43,7 +44,7 @@ AnswerTells = (master : List ℕ) (nodes : Nodes) (links : Links LinkMsg) (from 
     (replica : Replica) (id : AskId) (here : Place) → IsFrontend master nodes to → on_link links from to ≡ Answer answer ∷ rest
     → (answer.id).conn ≡ id.conn → IsInPlace master nodes links front replica id here → (front ≡ to) × (here ≡ place.is_answered from answer)
 
--- the OK of a command of this connection is that of the command that waits for it
+-- the OK of a command of this connection that isn't over is that of the command that waits for it
 pub record OkIsIts (front to : List ℕ) (told id : AskId) (here : Place) : Type 0 where
   pub own : told ≡ id
   pub at : front ≡ to
@@ -53,14 +54,15 @@ pub record OkIsIts (front to : List ℕ) (told id : AskId) (here : Place) : Type
 abbrev pub OkTells : Type 0
 OkTells = (master : List ℕ) (nodes : Nodes) (links : Links LinkMsg) (to bytes : List ℕ) (told : AskId) (rest : List LinkMsg) (front : List ℕ)
     (replica : Replica) (id : AskId) (here : Place) → IsFrontend master nodes to → on_link links master to ≡ Line bytes ∷ rest
-    → barrier_answered bytes ≡ Some told → told.conn ≡ id.conn → IsInPlace master nodes links front replica id here
-    → OkIsIts front to told id here
+    → barrier_answered bytes ≡ Some told → told.conn ≡ id.conn → is_over id.command (Line bytes) ≡ false
+    → IsInPlace master nodes links front replica id here → OkIsIts front to told id here
 
 -- another line of the master is about no command that is in a place
 abbrev pub NewsAreNobodys : Type 0
 NewsAreNobodys = (master : List ℕ) (nodes : Nodes) (links : Links LinkMsg) (from to bytes : List ℕ) (rest : List LinkMsg) (front : List ℕ)
     (replica : Replica) (id : AskId) (here : Place) → IsFrontend master nodes to → on_link links from to ≡ Line bytes ∷ rest
-    → barrier_answered bytes ≡ None → IsInPlace master nodes links front replica id here → about (Line bytes) ≢ of_connection id.conn
+    → barrier_answered bytes ≡ None → IsInPlace master nodes links front replica id here
+    → is_about id.command (of_connection id.conn) (Line bytes) ≡ false
 
 -- a message that no command of a frontend waits for: an ask, a line of a node that isn't the master, or what tells of a link
 abbrev pub IsIdle : List ℕ → List ℕ → LinkMsg → Type 0
@@ -74,7 +76,7 @@ IsIdle master from (Answer answer) = ⊥
 abbrev pub IdleIsNobodys : Type 0
 IdleIsNobodys = (master : List ℕ) (nodes : Nodes) (links : Links LinkMsg) (from to : List ℕ) (message : LinkMsg) (rest : List LinkMsg) (front : List ℕ)
     (replica : Replica) (id : AskId) (here : Place) → IsFrontend master nodes to → on_link links from to ≡ message ∷ rest → IsIdle master from message
-    → IsInPlace master nodes links front replica id here → about message ≢ of_connection id.conn
+    → IsInPlace master nodes links front replica id here → is_about id.command (of_connection id.conn) message ≡ false
 
 -- no message that comes anywhere is about a connection that is in none
 abbrev pub NoneComes : Type 0
@@ -120,9 +122,9 @@ module _ (master : List ℕ) (nodes : Nodes) (from to : List ℕ) (message : Lin
       its_ok table (sym parts.message_is) (sym parts.from_is) parts.to_is refl
 
 pub first_tells : FirstTells
-first_tells master nodes links from to message rest front replica id here frontend first own is =
+first_tells master nodes links from to message rest front replica id here frontend first own on is =
     by_place master nodes from to message front id frontend here
-    (first_of links from to message rest (of_connection id.conn) (its_message master front id here) first own is.message).0 is.there
+    (first_of id.command links from to message rest (of_connection id.conn) (its_message master front id here) first own on is.message).0 is.there
 
 -- ---- an answer
 
@@ -138,7 +140,7 @@ answer_by master from to answer front id here (its_ok table is of_master at here
 pub answer_tells : AnswerTells
 answer_tells master nodes links from to answer rest front replica id here frontend first own is =
     answer_by master from to answer front id here
-    (first_tells master nodes links from to (Answer answer) rest front replica id here frontend first (ap of_connection own) is)
+    (first_tells master nodes links from to (Answer answer) rest front replica id here frontend first (ap of_connection own) (answer_on id.command answer) is)
 
 -- ---- a line
 
@@ -159,11 +161,18 @@ ok_by master from to bytes told front id here ok own (its_ok table is of_master 
 pub about_ok : (bytes : List ℕ) (told : AskId) → barrier_answered bytes ≡ Some told → about (Line bytes) ≡ of_connection told.conn
 about_ok bytes told ok = ap about_command (ok_tells_its_command bytes told ok)
 
+-- the OK of the command of this number, or of a later one, isn't over, and that of an earlier one is
+pub ok_on : (first : ℕ) (bytes : List ℕ) (told : AskId) → barrier_answered bytes ≡ Some told → first ≤ told.command → is_over first (Line bytes) ≡ false
+ok_on first bytes told ok le = line_on first bytes told (ok_tells_its_command bytes told ok) le
+
+pub ok_over : (first : ℕ) (bytes : List ℕ) (told : AskId) → barrier_answered bytes ≡ Some told → told.command < first → is_over first (Line bytes) ≡ true
+ok_over first bytes told ok lt = line_over first bytes told (ok_tells_its_command bytes told ok) lt
+
 pub ok_tells : OkTells
-ok_tells master nodes links to bytes told rest front replica id here frontend first ok same is =
+ok_tells master nodes links to bytes told rest front replica id here frontend first ok same on is =
     let own = about_ok bytes told ok ∙ ap of_connection same in
     ok_by master master to bytes told front id here ok own
-    (first_tells master nodes links master to (Line bytes) rest front replica id here frontend first own is)
+    (first_tells master nodes links master to (Line bytes) rest front replica id here frontend first own on is)
 
 none_by : (master from to bytes : List ℕ) (front : List ℕ) (id : AskId) (here : Place) → barrier_answered bytes ≡ None
     → about (Line bytes) ≡ of_connection id.conn → WhatComes master from to (Line bytes) front id here → ⊥
@@ -172,9 +181,9 @@ none_by master from to bytes front id here none own (its_ok table is of_master a
     (let no : None ≡ Some id = sym none ∙ ok_again bytes id own is in cc)
 
 pub news_are_nobodys : NewsAreNobodys
-news_are_nobodys master nodes links from to bytes rest front replica id here frontend first none is own =
-    none_by master from to bytes front id here none own
-    (first_tells master nodes links from to (Line bytes) rest front replica id here frontend first own is)
+news_are_nobodys master nodes links from to bytes rest front replica id here frontend first none is =
+    isnt_about id.command (of_connection id.conn) (Line bytes) (λ own on. none_by master from to bytes front id here none own
+    (first_tells master nodes links from to (Line bytes) rest front replica id here frontend first own on is))
 
 -- ---- a message that no command waits for
 
@@ -184,11 +193,12 @@ idle_by master from to message front id here idle (its_answer own is at here_is)
 idle_by master from to message front id here idle (its_ok table is of_master at here_is) = subst (IsIdle master from) is idle of_master
 
 pub idle_is_nobodys : IdleIsNobodys
-idle_is_nobodys master nodes links from to message rest front replica id here frontend first idle is own =
-    idle_by master from to message front id here idle (first_tells master nodes links from to message rest front replica id here frontend first own is)
+idle_is_nobodys master nodes links from to message rest front replica id here frontend first idle is =
+    isnt_about id.command (of_connection id.conn) message (λ own on. idle_by master from to message front id here idle
+    (first_tells master nodes links from to message rest front replica id here frontend first own on is))
 
 -- ---- a connection that is in none
 
 pub none_comes : NoneComes
 none_comes master nodes links from to message rest conn first is own =
-    none-some _ (first_of links from to message rest (of_connection conn) None first own is.message).0
+    none-some _ (first_of 0 links from to message rest (of_connection conn) None first own (none_over message) is.message).0

@@ -1,17 +1,18 @@
 -- What a frontend's link with the master makes of a barrier where the first message on it is taken: one that isn't the OK leaves it where it is, and an OK
 -- tells no replica anything.
-use Rattle.std.proofs.Common.{◌≡◌, ◌≢◌, ◌⊎◌, inl, inr, ℕ, Bool, true, false, cond, if◌then◌else◌, List, [], ◌∷◌, filter, Option, None, Some, refl, sym, ◌∙◌, ap, subst, eqb-true}
+use Rattle.std.proofs.Common.{◌≡◌, ◌⊎◌, inl, inr, ℕ, Bool, true, false, cond, if◌then◌else◌, List, [], ◌∷◌, filter, Option, None, Some, refl, sym, ◌∙◌, ap, subst, arith}
 use Rattle.ask_routes.proofs.BarrierLaw.{ok_tells_its_command}
 use Rattle.ask_routes.specs.Barrier.{barrier_answered, ok_ask, ok_under}
 use Rattle.feed_core.specs.declared.replica.Replica.{Replica}
 use Rattle.feed_core.specs.Feed.{replica_after}
 use Rattle.feed_core.specs.Stream.{heard, heard_by, is_update_tag}
 use Rattle.feed_links.specs.Replicas.{IsNoNews, hears}
-use Rattle.front_core.proofs.OneConnection.Places.{About, IsPlaced, about, about_command, is_about, of_connection, of_nobody, same_about}
+use Rattle.front_core.proofs.OneConnection.Places.{About, IsPlaced, about_command, about_of, is_about, line_on, of_connection, own_about}
 use Rattle.link_msg.specs.declared.message.LinkMsg.{LinkMsg}
 use Rattle.link_msg.specs.declared.message.LinkMsg.TheVariants.{Up, End, Line, Ask, Answer}
 use Rattle.link_queue.proofs.Wires.{same_itself}
 use Rattle.link_queue.specs.Links.{Links, on_link}
+use Rattle.mupdate_codec.specs.Asks.{line_ask}
 use Rattle.mupdate_codec.specs.Whole.{response_in}
 use Rattle.mupdate_codec.specs.declared.command.MResponse.{MResponse}
 use Rattle.mupdate_codec.specs.declared.command.MResponse.TheVariants as response
@@ -55,25 +56,18 @@ kept_holds is (m ∷ queue) more message e = by (is m) refl (kept_holds is queue
     by true h behind k = (let same : m ≡ message = cc in sym (ap is same) ∙ h)
     by false h behind k = behind k
 
-same_whom : (one other : About) → same_about one other ≡ true → one ≡ other
-unfolding same_about
-same_whom (of_connection one) (of_connection other) e = ap of_connection (eqb-true one other e)
-same_whom (of_connection one) of_nobody e = cc
-same_whom of_nobody (of_connection other) e = cc
-same_whom of_nobody of_nobody e = refl
-
--- what is found on a link is about them
-pub found_about : (links : Links LinkMsg) (from to : List ℕ) (message : LinkMsg) (whom : About)
-    → IsPlaced whom links (Some (record { from = from; to = to; message = message })) → about message ≡ whom
-found_about links from to message whom placed =
-    same_whom (about message) whom (kept_holds (is_about whom) (on_link links from to) [] message
-    (placed from to ∙ ap (λ (b : Bool). cond b (message ∷ []) []) (same_itself from to)))
+-- what is found on a link is about them, and isn't over
+pub found_about : (first : ℕ) (links : Links LinkMsg) (from to : List ℕ) (message : LinkMsg) (whom : About)
+    → IsPlaced first whom links (Some (record { from = from; to = to; message = message })) → is_about first whom message ≡ true
+found_about first links from to message whom placed =
+    kept_holds (is_about first whom) (on_link links from to) [] message
+    (placed from to ∙ ap (λ (b : Bool). cond b (message ∷ []) []) (same_itself from to))
 
 -- ---- the message isn't the OK
 
 -- the command of a place whose barrier is somewhere has numbers of 64 bits
 numbered_there : (master front : List ℕ) (links : Links LinkMsg) (id : AskId) (here : Place)
-    → IsPlaced (of_connection id.conn) links (its_message master front id here) → (at_barrier here ≡ barrier.nowhere) ⊎ IsNumbered id
+    → IsPlaced id.command (of_connection id.conn) links (its_message master front id here) → (at_barrier here ≡ barrier.nowhere) ⊎ IsNumbered id
 numbered_there master front links id place.nowhere placed = inl refl
 numbered_there master front links id (place.is_asked server ask) placed = inl refl
 numbered_there master front links id (place.is_answered server answer) placed = inl refl
@@ -81,16 +75,23 @@ numbered_there master front links id (place.is_dropped server) placed = inl refl
 numbered_there master front links id (place.is_at me at) placed = inl refl
 numbered_there master front links id (place.is_barred barrier.nowhere) placed = inl refl
 numbered_there master front links id (place.is_barred barrier.asked) placed =
-    inr (noop_numbered id id.conn (found_about links front master (noop_of id) (of_connection id.conn) placed))
+    inr (noop_numbered id id.conn
+    (about_of id.command (of_connection id.conn) (noop_of id) (found_about id.command links front master (noop_of id) (of_connection id.conn) placed)))
 numbered_there master front links id (place.is_barred (barrier.answered table)) placed =
-    inr (ok_numbered id id.conn (found_about links master front (ok_of id) (of_connection id.conn) placed))
+    inr (ok_numbered id id.conn
+    (about_of id.command (of_connection id.conn) (ok_of id) (found_about id.command links master front (ok_of id) (of_connection id.conn) placed)))
 
-not_its_ok : (id : AskId) (message : LinkMsg) → about message ≢ of_connection id.conn → IsOkOf id message → ⊥
-not_its_ok id (Line bytes) ne ok = ne (ap about_command (ok_tells_its_command bytes id ok))
-not_its_ok id Up ne ok = ok
-not_its_ok id End ne ok = ok
-not_its_ok id (Ask ask) ne ok = ok
-not_its_ok id (Answer answer) ne ok = ok
+-- the OK of the command is about it
+ok_is_about : (id : AskId) (bytes : List ℕ) → line_ask bytes ≡ Some id → is_about id.command (of_connection id.conn) (Line bytes) ≡ true
+ok_is_about id bytes is =
+    own_about id.command (of_connection id.conn) (Line bytes) (ap about_command is) (line_on id.command bytes id is (omega arith))
+
+not_its_ok : (id : AskId) (message : LinkMsg) → is_about id.command (of_connection id.conn) message ≡ false → IsOkOf id message → ⊥
+not_its_ok id (Line bytes) other ok = (let no : true ≡ false = sym (ok_is_about id bytes (ok_tells_its_command bytes id ok)) ∙ other in cc)
+not_its_ok id Up other ok = ok
+not_its_ok id End other ok = ok
+not_its_ok id (Ask ask) other ok = ok
+not_its_ok id (Answer answer) other ok = ok
 
 past_by : (id : AskId) (at : Barrier) (up down : List LinkMsg) (message : LinkMsg) (replica : Replica) → (at ≡ barrier.nowhere) ⊎ IsNumbered id
     → (IsOkOf id message → ⊥) → IsBarrierAt id at up (message ∷ down) replica → IsBarrierAt id at up down (hears replica message)
@@ -102,9 +103,10 @@ past_by id at up down message replica (inl none) no_ok is =
     nothing has = record { up_others = has.up_others; down_others = has.down_others.1 }
 past_by id at up down message replica (inr numbered) no_ok is = hears_one id at up down message replica numbered no_ok is
 
--- a message that isn't about the connection leaves the barrier where it is
+-- a message that isn't about the command leaves the barrier where it is
 pub heard_past : (master front : List ℕ) (links : Links LinkMsg) (id : AskId) (here : Place) (up down : List LinkMsg) (message : LinkMsg)
-    (replica : Replica) → about message ≢ of_connection id.conn → IsPlaced (of_connection id.conn) links (its_message master front id here)
+    (replica : Replica) → is_about id.command (of_connection id.conn) message ≡ false
+    → IsPlaced id.command (of_connection id.conn) links (its_message master front id here)
     → IsBarrierAt id (at_barrier here) up (message ∷ down) replica → IsBarrierAt id (at_barrier here) up down (hears replica message)
-heard_past master front links id here up down message replica ne placed is =
-    past_by id (at_barrier here) up down message replica (numbered_there master front links id here placed) (not_its_ok id message ne) is
+heard_past master front links id here up down message replica other placed is =
+    past_by id (at_barrier here) up down message replica (numbered_there master front links id here placed) (not_its_ok id message other) is

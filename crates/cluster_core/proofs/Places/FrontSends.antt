@@ -1,9 +1,10 @@
 -- What a frontend sends brings its own command to a server or to the barrier, and leaves the commands of all other connections where they are.
-use Rattle.std.proofs.Common.{◌≡◌, ◌≢◌, inl, inr, ℕ, List, [], ◌∷◌, ◌++◌, Some, sym, ◌∙◌, ap, subst}
+use Rattle.std.proofs.Common.{◌≡◌, ◌≢◌, inl, inr, ℕ, false, List, [], ◌∷◌, ◌++◌, Some, sym, ◌∙◌, ap, subst, arith}
 use Rattle.std.proofs.Math.Logic.{⊎_elim}
+use Rattle.ask_routes.specs.Barrier.{noop_line}
 use Rattle.back_node.specs.declared.node.BackNode.{BackNode}
 use Rattle.feed_core.specs.declared.replica.Replica.{Replica}
-use Rattle.front_core.proofs.OneConnection.Places.{about, about_command, of_connection, other_whom, others_sent, sent_alone}
+use Rattle.front_core.proofs.OneConnection.Places.{about, about_command, ask_on, is_over, line_on, of_connection, other_whom, others_sent, sent_alone}
 use Rattle.link_msg.specs.declared.ask.FrontAsk.{FrontAsk}
 use Rattle.link_msg.specs.declared.message.LinkMsg.{LinkMsg}
 use Rattle.link_msg.specs.declared.message.LinkMsg.TheVariants.{Ask}
@@ -54,7 +55,8 @@ ask_barriers master links front server ask conn no_master no_home = λ other rep
 
 pub sends_ask : SendsAsk
 sends_ask master nodes links front replica id server node ask frontend at own is = record {
-  message = sent_alone links front server (Ask ask) (of_connection id.conn) (ap (λ (i : AskId). of_connection i.conn) own) is.message;
+  message = sent_alone id.command links front server (Ask ask) (of_connection id.conn) (ap (λ (i : AskId). of_connection i.conn) own) (ask_on id.command ask)
+      is.message;
   shows = shows_alike master nodes id.conn place.nowhere links (sent links front server (Ask ask))
       (homes_sent master nodes links front server (Ask ask) frontend) is.shows;
   barrier = ask_barriers master links front server ask id.conn frontend.no_master
@@ -74,13 +76,17 @@ ask_leaves_others master nodes links front server node ask conn frontend at ne =
 pub about_noop : (id : AskId) → IsNumbered id → about (noop_of id) ≡ of_connection id.conn
 about_noop id numbered = ap about_command (noop_tells id numbered)
 
+-- it isn't over
+pub noop_on : (id : AskId) → IsNumbered id → is_over id.command (noop_of id) ≡ false
+noop_on id numbered = line_on id.command (noop_line id) id (noop_tells id numbered) (omega arith)
+
 noop_down : (master : List ℕ) (links : Links LinkMsg) (front other : List ℕ) (id : AskId) → front ≢ master
     → on_link (sent links front master (noop_of id)) master other ≡ on_link links master other
 noop_down master links front other id ne = sent_else links front master master other (noop_of id) (inl (λ e. ne (sym e)))
 
 pub sends_noop : SendsNoop
 sends_noop master nodes links front replica id frontend numbered is = record {
-  message = sent_alone links front master (noop_of id) (of_connection id.conn) (about_noop id numbered) is.message;
+  message = sent_alone id.command links front master (noop_of id) (of_connection id.conn) (about_noop id numbered) (noop_on id numbered) is.message;
   shows = shows_alike master nodes id.conn place.nowhere links (sent links front master (noop_of id))
       (homes_sent master nodes links front master (noop_of id) frontend) is.shows;
   barrier = barrier_alike id barrier.asked (on_link links front master ++ noop_of id ∷ []) (on_link links master front) _ _ replica

@@ -1,10 +1,10 @@
 -- What a frontend takes ends the place of the command that it is about, and leaves the commands of all other connections where they are.
-use Rattle.std.proofs.Common.{◌≡◌, ◌≢◌, ◌⊎◌, inl, inr, ℕ, List, ◌∷◌, None, Some, refl, sym, ◌∙◌, ap, subst}
+use Rattle.std.proofs.Common.{◌≡◌, ◌≢◌, ◌⊎◌, inl, inr, ℕ, true, false, List, ◌∷◌, None, Some, refl, sym, ◌∙◌, ap, subst}
 use Rattle.std.proofs.Math.Logic.{⊎_elim}
 use Rattle.ask_routes.specs.Barrier.{barrier_answered}
 use Rattle.feed_core.specs.declared.replica.Replica.{Replica}
 use Rattle.feed_links.specs.Replicas.{IsNoNews, hears, replica_of}
-use Rattle.front_core.proofs.OneConnection.Places.{about, first_of, of_connection, other_whom, others_taken}
+use Rattle.front_core.proofs.OneConnection.Places.{about, answer_on, first_of, is_about, is_over, left_taken, not_about, of_connection, other_whom, others_taken, over_about}
 use Rattle.link_msg.specs.declared.answer.BackAnswer.{BackAnswer}
 use Rattle.link_msg.specs.declared.message.LinkMsg.{LinkMsg}
 use Rattle.link_msg.specs.declared.message.LinkMsg.TheVariants.{Up, End, Line, Ask, Answer}
@@ -24,18 +24,18 @@ use Rattle.cluster_core.proofs.Places.Stays.{IsFrontend, KeepsPlaces, barrier_al
 
 -- ---- what holds
 
--- a message is taken that is not about a command: on a link of another frontend or another node than the master, that is where it was
+-- a message is taken that is not about a command, or is left of an earlier one: on a link of another frontend or another node than the master, that is where it was
 abbrev pub TakesElsewhere : Type 0
 TakesElsewhere = (master : List ℕ) (nodes : Nodes) (links : Links LinkMsg) (from to : List ℕ) (message : LinkMsg) (rest : List LinkMsg) (front : List ℕ)
     (replica : Replica) (id : AskId) (here : Place) → IsFrontend master nodes to → on_link links from to ≡ message ∷ rest
-    → about message ≢ of_connection id.conn → (from ≢ master) ⊎ (front ≢ to) → IsInPlace master nodes links front replica id here
+    → is_about id.command (of_connection id.conn) message ≡ false → (from ≢ master) ⊎ (front ≢ to) → IsInPlace master nodes links front replica id here
     → IsInPlace master nodes (without_first links from to) front replica id here
 
 -- and on the link of its frontend from the master too, where the replica hears the message
 abbrev pub TakesOfMaster : Type 0
 TakesOfMaster = (master : List ℕ) (nodes : Nodes) (links : Links LinkMsg) (front : List ℕ) (message : LinkMsg) (rest : List LinkMsg) (replica : Replica)
     (id : AskId) (here : Place) → IsFrontend master nodes front → on_link links master front ≡ message ∷ rest
-    → about message ≢ of_connection id.conn → IsInPlace master nodes links front replica id here
+    → is_about id.command (of_connection id.conn) message ≡ false → IsInPlace master nodes links front replica id here
     → IsInPlace master nodes (without_first links master front) front (hears replica message) id here
 
 -- whatever it takes, a connection that is in none stays so
@@ -75,8 +75,15 @@ pub record IsCleared (master : List ℕ) (nodes : Nodes) (links : Links LinkMsg)
 abbrev pub TakesOk : Type 0
 TakesOk = (master : List ℕ) (nodes : Nodes) (links : Links LinkMsg) (to bytes : List ℕ) (told : AskId) (rest : List LinkMsg) (front : List ℕ)
     (replica : Replica) (id : AskId) (here : Place) → IsFrontend master nodes to → on_link links master to ≡ Line bytes ∷ rest
-    → barrier_answered bytes ≡ Some told → told.conn ≡ id.conn → IsInPlace master nodes links front replica id here
-    → IsCleared master nodes links to told front replica id here
+    → barrier_answered bytes ≡ Some told → told.conn ≡ id.conn → is_over id.command (Line bytes) ≡ false
+    → IsInPlace master nodes links front replica id here → IsCleared master nodes links to told front replica id here
+
+-- the OK of a command that is over is taken: the one that waits now is where it was
+abbrev pub LateOkStays : Type 0
+LateOkStays = (master : List ℕ) (nodes : Nodes) (links : Links LinkMsg) (to bytes : List ℕ) (told : AskId) (rest : List LinkMsg) (front : List ℕ)
+    (replica : Replica) (id : AskId) (here : Place) → IsFrontend master nodes to → on_link links master to ≡ Line bytes ∷ rest
+    → barrier_answered bytes ≡ Some told → is_over id.command (Line bytes) ≡ true → IsInPlace master nodes links front replica id here
+    → IsInPlace master nodes (without_first links master to) front replica id here
 
 abbrev pub OkLeavesOthers : Type 0
 OkLeavesOthers = (master : List ℕ) (nodes : Nodes) (links : Links LinkMsg) (to bytes : List ℕ) (told : AskId) (rest : List LinkMsg) (conn : ℕ)
@@ -127,7 +134,7 @@ barrier_here master links front message rest id at replica no_master first is =
 
 pub takes_elsewhere : TakesElsewhere
 takes_elsewhere master nodes links from to message rest front replica id here frontend first ne apart is = record {
-  message = others_taken links from to message rest (of_connection id.conn) first ne _ is.message;
+  message = left_taken id.command links from to message rest (of_connection id.conn) _ first ne is.message;
   shows = shows_alike master nodes id.conn here links (without_first links from to) (homes_taken master nodes links from to frontend) is.shows;
   barrier = barrier_elsewhere master links from to front id (at_barrier here) replica frontend.no_master apart is.barrier;
   there = is.there;
@@ -135,7 +142,7 @@ takes_elsewhere master nodes links from to message rest front replica id here fr
 
 pub takes_of_master : TakesOfMaster
 takes_of_master master nodes links front message rest replica id here frontend first ne is = record {
-  message = others_taken links master front message rest (of_connection id.conn) first ne _ is.message;
+  message = left_taken id.command links master front message rest (of_connection id.conn) _ first ne is.message;
   shows = shows_alike master nodes id.conn here links (without_first links master front) (homes_taken master nodes links master front frontend) is.shows;
   barrier = barrier_here master links front message rest id (at_barrier here) (hears replica message) frontend.no_master first
       (heard_past master front links id here (on_link links front master) rest message replica ne is.message
@@ -145,7 +152,7 @@ takes_of_master master nodes links front message rest replica id here frontend f
 
 pub none_stays : NoneStays
 none_stays master nodes links from to message rest conn frontend first is = record {
-  message = others_taken links from to message rest (of_connection conn) first (none_comes master nodes links from to message rest conn first is) None
+  message = others_taken links from to message rest (of_connection conn) first (none_comes master nodes links from to message rest conn first is) 0 None
       is.message;
   shows = shows_alike master nodes conn place.nowhere links (without_first links from to) (homes_taken master nodes links from to frontend) is.shows;
 }
@@ -153,7 +160,7 @@ none_stays master nodes links from to message rest conn frontend first is = reco
 -- where the message is no news of the master's table
 unheard : (master : List ℕ) (nodes : Nodes) (links : Links LinkMsg) (from to : List ℕ) (message : LinkMsg) (rest : List LinkMsg) (front : List ℕ)
     (replica : Replica) (id : AskId) (here : Place) → IsFrontend master nodes to → on_link links from to ≡ message ∷ rest
-    → about message ≢ of_connection id.conn → (from ≢ master) ⊎ IsNoNews message → IsInPlace master nodes links front replica id here
+    → is_about id.command (of_connection id.conn) message ≡ false → (from ≢ master) ⊎ IsNoNews message → IsInPlace master nodes links front replica id here
     → IsInPlace master nodes (without_first links from to) front replica id here
 unheard master nodes links from to message rest front replica id here frontend first ne (inl apart) is =
     takes_elsewhere master nodes links from to message rest front replica id here frontend first ne (inl apart) is
@@ -177,7 +184,8 @@ unheard_keeps : (master : List ℕ) (nodes : Nodes) (links : Links LinkMsg) (fro
     → KeepsPlaces master nodes conn links (without_first links from to)
 unheard_keeps master nodes links from to message rest conn frontend first ne nothing = record {
   in_place = λ front replica command here is.
-      unheard master nodes links from to message rest front replica (record { conn = conn; command = command }) here frontend first ne nothing is;
+      unheard master nodes links from to message rest front replica (record { conn = conn; command = command }) here frontend first
+      (not_about command (of_connection conn) message ne) nothing is;
   in_none = none_stays master nodes links from to message rest conn frontend first;
 }
 
@@ -188,8 +196,8 @@ answered_over : (master : List ℕ) (nodes : Nodes) (links : Links LinkMsg) (fro
     → (answer.id).conn ≡ id.conn → here ≡ place.is_answered from answer → IsInPlace master nodes links front replica id (place.is_answered from answer)
     → IsInPlace master nodes (without_first links from to) front replica id place.nowhere
 answered_over master nodes links from to answer rest front replica id here frontend first own here_is is = record {
-  message = (first_of links from to (Answer answer) rest (of_connection id.conn) (carried from front (Answer answer)) first (ap of_connection own)
-      is.message).1;
+  message = (first_of id.command links from to (Answer answer) rest (of_connection id.conn) (carried from front (Answer answer)) first (ap of_connection own)
+      (answer_on id.command answer) is.message).1;
   shows = shows_alike master nodes id.conn place.nowhere links (without_first links from to) (homes_taken master nodes links from to frontend) is.shows;
   barrier = barrier_elsewhere master links from to front id barrier.nowhere replica frontend.no_master
       (inl (home_apart nodes from master is.there.0 is.there.1 frontend.master_no_home)) is.barrier;
@@ -215,17 +223,17 @@ answer_leaves_others master nodes links from to answer rest conn frontend first 
 
 cleared_by : (master : List ℕ) (nodes : Nodes) (links : Links LinkMsg) (front bytes : List ℕ) (rest : List LinkMsg) (replica : Replica) (id : AskId)
     (here : Place) (table : MailboxTable) → IsFrontend master nodes front → on_link links master front ≡ Line bytes ∷ rest → barrier_answered bytes ≡ Some id
-    → here ≡ place.is_barred (barrier.answered table) → IsInPlace master nodes links front replica id here
+    → here ≡ place.is_barred (barrier.answered table) → is_over id.command (Line bytes) ≡ false → IsInPlace master nodes links front replica id here
     → IsDecided id (barrier.answered table) (on_link links front master) rest replica
     → IsCleared master nodes links front id front replica id here
-cleared_by master nodes links front bytes rest replica id here table frontend first ok here_is is decided = record {
+cleared_by master nodes links front bytes rest replica id here table frontend first ok here_is on is decided = record {
   own = refl;
   at = refl;
   table = decided.table;
   here_is = here_is ∙ ap place.is_barred decided.at_is;
   has_all = decided.has_all;
   over = record {
-    message = (first_of links master front (Line bytes) rest (of_connection id.conn) _ first (about_ok bytes id ok) is.message).1;
+    message = (first_of id.command links master front (Line bytes) rest (of_connection id.conn) _ first (about_ok bytes id ok) on is.message).1;
     shows = shows_alike master nodes id.conn place.nowhere links (without_first links master front) (homes_taken master nodes links master front frontend)
         (subst (ShowEach master nodes links id.conn) here_is is.shows);
     barrier = barrier_here master links front (Line bytes) rest id barrier.nowhere replica frontend.no_master first decided.over;
@@ -235,21 +243,26 @@ cleared_by master nodes links front bytes rest replica id here table frontend fi
 
 ok_taken : (master : List ℕ) (nodes : Nodes) (links : Links LinkMsg) (front bytes : List ℕ) (rest : List LinkMsg) (replica : Replica) (id : AskId)
     (here : Place) (table : MailboxTable) → IsFrontend master nodes front → on_link links master front ≡ Line bytes ∷ rest → barrier_answered bytes ≡ Some id
-    → here ≡ place.is_barred (barrier.answered table) → IsInPlace master nodes links front replica id here
+    → here ≡ place.is_barred (barrier.answered table) → is_over id.command (Line bytes) ≡ false → IsInPlace master nodes links front replica id here
     → IsCleared master nodes links front id front replica id here
-ok_taken master nodes links front bytes rest replica id here table frontend first ok here_is is =
-    cleared_by master nodes links front bytes rest replica id here table frontend first ok here_is is
+ok_taken master nodes links front bytes rest replica id here table frontend first ok here_is on is =
+    cleared_by master nodes links front bytes rest replica id here table frontend first ok here_is on is
     (decides id (barrier.answered table) (on_link links front master) rest (Line bytes) replica ok
     (subst (λ h. IsBarrierAt id (at_barrier h) (on_link links front master) (Line bytes ∷ rest) replica) here_is
     (subst (λ l. IsBarrierAt id (at_barrier here) (on_link links front master) l replica) first is.barrier)))
 
 pub takes_ok : TakesOk
-takes_ok master nodes links to bytes told rest front replica id here frontend first ok own is =
-    let tells = ok_tells master nodes links to bytes told rest front replica id here frontend first ok own is in
+takes_ok master nodes links to bytes told rest front replica id here frontend first ok own on is =
+    let tells = ok_tells master nodes links to bytes told rest front replica id here frontend first ok own on is in
     subst (λ f. IsCleared master nodes links to told f replica id here) (sym tells.at)
     (subst (λ t. IsCleared master nodes links to t to replica id here) (sym tells.own)
-    (ok_taken master nodes links to bytes rest replica id here tells.table frontend first (ok ∙ ap Some tells.own) tells.here_is
+    (ok_taken master nodes links to bytes rest replica id here tells.table frontend first (ok ∙ ap Some tells.own) tells.here_is on
     (subst (λ f. IsInPlace master nodes links f replica id here) tells.at is)))
+
+pub late_ok_stays : LateOkStays
+late_ok_stays master nodes links to bytes told rest front replica id here frontend first ok over is =
+    unheard master nodes links master to (Line bytes) rest front replica id here frontend first (over_about id.command (of_connection id.conn) (Line bytes) over)
+    (inr (an_ok_is_no_news bytes told ok)) is
 
 pub ok_leaves_others : OkLeavesOthers
 ok_leaves_others master nodes links to bytes told rest conn frontend first ok ne =

@@ -75,12 +75,12 @@ pub keeps_by : (master : List ℕ) (nodes : Nodes) (conn : ℕ) (links next : Li
     → HomesAlike master nodes links next → BarriersStay master conn links next → KeepsPlaces master nodes conn links next
 keeps_by master nodes conn links next messages homes barriers = record {
   in_place = λ front replica command here is. record {
-    message = messages _ is.message;
+    message = messages command _ is.message;
     shows = shows_alike master nodes conn here links next homes is.shows;
     barrier = barriers front replica command (at_barrier here) is.barrier;
     there = is.there;
   };
-  in_none = λ is. record { message = messages None is.message; shows = shows_alike master nodes conn place.nowhere links next homes is.shows };
+  in_none = λ is. record { message = messages 0 None is.message; shows = shows_alike master nodes conn place.nowhere links next homes is.shows };
 }
 
 -- ---- links

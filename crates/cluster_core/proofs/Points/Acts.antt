@@ -63,12 +63,15 @@ pub record IsCarriedOut (fixed : Fixed) (front : List ℕ) (conn : ℕ) (broken 
   pub is_told : AreMarkedSo fixed.setting broken now (marks ++ home_mark now c.id counts ∷ []) (acted_on fixed story conn tag c serial)
   pub store : (acted_on fixed story conn tag c serial).course.store ≡ later
   pub goes_on : GoesOnAt conn story (acted_on fixed story conn tag c serial)
+  -- the session before its reply is that of then
+  pub before : (acted_on fixed story conn tag c serial).before conn ≡ c.was
   pub knows : KnowsOf fixed front conn tag c (acted_on fixed story conn tag c serial) here
 
 -- the step sees it, and does nothing
 pub record IsSeen (fixed : Fixed) (front : List ℕ) (conn : ℕ) (broken : Broken) (now : ℕ) (marks : List Mark) (story : Tale) (tag : Tag) (c : ClientCommand) (here : Place)
     : Type 0 where
   pub is_told : AreMarkedSo fixed.setting broken now (marks ++ home_mark now c.id IfAnswered ∷ []) story
+  pub said : story.talk.answers conn ≡ story.told conn
   pub knows : KnowsOf fixed front conn tag c story here
 
 -- ---- the request that is carried out
@@ -119,6 +122,7 @@ acting_goes_on setting conn story request serial unreplied = record {
   );
   told = λ other ne. refl;
   sessions = λ other ne. session_of_other story.course.sessions conn _ other ne;
+  before = λ other ne. session_of_other story.before conn (story.course.sessions conn) other ne;
   more = record {
     requests = same_lists story.talk.requests;
     answers = same_lists story.told;
@@ -183,6 +187,7 @@ module _ (fixed : Fixed) (front : List ℕ) (conn : ℕ) (broken : Broken) (now 
           is_open.is_told);
       store = ap (λ (a : Answered). a.store) out ∙ sym carries.later_is;
       goes_on = acting_goes_on fixed.setting conn story (a_command tag c.it) serial is_open.said;
+      before = session_at story.before conn (story.course.sessions conn) ∙ sym is_open.was_is;
       knows = is_decided turn said_then session_then (worked_ends story.course.store c.name c.work serial) brings;
     }
 
@@ -192,4 +197,8 @@ module _ (fixed : Fixed) (front : List ℕ) (conn : ℕ) (broken : Broken) (now 
   known_so here tells = undecided is_open.said is_open.was_is tells
 
   pub seen_so : (here : Place) → Undecided fixed.master fixed.first front c here → IsSeen fixed front conn broken now marks story tag c here
-  seen_so here tells = record { is_told = as_its IfAnswered story (sees now marks story conn (a_command tag c.it) is_open.said is_open.asked is_open.is_told); knows = known_so here tells }
+  seen_so here tells = record {
+    is_told = as_its IfAnswered story (sees now marks story conn (a_command tag c.it) is_open.said is_open.asked is_open.is_told);
+    said = is_open.said;
+    knows = known_so here tells;
+  }

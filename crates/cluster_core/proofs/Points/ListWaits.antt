@@ -1,5 +1,5 @@
 -- A LIST waits at its frontend: its message is between the frontend and the master. Wherever it is behind a step, its connection goes on so.
-use Rattle.std.proofs.Common.{◌≡◌, ℕ, ◌+◌, List, length, Some, sym, ◌∙◌, ap, subst}
+use Rattle.std.proofs.Common.{◌≡◌, ℕ, ◌+◌, List, length, Some, refl, sym, ◌∙◌, ap, subst}
 use Rattle.front_core.specs.Ending.{EndsOnlyLast}
 use Rattle.front_core.proofs.OneConnection.Readings.{inputs_in}
 use Rattle.front_core.specs.declared.connection.Connection.{Connection}
@@ -24,12 +24,12 @@ use Rattle.route_links.specs.Barriers.{Place as Barrier, Place as barrier}
 use Rattle.cluster_core.specs.declared.world.World.{World}
 use Rattle.cluster_core.specs.World.{client_at, front_at}
 use Rattle.cluster_core.proofs.Commands.Knows.{KnowsNames}
-use Rattle.cluster_core.proofs.Commands.Knows.KnowsNames.{is_listed, not_yet}
+use Rattle.cluster_core.proofs.Commands.Knows.KnowsNames.{is_gone, is_listed, not_yet}
 use Rattle.cluster_core.proofs.Commands.Place.{Place, Place as place}
 use Rattle.cluster_core.proofs.Commands.Standing.{Fixed, next_id}
 use Rattle.cluster_core.proofs.Commands.Standing.IsLeft.{left_listing}
 use Rattle.cluster_core.proofs.Commands.Standing.Stands.{lists}
-use Rattle.cluster_core.proofs.Connections.ConnectionLaw.{IsDroppedAt, IsInPlaceOf, IsMarkedAt}
+use Rattle.cluster_core.proofs.Connections.ConnectionLaw.{CanRestore, IsDroppedAt, IsInPlaceOf, IsMarkedAt}
 use Rattle.cluster_core.proofs.Connections.KeepsLaw.{ConnectionIs, IsAt}
 use Rattle.cluster_core.proofs.Connections.KeepsLaw.ConnectionIs.{is_open}
 use Rattle.cluster_core.proofs.Points.Waits.{WhoLists, asks_next, client_then, ended_is, ended_lists, ended_still, open_lists}
@@ -47,10 +47,8 @@ pub record IsBarred (here : Place) : Type 0 where
 pub names_barred : (tag : Tag) (listing : Listing) (was : Sess) (told said : List Answer) (session : Sess) (here : Place)
     → KnowsNames tag listing was told said session here → IsBarred here
 names_barred tag listing was told said session here (not_yet said_is was_is is) = record { at = barrier.asked; is = is }
+names_barred tag listing was told said session here (is_gone said_is was_is is) = record { at = barrier.nowhere; is = is }
 names_barred tag listing was told said session here (is_listed table said_is was_is is) = record { at = barrier.answered table; is = is }
-
-pub barred_undropped : (world : World) (node : List ℕ) (here : Place) → IsBarred here → IsDroppedAt world node here
-barred_undropped world node here barred = subst (IsDroppedAt world node) (sym barred.is) tt
 
 -- ---- where it is then
 
@@ -63,6 +61,8 @@ pub record IsListThen (fixed : Fixed) (conn : ℕ) (node : List ℕ) (front : Fr
   pub told : later.told conn ≡ story.told conn
   pub placed : IsInPlaceOf fixed next node front.replica (next_id conn (later.told conn)) there
   pub marked : IsMarkedAt later.talk.moving next.marks (next_id conn (later.told conn)) there
+  pub dropped : IsDroppedAt fixed.master next node there
+  pub restores : (connection : Connection) → connection.session ≡ was → CanRestore later conn connection there
   pub knows : NamesOf conn tag listing was later there
 
 -- wherever it is then, its connection goes on so
@@ -104,8 +104,8 @@ each_list_waits fixed conn node front connection world story stop heard here at 
             here = there;
             placed = then.placed;
             marked = then.marked;
-            dropped = barred_undropped next node there
-                (names_barred waiting.tag waiting.listing connection.session (later.told conn) (later.talk.answers conn) (later.course.sessions conn) there then.knows);
+            dropped = then.dropped;
+            restores = then.restores connection refl;
             stands = lists (record {
               tag = waiting.tag;
               it = waiting.it;

@@ -1,6 +1,6 @@
--- A backend takes a message that isn't about a connection: the connection's command stays where it is, or the message ends the resync for which it waits, and
+-- A backend takes a message that isn't about a connection, or is left of a command of it that is over: the connection's command stays where it is, or the message ends the resync for which it waits, and
 -- it is tested.
-use Rattle.std.proofs.Common.{◌≡◌, ◌≢◌, ◌⊎◌, inl, inr, ℕ, ◌+◌, true, false, List, ◌∷◌, length, Option, Some, sym, ◌∙◌, ap, subst, Bool}
+use Rattle.std.proofs.Common.{◌≡◌, ◌≢◌, ◌⊎◌, inl, inr, ℕ, ◌+◌, true, false, List, ◌∷◌, length, Option, Some, refl, sym, ◌∙◌, ap, subst, Bool}
 use Rattle.std.specs.Ordering.{nat_cmp}
 use Rattle.std.specs.Cmp.Lexicographic.{slice_cmp}
 use Rattle.asking_core.specs.declared.waiting.At.{At}
@@ -9,7 +9,7 @@ use Rattle.back_node.specs.declared.node.BackNode.{BackNode}
 use Rattle.back_node.specs.Takes.{node_takes}
 use Rattle.feed_core.specs.declared.replica.Replica.{Replica}
 use Rattle.front_core.specs.Ending.{EndsOnlyLast}
-use Rattle.front_core.proofs.OneConnection.Places.{about, of_connection}
+use Rattle.front_core.proofs.OneConnection.Places.{about, is_about, of_connection}
 use Rattle.front_core.proofs.OneConnection.Readings.{inputs_in}
 use Rattle.front_core.specs.declared.connection.Connection.{Connection}
 use Rattle.front_core.specs.declared.front.Front.{Front}
@@ -39,11 +39,12 @@ use Rattle.cluster_core.specs.World.{client_at, front_at, home_at, taken_from_li
 use Rattle.cluster_core.proofs.Commands.Knows.Knows.{is_decided, undecided}
 use Rattle.cluster_core.proofs.Commands.Place.{Place, Place as place}
 use Rattle.cluster_core.proofs.Commands.Standing.{Fixed, WaitsAt, next_id}
-use Rattle.cluster_core.proofs.Connections.ConnectionLaw.{IsInNoneOf, IsInPlaceOf, IsMarkedAt, IsStanding, MarksStay, client_till, client_with}
+use Rattle.cluster_core.proofs.Connections.ConnectionLaw.{IsInNoneOf, IsInPlaceOf, IsMarkedAt, IsStanding, MarksStay, client_till, client_with, restores_as}
 use Rattle.cluster_core.proofs.Connections.KeepsLaw.{ConnectionIs, IsAt, IsGone, IsUntold, KeepsLaw, fixed_of, murder_of}
 use Rattle.cluster_core.proofs.Connections.KeepsLaw.ConnectionIs.{is_nobody, is_elsewhere, is_open, is_cut_off, is_closed}
 use Rattle.cluster_core.proofs.Connections.Stays.{dropped_stays, marked_stays}
 use Rattle.cluster_core.proofs.Nodes.Comes.{with_home}
+use Rattle.cluster_core.proofs.Steps.Heads.{none_on_its_way}
 use Rattle.cluster_core.proofs.Steps.HomeHears.{other_lines_stay_none, other_lines_stay_or_test}
 use Rattle.cluster_core.proofs.Steps.HomeLinks.{IsInThen, IsNowhereThen}
 use Rattle.cluster_core.proofs.Steps.HomeOthers.{others_stay, others_stay_none}
@@ -52,7 +53,7 @@ use Rattle.cluster_core.proofs.Steps.Murders.{IsFront, IsIn, IsNowhere}
 use Rattle.cluster_core.proofs.Steps.Worlds.{in_murder, in_world_then, is_front, law_tells, none_in_murder, none_in_world_then}
 use Rattle.cluster_core.proofs.Points.Acts.{KnowsOf}
 use Rattle.cluster_core.proofs.Points.AtBackend.{resync_tests}
-use Rattle.cluster_core.proofs.Points.OwnAtHome.{moved_marked, moved_undropped}
+use Rattle.cluster_core.proofs.Points.OwnAtHome.{moved_marked, moved_restores, moved_undropped}
 use Rattle.cluster_core.proofs.Points.ListWaits.{list_barred}
 use Rattle.cluster_core.proofs.Points.Waits.{Whose, each_command_waits, of_command, of_list, closed_so, cut_so, ended_is, ended_still, EndedSo, waits_ended, waits_open, whom_moved}
 
@@ -65,6 +66,7 @@ pub record LeavesElse (conn : ℕ) (world next : World) (story later : Tale) : T
   pub told : later.told conn ≡ story.told conn
   pub said : later.talk.answers conn ≡ story.talk.answers conn
   pub session : later.course.sessions conn ≡ story.course.sessions conn
+  pub before : later.before conn ≡ story.before conn
   pub moving : later.talk.moving ≡ story.talk.moving
 
 module _ (fixed : Fixed) (conn : ℕ) (world next : World) (story later : Tale) (same : LeavesElse conn world next story later) where
@@ -95,7 +97,8 @@ module _ (fixed : Fixed) (conn : ℕ) (world next : World) (story later : Tale) 
     here = standing.here;
     placed = placed_then node replica standing.here placed;
     marked = marked_then standing.here standing.marked;
-    dropped = dropped_stays world next node same.broken standing.here standing.dropped;
+    dropped = dropped_stays fixed.master world next node same.broken standing.here standing.dropped;
+    restores = restores_as story later conn connection connection standing.here same.said same.told same.before refl standing.restores;
     stands = rw (same.told, same.said, same.session) standing.stands;
   }
 
@@ -126,7 +129,7 @@ module _ (fixed : Fixed) (conn : ℕ) (world next : World) (story later : Tale) 
 
 module _ (config : Config) (heard : ℕ → Heard) (world : World) (law : KeepsLaw config heard world) (conn : ℕ) (from to : List ℕ) (node : BackNode)
     (message : LinkMsg) (rest : List LinkMsg) (there : home_at world to ≡ Some node) (first : on_link world.links from to ≡ message ∷ rest)
-    (other : about message ≢ of_connection conn) (fits : IsFitting message) where
+    (other : is_about (length (law.story.told conn) + 1) (of_connection conn) message ≡ false) (fits : IsFitting message) where
   abbrev story : Tale
   story = law.story
 
@@ -158,7 +161,7 @@ module _ (config : Config) (heard : ℕ → Heard) (world : World) (law : KeepsL
   pub data StillOrTested (fnode : List ℕ) (front : Front) (here : Place) : Type 0 where
     still : IsInPlaceOf fixed next fnode front.replica its here → StillOrTested fnode front here
     tested : (ask : NameAsk) (flows : Flows) → here ≡ place.is_at me (name_at.waits ask) → flows.up ≡ node.flows.up → from ≡ law.master.me
-        → (ask.front ≡ fnode → IsInPlaceOf fixed next fnode front.replica its (moved_to to me (after ask flows))) → StillOrTested fnode front here
+        → (ask.front ≡ fnode → ask.id ≡ its → IsInPlaceOf fixed next fnode front.replica its (moved_to to me (after ask flows))) → StillOrTested fnode front here
 
   in_next : (fnode : List ℕ) (front : Front) (here : Place) → IsInThen murder to from (node_takes node from message) fnode front.replica its here
       → IsInPlaceOf fixed next fnode front.replica its here
@@ -194,7 +197,7 @@ module _ (config : Config) (heard : ℕ → Heard) (world : World) (law : KeepsL
       of : from ≡ law.master.me → StaysOrIsTested murder to node (node_takes node law.master.me message) fnode front.replica its here → StillOrTested fnode front here
       of e (stays at_rest) = still (as_from fnode front here e at_rest.placed)
       of e (is_tested ask flows waits_there none up same moved) =
-          tested ask flows waits_there up e (λ its_own. as_from fnode front (moved_to to me (after ask flows)) e (moved its_own).placed)
+          tested ask flows waits_there up e (λ its_own its_id. as_from fnode front (moved_to to me (after ask flows)) e (moved its_own its_id).placed)
 
       by : IsMaster → StillOrTested fnode front here
       by (inl e) =
@@ -210,18 +213,21 @@ module _ (config : Config) (heard : ℕ → Heard) (world : World) (law : KeepsL
       is : IsNowhere murder conn
       is = none_in_murder fixed world law.master law.nodes.me conn none
 
+      anothers : about message ≢ of_connection conn
+      anothers own = none_on_its_way murder conn from to message takes.first own is
+
       by : IsMaster → IsNowhereThen murder to from (node_takes node from message) conn
       by (inl e) =
           subst (λ f. IsNowhereThen murder to f (node_takes node f message) conn) (sym e)
-          (other_lines_stay_none murder law.given store to node message conn (of_master e) (law_tells config heard world law to node there) other is).placed
-      by (inr ne) = (others_stay_none murder law.given store to node from message conn takes ne fits other is).placed
+          (other_lines_stay_none murder law.given store to node message conn (of_master e) (law_tells config heard world law to node there) anothers is).placed
+      by (inr ne) = (others_stay_none murder law.given store to node from message conn takes ne fits anothers is).placed
 
   module _ (later : Tale) (same : LeavesElse conn world next story later) where
     -- it waited for the end of the resync
     tested_goes : (stop : Stop) (h : Heard) (fnode : List ℕ) (front : Front) (connection : Connection) (here : Place) → IsAt world conn fnode front connection
         → connection.answered ≡ length (story.told conn) → Whose fixed conn fnode connection world story stop h here
         → (ask : NameAsk) (flows : Flows) → here ≡ place.is_at me (name_at.waits ask) → flows.up ≡ node.flows.up → from ≡ law.master.me
-        → (ask.front ≡ fnode → IsInPlaceOf fixed next fnode front.replica its (moved_to to me (after ask flows))) → ConnectionIs fixed conn next later stop h
+        → (ask.front ≡ fnode → ask.id ≡ its → IsInPlaceOf fixed next fnode front.replica its (moved_to to me (after ask flows))) → ConnectionIs fixed conn next later stop h
     tested_goes stop h fnode front connection here at count (of_list who) ask flows waits_there up e moved =
         let barred = list_barred fixed conn fnode connection world story stop h here who in
         absurd (let no : place.is_at me (name_at.waits ask) ≡ place.is_barred barred.at = sym waits_there ∙ barred.is in cc)
@@ -237,9 +243,11 @@ module _ (config : Config) (heard : ℕ → Heard) (world : World) (law : KeepsL
           clients = same.client;
           broken = same.broken;
           told = same.told;
-          placed = placed_then fixed conn world next story later same fnode front.replica (moved_to to me move) (moved (front_of fnode waits.tag waits.c ask knows));
+          placed = placed_then fixed conn world next story later same fnode front.replica (moved_to to me move)
+              (moved (front_of fnode waits.tag waits.c ask knows) (id_of fnode waits.tag waits.c ask knows ∙ waits.its));
           marked = moved_marked later.talk.moving next.marks (next_id conn (later.told conn)) to me move;
-          undropped = moved_undropped to me move;
+          dropped = moved_undropped fixed.master next fnode to me move;
+          restores = moved_restores conn waits.c later to me move;
           whom = subst (λ p. (a : At) → WaitsAt a p → WaitsAt a (moved_to to me move)) (sym waits_there)
               (λ a is. whom_moved to me (name_at.waits ask) move a (law.many.each to node there).talk.each.named is);
           knows = knows_then fixed conn world next story later same fnode waits.tag waits.c (moved_to to me move) moves.knows;
@@ -249,6 +257,11 @@ module _ (config : Config) (heard : ℕ → Heard) (world : World) (law : KeepsL
             → asked.front ≡ f
         front_of f tag c asked (undecided said was tells) = ap (λ (a : NameAsk). a.front) tells.2
         front_of f tag c asked (is_decided turn said session ends brings) = absurd brings
+
+        id_of : (f : List ℕ) (tag : Tag) (c : ClientCommand) (asked : NameAsk) → KnowsOf fixed f conn tag c story (place.is_at me (name_at.waits asked))
+            → asked.id ≡ c.id
+        id_of f tag c asked (undecided said was tells) = ap (λ (a : NameAsk). a.id) tells.2
+        id_of f tag c asked (is_decided turn said session ends brings) = absurd brings
 
     somewhere : (here : Place) (ask : NameAsk) → here ≡ place.is_at me (name_at.waits ask) → here ≡ place.nowhere → ⊥
     somewhere here ask e none = let no : place.is_at me (name_at.waits ask) ≡ place.nowhere = sym e ∙ none in cc
@@ -292,7 +305,7 @@ module _ (config : Config) (heard : ℕ → Heard) (world : World) (law : KeepsL
 abbrev pub HomeStepIsOthers : Type 0
 HomeStepIsOthers = (config : Config) (heard : ℕ → Heard) (world : World) (law : KeepsLaw config heard world) (conn : ℕ) (from to : List ℕ) (node : BackNode)
     (message : LinkMsg) (rest : List LinkMsg) (later : Tale) → home_at world to ≡ Some node → on_link world.links from to ≡ message ∷ rest
-    → about message ≢ of_connection conn → IsFitting message
+    → is_about (length (law.story.told conn) + 1) (of_connection conn) message ≡ false → IsFitting message
     → LeavesElse conn world (with_home (taken_from_link world from to) to (node_takes node from message)) law.story later
     → ConnectionIs (fixed_of config) conn (with_home (taken_from_link world from to) to (node_takes node from message)) later (law.stops conn) (heard conn)
 

@@ -1,7 +1,8 @@
 -- What a step that is about the command of a connection makes of its tale, its marks, and the connection itself.
-use Rattle.std.proofs.Common.{◌≡◌, ◌≢◌, ℕ, List, [], ◌∷◌, ◌++◌, Option, None, Some, refl, sym, ◌∙◌, ap, subst, append-nil}
+use Rattle.std.proofs.Common.{◌≡◌, ◌≢◌, inl, inr, ℕ, List, [], ◌∷◌, ◌++◌, Option, None, Some, refl, sym, ◌∙◌, ap, subst, append-nil}
 use Rattle.asking_core.specs.declared.waiting.At.{At}
 use Rattle.cluster_core.specs.World.{setting_of, client_at, front_at}
+use Rattle.front_core.specs.declared.connection.Connection.{Connection}
 use Rattle.front_core.specs.declared.front.Front.{Front}
 use Rattle.imap_talk.specs.Heard.{Heard}
 use Rattle.imap_talk.specs.Transcript.{Stop}
@@ -18,15 +19,16 @@ use Rattle.mur_config.specs.declared.config.Config.{Config}
 use Rattle.mur_model.specs.declared.store.Store.{Store}
 use Rattle.name_links.specs.Serials.{Given}
 use Rattle.point_links.specs.Commands.{ClientCommand}
+use Rattle.route_links.specs.Barriers.{Place as barrier}
 use Rattle.cluster_core.specs.declared.world.World.{World}
 use Rattle.cluster_core.proofs.Commands.AllReached.{AreMarkedSo}
-use Rattle.cluster_core.proofs.Commands.Place.{Place}
+use Rattle.cluster_core.proofs.Commands.Place.{Place, Place as place}
 use Rattle.cluster_core.proofs.Commands.Standing.{Fixed, WaitsAt, next_id}
-use Rattle.cluster_core.proofs.Connections.ConnectionLaw.{GoesOnAt, IsInPlaceOf, IsMarkedAt, MarksStay, same_story}
+use Rattle.cluster_core.proofs.Connections.ConnectionLaw.{CanRestore, GoesOnAt, IsDroppedAt, IsInPlaceOf, IsMarkedAt, MarksStay, same_story}
 use Rattle.cluster_core.proofs.Connections.KeepsLaw.{ConnectionIs, fixed_of, murder_of}
 use Rattle.cluster_core.proofs.Connections.Tales.{others_marked}
 use Rattle.cluster_core.proofs.Points.Acts.{IsCarriedOut, IsSeen, KnowsOf, acted_on, home_mark}
-use Rattle.cluster_core.proofs.Points.Waits.{CommandWaits, IsUndropped}
+use Rattle.cluster_core.proofs.Points.Waits.{CommandWaits}
 
 pub record OwnStep (config : Config) (conn : ℕ) (stop : Stop) (heard : Heard) (world : World) (story : Tale) (next : World) (master : Master) (given : Given) : Type 0 where
   pub later : Tale
@@ -42,6 +44,32 @@ abbrev pub made_by : ℕ → AskId → Option Counts → List Mark
 made_by now id None = []
 made_by now id (Some counts) = home_mark now id counts ∷ []
 
+-- where the master's OK is on its way then, a reply that the store has given can be taken back
+abbrev pub RestoresAt : ℕ → ClientCommand → Tale → Place → Type 0
+RestoresAt conn c later there = (connection : Connection) → connection.session ≡ c.was → CanRestore later conn connection there
+
+-- it has given none
+pub restores_none : (conn : ℕ) (c : ClientCommand) (later : Tale) (there : Place) → later.talk.answers conn ≡ later.told conn → RestoresAt conn c later there
+restores_none conn c later place.nowhere said connection was = tt
+restores_none conn c later (place.is_asked server ask) said connection was = tt
+restores_none conn c later (place.is_answered server answer) said connection was = tt
+restores_none conn c later (place.is_dropped server) said connection was = tt
+restores_none conn c later (place.is_at me at) said connection was = tt
+restores_none conn c later (place.is_barred barrier.nowhere) said connection was = tt
+restores_none conn c later (place.is_barred barrier.asked) said connection was = tt
+restores_none conn c later (place.is_barred (barrier.answered table)) said connection was = inl said
+
+-- or gave it in a session that it knows
+pub restores_one : (conn : ℕ) (c : ClientCommand) (later : Tale) (there : Place) → later.before conn ≡ c.was → RestoresAt conn c later there
+restores_one conn c later place.nowhere before connection was = tt
+restores_one conn c later (place.is_asked server ask) before connection was = tt
+restores_one conn c later (place.is_answered server answer) before connection was = tt
+restores_one conn c later (place.is_dropped server) before connection was = tt
+restores_one conn c later (place.is_at me at) before connection was = tt
+restores_one conn c later (place.is_barred barrier.nowhere) before connection was = tt
+restores_one conn c later (place.is_barred barrier.asked) before connection was = tt
+restores_one conn c later (place.is_barred (barrier.answered table)) before connection was = inr (before ∙ sym was)
+
 -- what it is to the command that waits
 pub record Outcome (fixed : Fixed) (front : List ℕ) (conn : ℕ) (broken : Broken) (now : ℕ) (marks : List Mark) (story : Tale) (tag : Tag) (c : ClientCommand) (store : Store)
     (counts : Option Counts) (there : Place) : Type 0 where
@@ -50,6 +78,7 @@ pub record Outcome (fixed : Fixed) (front : List ℕ) (conn : ℕ) (broken : Bro
   pub goes_on : GoesOnAt conn story later
   pub is_told : AreMarkedSo fixed.setting broken now (marks ++ made_by now c.id counts) later
   pub store_is : later.course.store ≡ store
+  pub restores : RestoresAt conn c later there
   pub knows : KnowsOf fixed front conn tag c later there
 
 module _ (fixed : Fixed) (front : List ℕ) (conn : ℕ) (broken : Broken) (now : ℕ) (marks : List Mark) (story : Tale) (tag : Tag) (c : ClientCommand) (there : Place) where
@@ -61,6 +90,7 @@ module _ (fixed : Fixed) (front : List ℕ) (conn : ℕ) (broken : Broken) (now 
     goes_on = done.goes_on;
     is_told = done.is_told;
     store_is = done.store;
+    restores = restores_one conn c (acted_on fixed story conn tag c done.serial) there done.before;
     knows = done.knows;
   }
 
@@ -72,17 +102,19 @@ module _ (fixed : Fixed) (front : List ℕ) (conn : ℕ) (broken : Broken) (now 
     goes_on = same_story conn story;
     is_told = seen.is_told;
     store_is = refl;
+    restores = restores_none conn c story there seen.said;
     knows = seen.knows;
   }
 
-  pub of_known : AreMarkedSo fixed.setting broken now marks story → KnowsOf fixed front conn tag c story there
+  pub of_known : AreMarkedSo fixed.setting broken now marks story → KnowsOf fixed front conn tag c story there → RestoresAt conn c story there
       → Outcome fixed front conn broken now marks story tag c story.course.store None there
-  of_known are knows = record {
+  of_known are knows restores = record {
     later = story;
     told = refl;
     goes_on = same_story conn story;
     is_told = subst (λ (m : List Mark). AreMarkedSo fixed.setting broken now m story) (sym (append-nil marks)) are;
     store_is = refl;
+    restores = restores;
     knows = knows;
   }
 
@@ -106,9 +138,10 @@ module _ (config : Config) (conn : ℕ) (node : List ℕ) (front : Front) (world
       → Outcome (fixed_of config) node conn world.broken world.steps world.marks story waits.tag waits.c store counts there
       → ManyHold (murder_of next master) given store
       → IsInPlaceOf (fixed_of config) next node front.replica (next_id conn (story.told conn)) there
-      → IsMarkedAt story.talk.moving (world.marks ++ made_by world.steps waits.c.id counts) (next_id conn (story.told conn)) there → IsUndropped there
+      → IsMarkedAt story.talk.moving (world.marks ++ made_by world.steps waits.c.id counts) (next_id conn (story.told conn)) there
+      → IsDroppedAt (fixed_of config).master next node there
       → ((at : At) → WaitsAt at here → WaitsAt at there) → OwnStep config conn stop heard world story next master given
-  own_step master given store counts there leaves out many placed marked undropped whom =
+  own_step master given store counts there leaves out many placed marked dropped whom =
       let later : Tale = out.later in
       let same : later.told conn ≡ story.told conn = ap (λ t. t conn) out.told in
       let its : waits.c.id.conn ≡ conn = ap (λ (i : AskId). i.conn) waits.its in
@@ -126,7 +159,8 @@ module _ (config : Config) (conn : ℕ) (node : List ℕ) (front : Front) (world
           clients = leaves.clients;
           broken = leaves.broken;
           told = same;
-          undropped = undropped;
+          dropped = dropped;
+          restores = out.restores;
           placed = subst (λ t. IsInPlaceOf (fixed_of config) next node front.replica (next_id conn t) there) (sym same) placed;
           marked = subst (λ m. IsMarkedAt m next.marks (next_id conn (later.told conn)) there) (sym out.goes_on.more.moving)
               (subst (λ t. IsMarkedAt story.talk.moving next.marks (next_id conn t) there) (sym same)

@@ -15,7 +15,7 @@ use Rattle.backend_core.specs.Plan.{answer_outs as plan_outs, back_plan, owed_ou
 use Rattle.backend_core.specs.HomeStep.{held_at}
 use Rattle.cluster_core.specs.World.{master_of, front_at, home_at, taken_from_link}
 use Rattle.cluster_core.specs.declared.world.Client.{Client}
-use Rattle.front_core.proofs.OneConnection.Places.{about, of_connection}
+use Rattle.front_core.proofs.OneConnection.Places.{about, is_over, of_connection}
 use Rattle.front_core.specs.declared.front.Front.{Front}
 use Rattle.imap_talk.specs.Heard.{Heard}
 use Rattle.imap_types.specs.declared.request.Request.TheVariants.{Command as a_command}
@@ -61,7 +61,7 @@ use Rattle.cluster_core.proofs.Commands.Knows.{Undecided, kind_of}
 use Rattle.cluster_core.proofs.Commands.Knows.Knows.{is_decided, undecided}
 use Rattle.cluster_core.proofs.Commands.Place.{Place, Place as place}
 use Rattle.cluster_core.proofs.Commands.Standing.{Fixed, WaitsAt, next_id}
-use Rattle.cluster_core.proofs.Connections.ConnectionLaw.{IsInPlaceOf, IsMarkedAt}
+use Rattle.cluster_core.proofs.Connections.ConnectionLaw.{IsDroppedAt, IsInPlaceOf, IsMarkedAt}
 use Rattle.cluster_core.proofs.Connections.KeepsLaw.{KeepsLaw, fixed_of, murder_of}
 use Rattle.cluster_core.proofs.Feeds.Many.{home_murder}
 use Rattle.cluster_core.proofs.Nodes.Carried.{given_all, given_out, is_made, marks_made}
@@ -76,8 +76,8 @@ use Rattle.cluster_core.proofs.Points.AtHome.{answer_outs, answered_at, closed_i
 use Rattle.cluster_core.proofs.Points.Found.{IsFoundIn, found_in, in_answer, in_ask, in_line, in_noop, in_ok, in_response}
 use Rattle.cluster_core.proofs.Points.ListPoint.{list_not_at_home}
 use Rattle.cluster_core.proofs.Points.ListWaits.{each_list_waits}
-use Rattle.cluster_core.proofs.Points.Own.{Leaves, Outcome, OwnStep, made_by, of_carried, of_known, of_seen, own_step}
-use Rattle.cluster_core.proofs.Points.Waits.{IsUndropped, AskedFit, BringsNothing, CommandWaits, IsOpenAt, TellsPlace, Whose, of_command, of_list}
+use Rattle.cluster_core.proofs.Points.Own.{Leaves, Outcome, OwnStep, RestoresAt, made_by, of_carried, of_known, of_seen, own_step}
+use Rattle.cluster_core.proofs.Points.Waits.{AskedFit, BringsNothing, CommandWaits, IsOpenAt, TellsPlace, Whose, of_command, of_list}
 use Rattle.cluster_core.proofs.Points.Waits.{each_command_waits, first_tells, is_open_there, waits_fit, whom_begun, whom_moved}
 
 -- ---- a backend gives clients nothing
@@ -145,10 +145,16 @@ moved_marked moving marks id name me (is_kept ask) = tt
 moved_marked moving marks id name me (is_sent mailbox flow) = tt
 
 -- no backend drops it
-pub moved_undropped : (name : List ℕ) (me : Location) (move : Move) → IsUndropped (moved_to name me move)
-moved_undropped name me (is_answered front ask body) = tt
-moved_undropped name me (is_kept ask) = tt
-moved_undropped name me (is_sent mailbox flow) = tt
+pub moved_undropped : (master : List ℕ) (world : World) (front name : List ℕ) (me : Location) (move : Move) → IsDroppedAt master world front (moved_to name me move)
+moved_undropped master world front name me (is_answered to ask body) = tt
+moved_undropped master world front name me (is_kept ask) = tt
+moved_undropped master world front name me (is_sent mailbox flow) = tt
+
+-- nor is it then at the master's OK
+pub moved_restores : (conn : ℕ) (c : ClientCommand) (later : Tale) (name : List ℕ) (me : Location) (move : Move) → RestoresAt conn c later (moved_to name me move)
+moved_restores conn c later name me (is_answered to ask body) connection was = tt
+moved_restores conn c later name me (is_kept ask) connection was = tt
+moved_restores conn c later name me (is_sent mailbox flow) connection was = tt
 
 module _ (config : Config) (heard : ℕ → Heard) (world : World) (law : KeepsLaw config heard world) (conn : ℕ)
     (fits : IsNumbered (next_id conn (law.story.told conn))) where
@@ -275,13 +281,14 @@ module _ (config : Config) (heard : ℕ → Heard) (world : World) (law : KeepsL
           (moved_to to me move)
           (leaves to node there fnode (Ask (its_ask c)) None moves.marks
           (gives_none node fnode (Ask (its_ask c)) world.clients))
-          (of_known fixed fnode conn world.broken world.steps world.marks story waits.tag c (moved_to to me move) law.is_told moves.knows)
+          (of_known fixed fnode conn world.broken world.steps world.marks story waits.tag c (moved_to to me move) law.is_told moves.knows
+          (moved_restores conn c story to me move))
           (many to node there fnode (Ask (its_ask c)) store moves.then_holds)
           (in_world_then fixed world law.master law.nodes.me to fnode node (node_takes node fnode (Ask (its_ask c))) there fnode front.replica id
           (moved_to to me move)
-          (ask_is_moved murder law.given store to node fnode front.replica id (its_ask c) kind takes its_front (name_ask_fits c kind does numbered_c)
+          (ask_is_moved murder law.given store to node fnode front.replica id (its_ask c) kind takes its_front (name_ask_fits c kind does numbered_c) waits.its
           (name_kind_is c kind does) in_ask_is).placed)
-          (moved_marked _ _ id to me move) (moved_undropped to me move)
+          (moved_marked _ _ id to me move) (moved_undropped fixed.master (then fnode to node (Ask (its_ask c))) fnode to me move)
           (whom_by (moved_to to me move) (λ a is. whom_begun to me (its_ask c) move a (named to node there) is))
 
       ask_own : OwnAtHome fnode to node (Ask (its_ask c))
@@ -322,11 +329,12 @@ module _ (config : Config) (heard : ℕ → Heard) (world : World) (law : KeepsL
           own_step config conn fnode front world story (law.stops conn) (heard conn) here waits (then law.master.me to node message) law.master law.given store None
           (moved_to to at_me move)
           (leaves to node there law.master.me message None moves.marks (gives_none node law.master.me message world.clients))
-          (of_known fixed fnode conn world.broken world.steps world.marks story waits.tag c (moved_to to at_me move) law.is_told moves.knows)
+          (of_known fixed fnode conn world.broken world.steps world.marks story waits.tag c (moved_to to at_me move) law.is_told moves.knows
+          (moved_restores conn c story to at_me move))
           (many to node there law.master.me message store moves.then_holds)
           (in_world_then fixed world law.master law.nodes.me to law.master.me node (node_takes node law.master.me message) there fnode front.replica id
           (moved_to to at_me move) ((heard_it.1).moved).placed)
-          (moved_marked _ _ id to at_me move) (moved_undropped to at_me move)
+          (moved_marked _ _ id to at_me move) (moved_undropped fixed.master (then law.master.me to node message) fnode to at_me move)
           (subst (λ p. (a : At) → WaitsAt a p → WaitsAt a (moved_to to at_me move)) (sym hears)
           (subst (λ l. (a : At) → WaitsAt a (heard_there l) → WaitsAt a (moved_to to at_me move)) (sym heard_it.0)
           (λ a is. whom_moved to at_me (name_at.hears mailbox flow it) move a (named to node there) is)))
@@ -387,13 +395,14 @@ pub record IsOwnAtHome (config : Config) (heard : ℕ → Heard) (world : World)
 abbrev pub HomeStepIsOwn : Type 0
 HomeStepIsOwn = (config : Config) (heard : ℕ → Heard) (world : World) (law : KeepsLaw config heard world) (conn : ℕ) (from to : List ℕ) (node : BackNode)
     (message : LinkMsg) (rest : List LinkMsg) → AskedFit world law.story → home_at world to ≡ Some node
-    → on_link world.links from to ≡ message ∷ rest → about message ≡ of_connection conn → IsOwnAtHome config heard world law conn from to node message
+    → on_link world.links from to ≡ message ∷ rest → about message ≡ of_connection conn → is_over (length (law.story.told conn) + 1) message ≡ false
+    → IsOwnAtHome config heard world law conn from to node message
 
 pub home_step_is_own : HomeStepIsOwn
-home_step_is_own config heard world law conn from to node message rest fit there first own = by tells.who
+home_step_is_own config heard world law conn from to node message rest fit there first own on = by tells.who
   where
     tells : TellsPlace (fixed_of config) conn world law.story (law.stops conn) (heard conn) from to message
-    tells = first_tells (fixed_of config) conn world law.story (law.stops conn) (heard conn) from to message rest first own (law.connections conn)
+    tells = first_tells (fixed_of config) conn world law.story (law.stops conn) (heard conn) from to message rest first own on (law.connections conn)
 
     fits : IsNumbered (next_id conn (law.story.told conn))
     fits = waits_fit (fixed_of config) conn tells.node tells.front tells.connection world law.story (law.stops conn) (heard conn) tells.here fit tells.at tells.who

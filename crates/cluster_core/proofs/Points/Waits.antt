@@ -1,10 +1,10 @@
--- The first message of a link tells whose command it is of, what the connection of that is at, and where the command is. Wherever it is behind the step, its
+-- The first message of a link, if it isn't left of a command that is over, tells whose command it is of, what the connection of that is at, and where the command is. Wherever it is behind the step, its
 -- connection goes on so. That of a LIST is told in ListWaits.
 use Rattle.std.proofs.Common.{◌≡◌, ℕ, ◌≢◌, ◌+◌, Bool, true, false, List, [], ◌∷◌, ◌++◌, length, None, Some, refl, sym, ◌∙◌, ap, subst}
 use Rattle.asking_core.specs.declared.waiting.At.{At}
 use Rattle.asking_core.specs.declared.waiting.At.TheVariants.{Home, Barrier as at_master}
 use Rattle.front_core.specs.Ending.{EndsOnlyLast}
-use Rattle.front_core.proofs.OneConnection.Places.{about, first_of, of_connection}
+use Rattle.front_core.proofs.OneConnection.Places.{about, first_of, is_over, none_over, of_connection}
 use Rattle.front_core.proofs.OneConnection.Readings.{inputs_in, reading_of}
 use Rattle.front_core.specs.declared.connection.Connection.{Connection}
 use Rattle.front_core.specs.declared.connection.Stage.TheVariants.{Ended}
@@ -50,7 +50,7 @@ use Rattle.cluster_core.proofs.Commands.Place.{Place, its_message, Place as plac
 use Rattle.cluster_core.proofs.Commands.Standing.{Fixed, HasBegunSo, IsLeft, LeftListing, LeftWaiting, Lists, Stands, Waiting, WaitsAt, next_id}
 use Rattle.cluster_core.proofs.Commands.Standing.IsLeft.{nothing, left_listing, left_waiting}
 use Rattle.cluster_core.proofs.Commands.Standing.Stands.{reads, waits, lists, faulted, finished}
-use Rattle.cluster_core.proofs.Connections.ConnectionLaw.{IsDroppedAt, IsInPlaceOf, IsMarkedAt, client_till, client_with}
+use Rattle.cluster_core.proofs.Connections.ConnectionLaw.{CanRestore, IsDroppedAt, IsInPlaceOf, IsMarkedAt, client_till, client_with}
 use Rattle.cluster_core.proofs.Connections.KeepsLaw.{ConnectionIs, IsAt, IsGone, IsUnanswered}
 use Rattle.cluster_core.proofs.Connections.KeepsLaw.ConnectionIs.{is_nobody, is_elsewhere, is_open, is_cut_off, is_closed}
 use Rattle.cluster_core.proofs.Points.Acts.{IsOpen, KnowsOf}
@@ -126,8 +126,8 @@ pub record TellsPlace (fixed : Fixed) (conn : ℕ) (world : World) (story : Tale
 
 abbrev pub FirstTells : Type 0
 FirstTells = (fixed : Fixed) (conn : ℕ) (world : World) (story : Tale) (stop : Stop) (heard : Heard) (from to : List ℕ) (message : LinkMsg) (rest : List LinkMsg)
-    → on_link world.links from to ≡ message ∷ rest → about message ≡ of_connection conn → ConnectionIs fixed conn world story stop heard
-    → TellsPlace fixed conn world story stop heard from to message
+    → on_link world.links from to ≡ message ∷ rest → about message ≡ of_connection conn → is_over (length (story.told conn) + 1) message ≡ false
+    → ConnectionIs fixed conn world story stop heard → TellsPlace fixed conn world story stop heard from to message
 
 not_nowhere : (it : Carried LinkMsg) → None ≡ Some it → ⊥
 not_nowhere it e = cc
@@ -160,13 +160,14 @@ module _ (fixed : Fixed) (conn : ℕ) (node : List ℕ) (connection : Connection
   waits_ended stop shut ended stage lasts given cut (left_listing waiting) = of_list (ended_lists bytes shut refl ended stage lasts given cut waiting)
 
 ended_tells : (fixed : Fixed) (conn : ℕ) (world : World) (story : Tale) (stop : Stop) (shut : Bool) (from to : List ℕ) (message : LinkMsg) (rest : List LinkMsg)
-    → on_link world.links from to ≡ message ∷ rest → about message ≡ of_connection conn → (bytes node : List ℕ) (front : Front) (connection : Connection)
+    → on_link world.links from to ≡ message ∷ rest → about message ≡ of_connection conn → is_over (length (story.told conn) + 1) message ≡ false
+    → (bytes node : List ℕ) (front : Front) (connection : Connection)
     → EndedSo (inputs_in fixed.setting bytes) (story.told conn) stop shut → IsAt world conn node front connection
     → IsGone fixed node front.replica conn (inputs_in fixed.setting bytes) stop connection world story
     → TellsPlace fixed conn world story stop (client bytes shut) from to message
-ended_tells fixed conn world story stop shut from to message rest first own bytes node front connection ended at gone =
+ended_tells fixed conn world story stop shut from to message rest first own on bytes node front connection ended at gone =
     let id : AskId = next_id conn (story.told conn) in
-    let tells = first_of world.links from to message rest (of_connection conn) (its_message fixed.master node id gone.here) first own
+    let tells = first_of id.command world.links from to message rest (of_connection conn) (its_message fixed.master node id gone.here) first own on
     gone.placed.message in
     record {
       node = node;
@@ -183,13 +184,13 @@ ended_tells fixed conn world story stop shut from to message rest first own byte
     }
 
 pub first_tells : FirstTells
-first_tells fixed conn world story _ _ from to message rest first own (is_nobody none fronts untold) =
-    absurd (not_nowhere _ (first_of world.links from to message rest (of_connection conn) None first own untold.nothing.message).0)
-first_tells fixed conn world story _ _ from to message rest first own (is_elsewhere node given at none untold) =
-    absurd (not_nowhere _ (first_of world.links from to message rest (of_connection conn) None first own untold.nothing.message).0)
-first_tells fixed conn world story _ _ from to message rest first own (is_open bytes node front connection at reader standing) =
+first_tells fixed conn world story _ _ from to message rest first own on (is_nobody none fronts untold) =
+    absurd (not_nowhere _ (first_of 0 world.links from to message rest (of_connection conn) None first own (none_over message) untold.nothing.message).0)
+first_tells fixed conn world story _ _ from to message rest first own on (is_elsewhere node given at none untold) =
+    absurd (not_nowhere _ (first_of 0 world.links from to message rest (of_connection conn) None first own (none_over message) untold.nothing.message).0)
+first_tells fixed conn world story _ _ from to message rest first own on (is_open bytes node front connection at reader standing) =
     let id : AskId = next_id conn (story.told conn) in
-    let tells = first_of world.links from to message rest (of_connection conn) (its_message fixed.master node id standing.here) first own
+    let tells = first_of id.command world.links from to message rest (of_connection conn) (its_message fixed.master node id standing.here) first own on
     standing.placed.message in
     record {
       node = node;
@@ -203,17 +204,12 @@ first_tells fixed conn world story _ _ from to message rest first own (is_open b
       marked = standing.marked;
       who = waits_open fixed conn node connection world story bytes standing.here (found_somewhere fixed.master node id standing.here _ tells.0) reader standing.client standing.stands;
     }
-first_tells fixed conn world story _ _ from to message rest first own (is_cut_off bytes node front connection at gone unanswered) =
-    ended_tells fixed conn world story is_lost false from to message rest first own bytes node front connection (cut_so unanswered) at gone
-first_tells fixed conn world story _ _ from to message rest first own (is_closed stop bytes node front connection at gone) =
-    ended_tells fixed conn world story stop true from to message rest first own bytes node front connection (closed_so stop) at gone
+first_tells fixed conn world story _ _ from to message rest first own on (is_cut_off bytes node front connection at gone unanswered) =
+    ended_tells fixed conn world story is_lost false from to message rest first own on bytes node front connection (cut_so unanswered) at gone
+first_tells fixed conn world story _ _ from to message rest first own on (is_closed stop bytes node front connection at gone) =
+    ended_tells fixed conn world story stop true from to message rest first own on bytes node front connection (closed_so stop) at gone
 
 -- ---- the command that waits
-
--- a place that isn't that of a command that is dropped
-abbrev pub IsUndropped : Place → Type 0
-IsUndropped (place.is_dropped server) = ⊥
-IsUndropped here = Unit {0}
 
 -- so it is behind a step: in this place, and its frontend waits for the same node
 pub record IsThen (fixed : Fixed) (conn : ℕ) (node : List ℕ) (front : Front) (world : World) (story : Tale) (tag : Tag) (c : ClientCommand) (here : Place)
@@ -224,7 +220,8 @@ pub record IsThen (fixed : Fixed) (conn : ℕ) (node : List ℕ) (front : Front)
   pub told : later.told conn ≡ story.told conn
   pub placed : IsInPlaceOf fixed next node front.replica (next_id conn (later.told conn)) there
   pub marked : IsMarkedAt later.talk.moving next.marks (next_id conn (later.told conn)) there
-  pub undropped : IsUndropped there
+  pub dropped : IsDroppedAt fixed.master next node there
+  pub restores : (connection : Connection) → connection.session ≡ c.was → CanRestore later conn connection there
   pub whom : (at : At) → WaitsAt at here → WaitsAt at there
   pub knows : KnowsOf fixed node conn tag c later there
 
@@ -260,15 +257,6 @@ pub client_then : (fixed : Fixed) (conn : ℕ) (node : List ℕ) (world next : W
     → client_at next conn ≡ Some (client_till stop node inputs now)
 client_then fixed conn node world next inputs stop was now same told is = same ∙ is ∙ ap (λ t. Some (client_till stop node inputs t)) (sym told)
 
--- a command that waits in such a place isn't dropped
-pub none_dropped : (world : World) (node : List ℕ) (here : Place) → IsUndropped here → IsDroppedAt world node here
-none_dropped world node place.nowhere is = tt
-none_dropped world node (place.is_asked server ask) is = tt
-none_dropped world node (place.is_answered server answer) is = tt
-none_dropped world node (place.is_dropped server) is = absurd is
-none_dropped world node (place.is_at me name) is = tt
-none_dropped world node (place.is_barred at) is = tt
-
 pub each_command_waits : EachCommandWaits
 unfolding frames_heard
 each_command_waits fixed conn node front connection world story stop heard here at count (open_waits bytes silent_is e reader given waiting) =
@@ -289,7 +277,8 @@ each_command_waits fixed conn node front connection world story stop heard here 
             here = there;
             placed = then.placed;
             marked = then.marked;
-            dropped = none_dropped next node there then.undropped;
+            dropped = then.dropped;
+            restores = then.restores connection (sym waiting.of.was_is);
             stands = waits (record {
               passed = waiting.passed;
               request = waiting.request;

@@ -301,5 +301,5 @@ module _ (config : Config) (are : AreNodes config.nodes) where
         broken = empty.broken;
         marks = empty.marks;
         steps = empty.steps;
-        placed = λ conn. subst (λ l. IsPlaced (of_connection conn) l None) (sym empty.links) (no_place (of_connection conn));
+        placed = λ conn. subst (λ l. IsPlaced 0 (of_connection conn) l None) (sym empty.links) (no_place 0 (of_connection conn));
       })

@@ -70,7 +70,7 @@ pub record IsQuiet (world : World) : Type 0 where
   pub broken : world.broken ≡ []
   pub marks : world.marks ≡ []
   pub steps : world.steps ≡ 0
-  pub placed : (conn : ℕ) → IsPlaced (of_connection conn) world.links None
+  pub placed : (conn : ℕ) → IsPlaced 0 (of_connection conn) world.links None
 
 gives_none : (clients : List (ℕ × Client)) (outs : List Out) → AreNobodys outs → given_all clients outs ≡ clients
 unfolding given_all given_out
@@ -89,13 +89,13 @@ marks_none step (Close conn ∷ outs) are = absurd are.0
 marks_none step (mark ask counts ∷ outs) are = absurd are.0
 marks_none step (tell ask how ∷ outs) are = absurd are.0
 
-places_none : (conn : ℕ) (node : List ℕ) (links : Links LinkMsg) (outs : List Out) → AreNobodys outs → IsPlaced (of_connection conn) links None
-    → IsPlaced (of_connection conn) (put_all node links outs) None
+places_none : (conn : ℕ) (node : List ℕ) (links : Links LinkMsg) (outs : List Out) → AreNobodys outs → IsPlaced 0 (of_connection conn) links None
+    → IsPlaced 0 (of_connection conn) (put_all node links outs) None
 unfolding put_all put_out
 places_none conn node links [] are placed = placed
 places_none conn node links (to_node other message ∷ outs) are placed =
     places_none conn node (put_out node links (to_node other message)) outs are.1
-    (others_sent links node other message (of_connection conn) (λ e. nobody_whom conn (sym are.0 ∙ e)) None placed)
+    (others_sent links node other message (of_connection conn) (λ e. nobody_whom conn (sym are.0 ∙ e)) 0 None placed)
 places_none conn node links (to_client c bytes ∷ outs) are placed = absurd are.0
 places_none conn node links (Close c ∷ outs) are placed = absurd are.0
 places_none conn node links (mark ask counts ∷ outs) are placed = absurd are.0
@@ -109,7 +109,7 @@ made_quiet world node it outs are quiet =
       broken = is.broken ∙ quiet.broken;
       marks = is.marks ∙ ap (λ m. world.marks ++ m) (marks_none world.steps outs are) ∙ append-nil world.marks ∙ quiet.marks;
       steps = is.steps ∙ quiet.steps;
-      placed = λ conn. subst (λ l. IsPlaced (of_connection conn) l None) (sym is.links) (places_none conn node world.links outs are (quiet.placed conn));
+      placed = λ conn. subst (λ l. IsPlaced 0 (of_connection conn) l None) (sym is.links) (places_none conn node world.links outs are (quiet.placed conn));
     }
 
 told_quiet : (world : World) (link : Link) (found : Option NodeState) → node_at world link.to ≡ found → IsQuiet world → IsQuiet (told_up world link)
@@ -124,6 +124,6 @@ unfolding with_ups
 ups_quiet world [] quiet = quiet
 ups_quiet world (link ∷ links) quiet = ups_quiet (told_up world link) links (told_quiet world link (node_at world link.to) refl quiet)
 
-pub no_place : (whom : About) → IsPlaced whom [] None
+pub no_place : (first : ℕ) (whom : About) → IsPlaced first whom [] None
 unfolding on_link
-no_place whom a b = refl
+no_place first whom a b = refl

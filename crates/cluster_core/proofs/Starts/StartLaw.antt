@@ -19,12 +19,15 @@ use Rattle.feed_links.specs.Spelled.{CanBeTold}
 use Rattle.feed_links.proofs.Names.{same_name}
 use Rattle.front_core.specs.declared.front.Front.{Front}
 use Rattle.front_core.specs.Front.{connection_at, new_front}
+use Rattle.front_core.specs.Ups.{is_up}
 use Rattle.imap_talk.specs.Heard.{nobody, frames_heard}
 use Rattle.imap_talk.specs.Inputs.{inputs_of, requests_in}
 use Rattle.imap_talk.proofs.RequestsOf.{requests_of}
 use Rattle.imap_talk.specs.Transcript.Stop.{silent}
 use Rattle.link_msg.specs.declared.message.LinkMsg.TheVariants.{Line}
+use Rattle.link_queue.specs.Broken.{Broken, is_broken}
 use Rattle.link_queue.specs.Links.{on_link}
+use Rattle.link_queue.proofs.BrokenLaws.{none_broken}
 use Rattle.many_links.specs.ManyHold.{ManyHold}
 use Rattle.many_links.specs.Start.{HasBegun, told_up}
 use Rattle.many_links.proofs.BegunLaw.{many_begin}
@@ -261,8 +264,10 @@ module _ (config : Config) (are : AreNodes config.nodes) where
       let down : on_link world.links me name ≡ [] = (master_starts config are).sent name in
       let empty : front.replica ≡ empty_replica = ap (λ (f : Front). f.replica) first.is in
       record {
-        fed = has_asked [] [] (first.sent me ∙ append-nil _ ∙ asks_by (pointwise nat_eq me me) (same_name me)) tt tt (subst AreNoNews (sym down) tt) empty (no_stream name);
-        lines = subst AreLines (sym down) tt;
+        fed = has_asked (ap (λ (b : Broken). is_broken b me name) (start_quiet config are).broken ∙ none_broken me name)
+            (ap (λ (f : Front). is_up f.ups me) first.is ∙ first.linked.to_master) [] []
+            (first.sent me ∙ append-nil _ ∙ asks_by (pointwise nat_eq me me) (same_name me)) tt tt (subst AreLines (sym down) tt)
+            (subst AreNoNews (sym down) tt) empty (no_stream name);
         knows = record {
           has = subst (λ r. NamesBackends (home_at world) r.records) (sym empty) (λ n s e. cc);
           each = subst (λ r. AreAtBackends (home_at world) r.records) (sym empty) tt;

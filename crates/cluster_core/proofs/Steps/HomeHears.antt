@@ -1,12 +1,12 @@
 -- A backend takes a line of the master: each command that it isn't about stays where it is, or waited for the end of a resync and is tested.
-use Rattle.std.proofs.Common.{◌≡◌, ◌≢◌, ℕ, Bool, true, false, cond, nat_eq, List, ◌∷◌, Option, None, Some, refl, sym, ap, subst, ◌∙◌}
+use Rattle.std.proofs.Common.{◌≡◌, ◌≢◌, ℕ, Bool, true, false, cond, nat_eq, List, ◌∷◌, Option, None, Some, refl, sym, ap, subst, arith, ◌∙◌}
 use Rattle.std.specs.Cmp.Lexicographic.{pointwise, same_text}
 use Rattle.back_links.specs.OneTalk.{HasTalk}
 use Rattle.back_node.specs.declared.node.BackNode.{BackNode}
 use Rattle.back_node.specs.Acted.{BackActed}
 use Rattle.back_node.specs.Takes.{node_takes}
 use Rattle.feed_core.specs.declared.replica.Replica.{Replica}
-use Rattle.front_core.proofs.OneConnection.Places.{about, of_connection, others_taken}
+use Rattle.front_core.proofs.OneConnection.Places.{about, is_about, left_taken, of_connection, own_about}
 use Rattle.link_msg.specs.declared.answer.AnswerBody.{AnswerBody}
 use Rattle.link_msg.specs.declared.message.LinkMsg.{LinkMsg}
 use Rattle.link_queue.specs.Links.{on_link}
@@ -25,11 +25,12 @@ use Rattle.name_flows.specs.Asked.{refusal}
 use Rattle.name_links.specs.Serials.{Given}
 use Rattle.cluster_core.proofs.Commands.InPlace.{IsThere}
 use Rattle.cluster_core.proofs.Commands.Place.{Place, at_backend, Place as place}
+use Rattle.cluster_core.proofs.Steps.Heads.{line_down_on}
 use Rattle.cluster_core.proofs.Steps.HomeNamed.{stays_with_master}
 use Rattle.cluster_core.proofs.Steps.HomeSteps.{HomeTakes, IsMovedThen, NoneThen, OtherLinesStayNone, OtherLinesStayOrTest, StaysOrIsTested, is_tested, stays}
 use Rattle.cluster_core.proofs.Steps.Murders.{its_me, IsFront, IsIn, IsNowhere, at_other}
 use Rattle.cluster_core.proofs.Steps.Outs.{not_about_it}
-use Rattle.cluster_core.proofs.Steps.HomeMoves.{TellsFront, talk, moves_to, left_so, left_none}
+use Rattle.cluster_core.proofs.Steps.HomeMoves.{SendsFrom, TellsFront, talk, moves_to, left_so, left_none}
 
 -- ---- a message of the master
 
@@ -96,21 +97,31 @@ waits_at name (place.is_barred b) ask e = cc
 
 module _ (murder : Murder) (given : Given) (store : Store) (name : List ℕ) (node : BackNode) (message : LinkMsg)
     (takes : HomeTakes murder given store name node murder.master.me message) (front : List ℕ) (replica : Replica) (id : AskId) (is_front : IsFront murder front)
-    (other : about message ≢ of_connection id.conn) where
-  tested_at : (ask : NameAsk) (it : Move) → TellsFront front it → IsIn murder front replica id (place.is_at node.flows.me (name_at.waits ask))
+    (other : is_about id.command (of_connection id.conn) message ≡ false) where
+  -- of the master nothing comes that is left of an earlier command
+  not_its_own : (here : Place) → IsIn murder front replica id here → about message ≢ of_connection id.conn
+  not_its_own here is own =
+      let on = line_down_on murder front replica id here name node takes.there message own is takes.first in
+      let no : true ≡ false = sym (own_about id.command (of_connection id.conn) message own on) ∙ other in cc
+
+  tested_at : (ask : NameAsk) (it : Move) → TellsFront front it → SendsFrom id.command it → IsIn murder front replica id (place.is_at node.flows.me (name_at.waits ask))
       → MovesCommand (is_of_connection id.conn) murder.master.me node (node_takes node murder.master.me message) (on_link murder.links name murder.master.me)
       takes.first.rest it
       → IsMovedThen murder name murder.master.me node (node_takes node murder.master.me message) front replica id it
-  tested_at ask it tells is moved =
+  tested_at ask it tells from_it is moved =
       moves_to murder given store name node murder.master.me message takes front replica id (place.is_at node.flows.me (name_at.waits ask)) is_front is
       (master_me murder given store name node message takes)
-      (others_taken murder.links murder.master.me name message takes.first.rest (of_connection id.conn) takes.first.first other None is.message)
+      (left_taken id.command murder.links murder.master.me name message takes.first.rest (of_connection id.conn) None takes.first.first other is.message)
       (λ q ne. at_other node.flows.me name q (name_at.waits ask) (talk murder given store name node murder.master.me message takes).each.named ne)
-      refl it tells (moves_so murder given store name node message takes id.conn it moved)
+      refl it tells from_it (moves_so murder given store name node message takes id.conn it moved)
 
   tested_front : (ask : NameAsk) (body : Option AnswerBody) → ask.front ≡ front → TellsFront front (tested_move ask body)
   tested_front ask (Some body) e = e
   tested_front ask None e = tt
+
+  tested_from : (ask : NameAsk) (body : Option AnswerBody) → ask.id ≡ id → SendsFrom id.command (tested_move ask body)
+  tested_from ask (Some body) e = tt
+  tested_from ask None e = omega (arith, ap (λ (i : AskId). i.command) e)
 
   stays_or : (here : Place) → IsIn murder front replica id here
       → LeavesOrTests (is_of_connection id.conn) murder.master.me node message (on_link murder.links name murder.master.me) takes.first.rest (at_backend name here)
@@ -123,14 +134,15 @@ module _ (murder : Murder) (given : Given) (store : Store) (name : List ℕ) (no
       let its = its_me murder name node takes.there waits.me (name_at.waits ask) waits.server (subst (λ (h : Place). IsThere murder.nodes h) waits.here_is is.there) in
       let here_is : here ≡ place.is_at node.flows.me (name_at.waits ask) = waits.here_is ∙ ap (λ m. place.is_at m (name_at.waits ask)) its in
       is_tested ask flows here_is over up master
-      (λ front_is. tested_at ask (tested_move ask (refusal flows node.home.held ask.name ask.kind))
-      (tested_front ask (refusal flows node.home.held ask.name ask.kind) front_is)
+      (λ front_is own_is. tested_at ask (tested_move ask (refusal flows node.home.held ask.name ask.kind))
+      (tested_front ask (refusal flows node.home.held ask.name ask.kind) front_is) (tested_from ask (refusal flows node.home.held ask.name ask.kind) own_is)
       (subst (λ (h : Place). IsIn murder front replica id h) here_is is) moved)
 
 pub other_lines_stay_or_test : OtherLinesStayOrTest
 other_lines_stay_or_test murder given store name node message front replica id here takes tells is_front other is =
     stays_or murder given store name node message takes front replica id is_front other here is
-    (other_line murder given store name node message takes id.conn (at_backend name here) tells other (is.shows name node takes.there))
+    (other_line murder given store name node message takes id.conn (at_backend name here) tells
+    (not_its_own murder given store name node message takes front replica id is_front other here is) (is.shows name node takes.there))
 
 none_left : (murder : Murder) (given : Given) (store : Store) (name : List ℕ) (node : BackNode) (message : LinkMsg) (conn : ℕ)
     → (takes : HomeTakes murder given store name node murder.master.me message) → about message ≢ of_connection conn → IsNowhere murder conn

@@ -1,12 +1,12 @@
 -- A backend takes the ask of a command, or the response to the line of its flow: where the command is then.
-use Rattle.std.proofs.Common.{◌≡◌, ℕ, Bool, true, cond, List, [], ◌∷◌, ◌++◌, filter, Option, None, Some, refl, sym, ap, subst, ◌∙◌}
+use Rattle.std.proofs.Common.{◌≡◌, ℕ, ◌≤◌, true, false, List, [], ◌∷◌, ◌++◌, filter, Option, None, Some, refl, sym, ap, subst, ◌∙◌, arith}
 use Rattle.back_links.specs.BackEvents.{IsFitting}
 use Rattle.back_node.specs.declared.node.BackNode.{BackNode}
 use Rattle.back_node.specs.Acted.{BackActed}
 use Rattle.back_node.specs.Takes.{name_ask, name_kind, node_takes}
 use Rattle.feed_core.specs.declared.replica.Replica.{Replica}
 use Rattle.feed_links.specs.Lines.{messages_to}
-use Rattle.front_core.proofs.OneConnection.Places.{IsPlaced, about, is_about, of_connection}
+use Rattle.front_core.proofs.OneConnection.Places.{IsPlaced, about, about_of, answer_on, ask_on, is_over, of_connection, on_of}
 use Rattle.link_msg.specs.declared.answer.AnswerBody.{AnswerBody}
 use Rattle.link_msg.specs.declared.answer.BackAnswer.{BackAnswer}
 use Rattle.link_msg.specs.declared.ask.FrontAsk.{FrontAsk}
@@ -16,7 +16,6 @@ use Rattle.link_msg.specs.declared.message.LinkMsg.TheVariants.{Ask, Answer}
 use Rattle.link_msg.specs.declared.out.Out.{Out}
 use Rattle.link_msg.specs.declared.out.Out.TheVariants.{Link, Mark}
 use Rattle.link_queue.specs.Links.{Links, on_link}
-use Rattle.link_queue.proofs.Wires.{same_itself}
 use Rattle.many_links.specs.Murder.{Murder, put_all, put_out, taken}
 use Rattle.many_links.proofs.NodesLaw.{node_own}
 use Rattle.mupdate_codec.specs.declared.command.MResponse.{MResponse}
@@ -26,7 +25,7 @@ use Rattle.mur_base.specs.declared.point.AskId.{AskId}
 use Rattle.mur_model.specs.declared.store.Store.{Store}
 use Rattle.name_commands.specs.BackSteps.{IsHeard}
 use Rattle.name_commands.specs.Moves.{Move, MovesCommand, asked_move, asked_move_by, ends, heard_move, heard_move_by, reserved_move, tested_move, Move as move}
-use Rattle.name_commands.specs.Places.{TalkShows, NamePlace as name_at}
+use Rattle.name_commands.specs.Places.{TalkShows, answer_message, NamePlace as name_at}
 use Rattle.name_commands.specs.Whose.{Whose, is_of_connection, is_own_out}
 use Rattle.name_commands.proofs.AnswerSteps.{answer_moves}
 use Rattle.name_commands.proofs.AskSteps.{ask_moves, messages_leave}
@@ -40,23 +39,23 @@ use Rattle.name_flows.specs.declared.resync.Resync.{Resync}
 use Rattle.name_flows.specs.Asked.{refusal}
 use Rattle.name_links.specs.Serials.{Given}
 use Rattle.cluster_core.proofs.Commands.Place.{Place, Place as place}
-use Rattle.cluster_core.proofs.Steps.Heads.{its_first}
+use Rattle.cluster_core.proofs.Places.FrontHears.{found_about}
+use Rattle.cluster_core.proofs.Steps.Heads.{its_first, line_down_on}
 use Rattle.cluster_core.proofs.Steps.HomeHears.{hearing, master_me, moves_so}
 use Rattle.cluster_core.proofs.Steps.HomeLinks.{IsInThen}
-use Rattle.cluster_core.proofs.Steps.HomeMoves.{TellsFront, goes_to, moves_to, talk}
+use Rattle.cluster_core.proofs.Steps.HomeMoves.{SendsFrom, TellsFront, goes_to, moves_to, talk}
 use Rattle.cluster_core.proofs.Steps.HomeOthers.{as_before, others_me}
 use Rattle.cluster_core.proofs.Steps.HomeSteps.{AskIsAnswered, AskIsMoved, HasHeard, HomeTakes, IsMovedThen, ResponseIsHeard}
 use Rattle.cluster_core.proofs.Steps.Murders.{its_me, IsFront, IsIn, at_other, at_own}
-use Rattle.cluster_core.proofs.Steps.Outs.{about_it, about_same, first_left, own_it, puts_one}
+use Rattle.cluster_core.proofs.Steps.Narrow.{answer_from}
+use Rattle.cluster_core.proofs.Steps.Outs.{own_it, puts_one}
 
 -- ---- what is on its way is about the connection
 
-pub on_its_way : (conn : ℕ) (links : Links LinkMsg) (from to : List ℕ) (message : LinkMsg)
-    → IsPlaced (of_connection conn) links (Some (record { from = from; to = to; message = message })) → about message ≡ of_connection conn
-on_its_way conn links from to message placed =
-    let one : filter (is_about (of_connection conn)) (on_link links from to) ≡ message ∷ [] =
-    placed from to ∙ ap (λ (b : Bool). cond b (message ∷ []) []) (same_itself from to) in
-    about_it conn message (sym (about_same conn message) ∙ first_left (is_about (of_connection conn)) (on_link links from to) message [] one)
+pub on_its_way : (first conn : ℕ) (links : Links LinkMsg) (from to : List ℕ) (message : LinkMsg)
+    → IsPlaced first (of_connection conn) links (Some (record { from = from; to = to; message = message })) → about message ≡ of_connection conn
+on_its_way first conn links from to message placed =
+    about_of first (of_connection conn) message (found_about first links from to message (of_connection conn) placed)
 
 -- ---- its ask
 
@@ -76,13 +75,14 @@ module _ (murder : Murder) (given : Given) (store : Store) (name : List ℕ) (no
   whose = is_of_connection id.conn
 
   ask_about : about (Ask ask) ≡ of_connection id.conn
-  ask_about = on_its_way id.conn murder.links front name (Ask ask) is.message
+  ask_about = on_its_way id.command id.conn murder.links front name (Ask ask) is.message
 
   ask_own : whose ask.id ≡ true
   ask_own = own_it id.conn (Ask ask) ask_about
 
-  none_left : IsPlaced (of_connection id.conn) left None
-  none_left = (its_first murder front replica id (place.is_asked name ask) front name (Ask ask) takes.first ask_about is).1
+  none_left : IsPlaced id.command (of_connection id.conn) left None
+  none_left = (its_first murder front replica id (place.is_asked name ask) front name (Ask ask) takes.first ask_about (ask_on id.command ask)
+      is).1
 
   stays_me : next.state.flows.me ≡ node.flows.me
   stays_me = others_me murder given store name node front (Ask ask) takes is_front.no_master
@@ -111,11 +111,12 @@ module _ (murder : Murder) (given : Given) (store : Store) (name : List ℕ) (no
     is_answered_then =
         goes_to murder given store name node front (Ask ask) takes front replica id (place.is_asked name ask) is_front is stays_me (place.is_answered name answer)
         (λ q ne. refl) refl
-        (puts_one id.conn name left next.outs front (Answer answer) (Mark ask.id counts ∷ []) outs_own refl none_left)
+        (puts_one id.conn name left next.outs id.command front (Answer answer) (Mark ask.id counts ∷ []) outs_own refl (answer_on id.command answer)
+        none_left)
         shown_then (next.state, node_own murder.nodes name next.state)
 
   -- for a name
-  module _ (kind : AskKind) (named : name_kind ask.op ≡ Some kind) (fits : IsFitting (Ask ask)) where
+  module _ (kind : AskKind) (named : name_kind ask.op ≡ Some kind) (fits : IsFitting (Ask ask)) (its_own : ask.id ≡ id) where
     abbrev its_ask : NameAsk
     its_ask = name_ask front ask kind
 
@@ -134,18 +135,26 @@ module _ (murder : Murder) (given : Given) (store : Store) (name : List ℕ) (no
     asked_front None = tested_front (refusal node.flows node.home.held its_ask.name its_ask.kind)
     asked_front (Some it) = tt
 
+    tested_from : (body : Option AnswerBody) → SendsFrom id.command (tested_move its_ask body)
+    tested_from (Some body) = tt
+    tested_from None = omega (arith, ap (λ (i : AskId). i.command) its_own)
+
+    asked_from : (resync : Option Resync) → SendsFrom id.command (asked_move_by node.flows node.home.held its_ask resync)
+    asked_from None = tested_from (refusal node.flows node.home.held its_ask.name its_ask.kind)
+    asked_from (Some it) = tt
+
     pub is_moved_then : IsMovedThen murder name front node next front replica id (asked_move node.flows node.home.held its_ask)
     is_moved_then =
         moves_to murder given store name node front (Ask ask) takes front replica id (place.is_asked name ask) is_front is stays_me none_left (λ q ne. refl) refl
-        (asked_move node.flows node.home.held its_ask) (asked_front node.flows.resync) moved_so
+        (asked_move node.flows node.home.held its_ask) (asked_front node.flows.resync) (asked_from node.flows.resync) moved_so
 
 pub ask_is_answered : AskIsAnswered
 ask_is_answered murder given store name node front replica id ask answer counts takes is_front none same step is =
     is_answered_then murder given store name node front replica id ask takes is_front is none answer counts same step
 
 pub ask_is_moved : AskIsMoved
-ask_is_moved murder given store name node front replica id ask kind takes is_front fits named is =
-    is_moved_then murder given store name node front replica id ask takes is_front is kind named fits
+ask_is_moved murder given store name node front replica id ask kind takes is_front fits its_own named is =
+    is_moved_then murder given store name node front replica id ask takes is_front is kind named fits its_own
 
 -- ---- the response to its line
 
@@ -192,6 +201,11 @@ module _ (mailbox : List ℕ) (flow : Flow) (Is : Move → Type 0) (ended : (bod
 pub heard_front : (mailbox : List ℕ) (flow : Flow) (it : MResponse) (to : Move) → heard_move mailbox flow it ≡ Some to → TellsFront flow.front to
 heard_front mailbox flow it to e = heard_is mailbox flow (TellsFront flow.front) (λ body. refl) tt tt it to e
 
+-- and its next line is of the same command
+heard_from : (first : ℕ) (mailbox : List ℕ) (flow : Flow) (it : MResponse) (to : Move) → heard_move mailbox flow it ≡ Some to → first ≤ (flow.ask).command
+    → SendsFrom first to
+heard_from first mailbox flow it to e le = heard_is mailbox flow (SendsFrom first) (λ body. tt) le le it to e
+
 module _ (murder : Murder) (given : Given) (store : Store) (name : List ℕ) (node : BackNode) (message : LinkMsg) (front : List ℕ) (replica : Replica)
     (id : AskId) (at : Location) (mailbox : List ℕ) (flow : Flow) (it : MResponse) (takes : HomeTakes murder given store name node murder.master.me message)
     (is_front : IsFront murder front) (own : about message ≡ of_connection id.conn) (server : at.server ≡ name) (front_is : flow.front ≡ front)
@@ -215,15 +229,25 @@ module _ (murder : Murder) (given : Given) (store : Store) (name : List ℕ) (no
       answer_moves its murder.master name node (on_link murder.links name murder.master.me) takes.first.rest given message mailbox flow it
       (hearing murder given store name node message takes) (own_it id.conn message own) shown
 
+  is_on : is_over id.command message ≡ false
+  is_on = line_down_on murder front replica id here name node takes.there message own is takes.first
+
+  -- the response is that of the place, which isn't over
+  from_on : id.command ≤ (flow.ask).command
+  from_on = answer_from id.command flow it shown.at.numbered
+      (on_of id.command (of_connection id.conn) (answer_message flow it)
+      (found_about id.command murder.links murder.master.me at.server (answer_message flow it) (of_connection id.conn) is.message))
+
   has_heard : HasHeard murder name node (node_takes node murder.master.me message) front replica id mailbox flow it
   has_heard = record {
     move_is = heard.move;
     is = heard.is;
     moved = moves_to murder given store name node murder.master.me message takes front replica id here is_front is
         (master_me murder given store name node message takes)
-        (its_first murder front replica id here murder.master.me name message takes.first own is).1
+        (its_first murder front replica id here murder.master.me name message takes.first own is_on is).1
         (λ q ne. at_other at name q (name_at.hears mailbox flow it) server ne) refl heard.move
         (subst (λ f. TellsFront f heard.move) front_is (heard_front mailbox flow it heard.move heard.is))
+        (heard_from id.command mailbox flow it heard.move heard.is from_on)
         (moves_so murder given store name node message takes id.conn heard.move heard.moved);
   }
 

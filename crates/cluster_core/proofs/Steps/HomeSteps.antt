@@ -1,11 +1,11 @@
 -- What a step of a backend makes of the place of a command: of the one that it is about, and of each other.
-use Rattle.std.specs.Prelude.{◌≡◌, ◌≢◌, ℕ, List, [], ◌∷◌, filter, None, Some}
+use Rattle.std.specs.Prelude.{◌≡◌, ◌≢◌, ℕ, false, List, [], ◌∷◌, filter, None, Some}
 use Rattle.back_links.specs.BackEvents.{IsFitting}
 use Rattle.back_node.specs.declared.node.BackNode.{BackNode}
 use Rattle.back_node.specs.Acted.{BackActed}
 use Rattle.back_node.specs.Takes.{name_ask, name_kind, node_takes}
 use Rattle.feed_core.specs.declared.replica.Replica.{Replica}
-use Rattle.front_core.proofs.OneConnection.Places.{about, of_connection}
+use Rattle.front_core.proofs.OneConnection.Places.{about, is_about, of_connection}
 use Rattle.link_msg.specs.declared.answer.BackAnswer.{BackAnswer}
 use Rattle.link_msg.specs.declared.ask.FrontAsk.{FrontAsk}
 use Rattle.link_msg.specs.declared.counts.Counts.{Counts}
@@ -75,7 +75,7 @@ AskIsAnswered = (murder : Murder) (given : Given) (store : Store) (name : List �
 abbrev pub AskIsMoved : Type 0
 AskIsMoved = (murder : Murder) (given : Given) (store : Store) (name : List ℕ) (node : BackNode) (front : List ℕ) (replica : Replica) (id : AskId)
     (ask : FrontAsk) (kind : AskKind) → HomeTakes murder given store name node front (Ask ask) → IsFront murder front → IsFitting (Ask ask)
-    → name_kind ask.op ≡ Some kind → IsIn murder front replica id (place.is_asked name ask)
+    → ask.id ≡ id → name_kind ask.op ≡ Some kind → IsIn murder front replica id (place.is_asked name ask)
     → IsMovedThen murder name front node (node_takes node front (Ask ask)) front replica id
     (asked_move node.flows node.home.held (name_ask front ask kind))
 
@@ -100,7 +100,7 @@ ResponseIsHeard = (murder : Murder) (given : Given) (store : Store) (name : List
 abbrev pub OthersStay : Type 0
 OthersStay = (murder : Murder) (given : Given) (store : Store) (name : List ℕ) (node : BackNode) (from : List ℕ) (message : LinkMsg) (front : List ℕ)
     (replica : Replica) (id : AskId) (here : Place) → HomeTakes murder given store name node from message → from ≢ murder.master.me → IsFitting message
-    → IsFront murder front → about message ≢ of_connection id.conn → IsIn murder front replica id here
+    → IsFront murder front → is_about id.command (of_connection id.conn) message ≡ false → IsIn murder front replica id here
     → StaysThen murder name from (node_takes node from message) front replica id here
 
 abbrev pub OthersStayNone : Type 0
@@ -114,14 +114,14 @@ pub data StaysOrIsTested (murder : Murder) (name : List ℕ) (node : BackNode) (
   stays : StaysThen murder name murder.master.me next front replica id here → StaysOrIsTested murder name node next front replica id here
   is_tested : (ask : NameAsk) (flows : Flows) → here ≡ place.is_at node.flows.me (name_at.waits ask) → next.state.flows.resync ≡ None
       → flows.up ≡ node.flows.up → flows.master ≡ node.flows.master
-      → (ask.front ≡ front
+      → (ask.front ≡ front → ask.id ≡ id
       → IsMovedThen murder name murder.master.me node next front replica id (tested_move ask (refusal flows node.home.held ask.name ask.kind)))
       → StaysOrIsTested murder name node next front replica id here
 
 abbrev pub OtherLinesStayOrTest : Type 0
 OtherLinesStayOrTest = (murder : Murder) (given : Given) (store : Store) (name : List ℕ) (node : BackNode) (message : LinkMsg) (front : List ℕ)
     (replica : Replica) (id : AskId) (here : Place) → HomeTakes murder given store name node murder.master.me message → FlowsTell node.flows
-    → IsFront murder front → about message ≢ of_connection id.conn → IsIn murder front replica id here
+    → IsFront murder front → is_about id.command (of_connection id.conn) message ≡ false → IsIn murder front replica id here
     → StaysOrIsTested murder name node (node_takes node murder.master.me message) front replica id here
 
 abbrev pub OtherLinesStayNone : Type 0

@@ -1,7 +1,8 @@
 -- Of all commands of a connection just one is in its place; so each command of it is there, or nowhere.
-use Rattle.std.proofs.Common.{◌≡◌, ℕ, Bool, true, false, cond, nat_eq, List, [], ◌∷◌, filter, Option, None, Some, refl, sym, ap, subst, ◌∙◌}
+use Rattle.std.proofs.Common.{◌≡◌, ℕ, ◌≤◌, Bool, true, false, cond, nat_eq, List, [], ◌∷◌, filter, Option, None, Some, refl, sym, ap, subst, ◌∙◌}
 use Rattle.std.specs.Ordering.{nat_cmp, is_eq}
 use Rattle.std.specs.Cmp.Lexicographic.{slice_cmp}
+use Rattle.front_core.proofs.OneConnection.Places.{is_over, line_from, line_on}
 use Rattle.grammar.proofs.Conditions.{and_left}
 use Rattle.link_msg.specs.declared.message.LinkMsg.{LinkMsg}
 use Rattle.mupdate_codec.specs.declared.command.MResponse.{MResponse}
@@ -171,6 +172,17 @@ line_own whose me name flow fit =
 
 pub response_own : (whose : Whose) (flow : Flow) (it : MResponse) → IsNumbered flow.ask → is_own_message whose (answer_message flow it) ≡ whose flow.ask
 response_own whose flow it fit = ap (λ (i : Option AskId). is_own whose i) (own_response flow.ask it ∙ ask_again flow.ask fit.0 fit.1)
+
+-- so a line of a flow of the command of this number, or a later one, isn't over
+pub flow_on : (first : ℕ) (me : Location) (name : List ℕ) (flow : Flow) → IsNumbered flow.ask → first ≤ (flow.ask).command
+    → is_over first (flow_message me name flow) ≡ false
+flow_on first me name flow fit le =
+    line_on first _ flow.ask (own_command flow.ask (stage_command me name flow.stage) ∙ ask_again flow.ask fit.0 fit.1) le
+
+-- and a response that isn't over is to one
+pub answer_from : (first : ℕ) (flow : Flow) (it : MResponse) → IsNumbered flow.ask → is_over first (answer_message flow it) ≡ false
+    → first ≤ (flow.ask).command
+answer_from first flow it fit on = line_from first _ flow.ask (own_response flow.ask it ∙ ask_again flow.ask fit.0 fit.1) on
 
 if_one : {X : Type 0} (p : X → Bool) (x : X) (own : Bool) → p x ≡ own → filter p (x ∷ []) ≡ cond own (x ∷ []) []
 if_one p x true e = kept p x [] e

@@ -1,8 +1,8 @@
 -- A message to a node that is neither the master, nor a backend, nor the command's frontend is taken: it is about no command in a place, and each stays.
-use Rattle.std.proofs.Common.{◌≡◌, ◌≢◌, inr, ℕ, List, None, Some, refl, sym, ap, subst, ◌∙◌}
+use Rattle.std.proofs.Common.{◌≡◌, ◌≢◌, inr, ℕ, false, List, None, Some, refl, sym, ap, subst, ◌∙◌}
 use Rattle.back_node.specs.declared.node.BackNode.{BackNode}
 use Rattle.feed_core.specs.declared.replica.Replica.{Replica}
-use Rattle.front_core.proofs.OneConnection.Places.{about, of_connection, others_taken}
+use Rattle.front_core.proofs.OneConnection.Places.{is_about, isnt_about, left_taken, of_connection, others_taken}
 use Rattle.link_msg.specs.declared.message.LinkMsg.{LinkMsg}
 use Rattle.link_msg.specs.declared.message.LinkMsg.TheVariants.{Ask, Answer}
 use Rattle.link_queue.specs.Links.{on_link}
@@ -63,12 +63,14 @@ module _ (murder : Murder) (from to : List ℕ) (message : LinkMsg) (nobody : Is
     not_its (place.is_barred barrier.asked) there e = nobody.no_master (sym (are_same front me from to (noop_of id) message e).to_is)
     not_its (place.is_barred (barrier.answered table)) there e = apart (sym (are_same me front from to (ok_of id) message e).to_is)
 
-    other : (here : Place) → IsIn murder front replica id here → about message ≢ of_connection id.conn
-    other here is own = not_its here is.there (its_first murder front replica id here from to message first own is).0
+    other : (here : Place) → IsIn murder front replica id here → is_about id.command (of_connection id.conn) message ≡ false
+    other here is = isnt_about id.command (of_connection id.conn) message (λ own on.
+        not_its here is.there (its_first murder front replica id here from to message first own on is).0)
 
     stays : (here : Place) → IsIn murder front replica id here → IsInPlace me murder.nodes (taken murder from to) front replica id here
     stays here is = record {
-      message = others_taken murder.links from to message first.rest (of_connection id.conn) first.first (other here is) (its_message me front id here) is.message;
+      message = left_taken id.command murder.links from to message first.rest (of_connection id.conn) (its_message me front id here) first.first (other here is)
+          is.message;
       shows = shown_then id.conn here is.shows;
       barrier = subst (λ (u : List LinkMsg). IsBarrierAt id (at_barrier here) u (on_link (taken murder from to) me front) replica)
           (sym (taken_else murder.links from to front me (inr (λ e. nobody.no_master (sym e)))))
@@ -84,6 +86,6 @@ to_nobody_stays murder from to message front replica id here nobody apart first 
 pub to_nobody_stays_none : ToNobodyStaysNone
 to_nobody_stays_none murder from to message conn nobody first is = record {
   message = others_taken murder.links from to message first.rest (of_connection conn) first.first
-      (λ own. none_on_its_way murder conn from to message first own is) None is.message;
+      (λ own. none_on_its_way murder conn from to message first own is) 0 None is.message;
   shows = shown_then murder from to message nobody first conn place.nowhere is.shows;
 }

@@ -4,7 +4,7 @@ use Rattle.std.specs.Ordering.{nat_cmp}
 use Rattle.std.specs.Cmp.Lexicographic.{slice_cmp}
 use Rattle.std.proofs.lemmas.Bool.Decides.{nat_tests}
 use Rattle.std.proofs.lemmas.List.Elements.{filter-append}
-use Rattle.front_core.proofs.OneConnection.Places.{About, of_connection, of_nobody, about, about_command, is_about, same_about, IsPlaced, sent_alone}
+use Rattle.front_core.proofs.OneConnection.Places.{About, IsPlaced, about, about_command, about_of, is_about, is_over, of_connection, of_nobody, same_about, sent_alone}
 use Rattle.link_msg.specs.declared.message.LinkMsg.{LinkMsg}
 use Rattle.link_msg.specs.declared.message.LinkMsg.TheVariants.{Up, End, Line, Ask, Answer}
 use Rattle.link_msg.specs.declared.out.Out.{Out}
@@ -61,7 +61,7 @@ unfolding same_about
 command_same conn None = refl
 command_same conn (Some ask) = refl
 
-pub about_same : (conn : ℕ) (message : LinkMsg) → is_about (of_connection conn) message ≡ is_own_message (is_of_connection conn) message
+pub about_same : (conn : ℕ) (message : LinkMsg) → same_about (about message) (of_connection conn) ≡ is_own_message (is_of_connection conn) message
 unfolding same_about
 about_same conn Up = refl
 about_same conn End = refl
@@ -129,30 +129,40 @@ module _ (conn : ℕ) (from : List ℕ) (links : Links LinkMsg) (outs : List Out
           ap (λ l. filter (is_own_message whose) l) (puts_else from links outs a b ne)
           ∙ sym (ap (λ l. filter (is_own_message whose) l) (puts_else from links own_outs a b ne))
 
-  -- what is let out about the connection is all that counts
-  pub put_owns : (found : Option (Carried LinkMsg)) → IsPlaced (of_connection conn) (put_all from links own_outs) found
-      → IsPlaced (of_connection conn) (put_all from links outs) found
-  put_owns found placed = λ a b.
-      same_filter (is_about (of_connection conn)) (is_own_message whose) (about_same conn) (on_link (put_all from links outs) a b)
-      ∙ put_so a b
-      ∙ sym (same_filter (is_about (of_connection conn)) (is_own_message whose) (about_same conn) (on_link (put_all from links own_outs) a b))
-      ∙ placed a b
+  -- those of them that count from this number on
+  module _ (first : ℕ) where
+    counts_of : (messages : List LinkMsg)
+        → filter (is_about first (of_connection conn)) messages
+        ≡ filter (is_about first (of_connection conn)) (filter (is_own_message whose) messages)
+    counts_of messages =
+        sym (within (is_about first (of_connection conn)) (is_own_message whose)
+        (λ message e. own_it conn message (about_of first (of_connection conn) message e)) messages)
 
-  -- nothing is
-  pub puts_none : (found : Option (Carried LinkMsg)) → own_outs ≡ [] → IsPlaced (of_connection conn) links found
-      → IsPlaced (of_connection conn) (put_all from links outs) found
-  unfolding put_all
-  puts_none found none placed =
-      put_owns found (subst (λ (l : List Out). IsPlaced (of_connection conn) (put_all from links l) found) (sym none) placed)
+    -- what is let out about the connection is all that counts
+    pub put_owns : (found : Option (Carried LinkMsg)) → IsPlaced first (of_connection conn) (put_all from links own_outs) found
+        → IsPlaced first (of_connection conn) (put_all from links outs) found
+    put_owns found placed = λ a b.
+        counts_of (on_link (put_all from links outs) a b)
+        ∙ ap (λ (l : List LinkMsg). filter (is_about first (of_connection conn)) l) (put_so a b)
+        ∙ sym (counts_of (on_link (put_all from links own_outs) a b))
+        ∙ placed a b
 
-  -- one message is, where there was none
-  pub puts_one : (to : List ℕ) (message : LinkMsg) (marks : List Out) → own_outs ≡ Link to message ∷ marks
-      → put_all from (sent links from to message) marks ≡ sent links from to message → IsPlaced (of_connection conn) links None
-      → IsPlaced (of_connection conn) (put_all from links outs) (Some (record { from = from; to = to; message = message }))
-  unfolding put_all put_out
-  puts_one to message marks is no_more none =
-      let own : is_own_message whose message ≡ true = first_left (is_own_out whose) outs (Link to message) marks is in
-      put_owns (Some (record { from = from; to = to; message = message }))
-      (subst (λ (l : List Out). IsPlaced (of_connection conn) (put_all from links l) (Some (record { from = from; to = to; message = message }))) (sym is)
-      (subst (λ (l : Links LinkMsg). IsPlaced (of_connection conn) l (Some (record { from = from; to = to; message = message }))) (sym no_more)
-      (sent_alone links from to message (of_connection conn) (about_it conn message own) none)))
+    -- nothing is
+    pub puts_none : (found : Option (Carried LinkMsg)) → own_outs ≡ [] → IsPlaced first (of_connection conn) links found
+        → IsPlaced first (of_connection conn) (put_all from links outs) found
+    unfolding put_all
+    puts_none found none placed =
+        put_owns found (subst (λ (l : List Out). IsPlaced first (of_connection conn) (put_all from links l) found) (sym none) placed)
+
+    -- one message is, where there was none
+    pub puts_one : (to : List ℕ) (message : LinkMsg) (marks : List Out) → own_outs ≡ Link to message ∷ marks
+        → put_all from (sent links from to message) marks ≡ sent links from to message → is_over first message ≡ false
+        → IsPlaced first (of_connection conn) links None
+        → IsPlaced first (of_connection conn) (put_all from links outs) (Some (record { from = from; to = to; message = message }))
+    unfolding put_all put_out
+    puts_one to message marks is no_more on none =
+        let own : is_own_message whose message ≡ true = first_left (is_own_out whose) outs (Link to message) marks is in
+        put_owns (Some (record { from = from; to = to; message = message }))
+        (subst (λ (l : List Out). IsPlaced first (of_connection conn) (put_all from links l) (Some (record { from = from; to = to; message = message }))) (sym is)
+        (subst (λ (l : Links LinkMsg). IsPlaced first (of_connection conn) l (Some (record { from = from; to = to; message = message }))) (sym no_more)
+        (sent_alone first links from to message (of_connection conn) (about_it conn message own) on none)))

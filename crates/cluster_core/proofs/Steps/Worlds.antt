@@ -1,17 +1,20 @@
 -- The same of a world: what the law says of it is what the steps need, and what they say is of the next one.
-use Rattle.std.proofs.Common.{◌≡◌, ℕ, List, ◌∷◌, Some, sym, ap, subst, ◌∙◌}
+use Rattle.std.proofs.Common.{◌≡◌, ℕ, false, List, ◌∷◌, Some, sym, ap, subst, ◌∙◌}
 use Rattle.back_node.specs.declared.node.BackNode.{BackNode}
 use Rattle.back_node.specs.Acted.{BackActed}
 use Rattle.cluster_core.specs.World.{master_of, front_at, home_at, master_at, taken_from_link}
 use Rattle.feed_core.specs.declared.replica.Replica.{Replica}
 use Rattle.feed_links.specs.OneFeed.{IsFed}
+use Rattle.front_core.proofs.OneConnection.Places.{about, is_over, of_connection}
 use Rattle.front_core.specs.declared.front.Front.{Front}
+use Rattle.front_core.specs.Ups.{is_up}
 use Rattle.imap_talk.specs.Heard.{Heard}
 use Rattle.imap_talk.specs.Transcript.{Stop}
 use Rattle.link_msg.specs.declared.message.LinkMsg.{LinkMsg}
+use Rattle.link_queue.specs.Broken.{is_broken}
 use Rattle.link_queue.specs.Links.{Links, on_link, without_first}
 use Rattle.many_links.specs.ManyHold.{ManyHold}
-use Rattle.many_links.specs.Murder.{Nodes, put_all, with_node}
+use Rattle.many_links.specs.Murder.{Murder, Nodes, put_all, with_node}
 use Rattle.mark_history.specs.Marked.{Tale}
 use Rattle.master_core.specs.declared.master.Master.{Master}
 use Rattle.master_core.specs.Outside.{Stepped}
@@ -25,14 +28,15 @@ use Rattle.route_links.specs.Answered.{IsNumbered}
 use Rattle.cluster_core.specs.declared.world.World.{World}
 use Rattle.cluster_core.proofs.Commands.InPlace.{IsInNone, IsInPlace, ShowEach}
 use Rattle.cluster_core.proofs.Commands.Place.{Place, at_backend, Place as place}
-use Rattle.cluster_core.proofs.Commands.Standing.{Fixed}
+use Rattle.cluster_core.proofs.Commands.Standing.{Fixed, next_id}
 use Rattle.cluster_core.proofs.Connections.ConnectionLaw.{IsInNoneOf, IsInPlaceOf}
 use Rattle.cluster_core.proofs.Connections.KeepsLaw.{AreNodesOf, ConnectionIs, FeedsHold, KeepsLaw, fixed_of, is_closed, is_cut_off, is_elsewhere, is_nobody, is_open, murder_of}
 use Rattle.cluster_core.proofs.Nodes.Carried.{is_made}
 use Rattle.cluster_core.proofs.Nodes.Comes.{home_moved, master_moved, with_home, with_master}
+use Rattle.cluster_core.proofs.Steps.Heads.{line_down_on, line_up_on, none_on_its_way}
 use Rattle.cluster_core.proofs.Steps.HomeLinks.{IsInThen, IsNowhereThen}
 use Rattle.cluster_core.proofs.Steps.MasterSteps.{IsFedFront, IsInBehind, IsNowhereBehind, MasterTakes}
-use Rattle.cluster_core.proofs.Steps.Murders.{IsFront, IsIn, IsNowhere, in_none_alike, in_place_alike}
+use Rattle.cluster_core.proofs.Steps.Murders.{IsFirstOn, IsFront, IsIn, IsNowhere, in_none_alike, in_place_alike}
 use Rattle.cluster_core.proofs.Steps.Narrow.{connections_tell}
 
 -- ---- what the law says
@@ -69,7 +73,12 @@ module _ (config : Config) (world : World) (master : Master) (nodes : AreNodesOf
   is_fed_front feeds node front id at numbered = record {
     is_front = is_front node front at;
     streams = feeds.streams;
-    fed = subst (λ m. IsFed master node (on_link world.links node m) (on_link world.links m node) front.replica) (sym nodes.me) (feeds.each node front at).fed;
+    broken = is_broken world.broken (master_of config) node;
+    reached = is_up front.ups (master_of config);
+    fed = subst
+        (λ m. IsFed master node (is_broken world.broken (master_of config) node) (is_up front.ups (master_of config)) (on_link world.links node m)
+        (on_link world.links m node) front.replica)
+        (sym nodes.me) (feeds.each node front at).fed;
     numbered = numbered;
   }
 
@@ -140,3 +149,45 @@ module _ (fixed : Fixed) (world : World) (master : Master) (me : master.me ≡ f
         (in_none_alike fixed.master (home_at world) (home_at behind) (master_moved (record world { links = left }) fixed.master master next there).homes
         (put_all fixed.master left next.outs) conn
         (subst (λ m. IsInNone m (home_at world) (put_all m left next.outs) conn) me is))
+
+-- ---- lines between a backend and the master
+
+-- the first one there that is about a connection is of its command that waits
+module _ (config : Config) (heard : ℕ → Heard) (world : World) (law : KeepsLaw config heard world) (conn : ℕ) (name : List ℕ) (node : BackNode)
+    (there : home_at world name ≡ Some node) (message : LinkMsg) (own : about message ≡ of_connection conn) where
+  abbrev murder : Murder
+  murder = murder_of world law.master
+
+  abbrev its : AskId
+  its = next_id conn (law.story.told conn)
+
+  on_by : (stop : Stop) (its_heard : Heard)
+      → ((front : List ℕ) (replica : Replica) (here : Place) → IsIn murder front replica its here → is_over its.command message ≡ false)
+      → (IsNowhere murder conn → ⊥) → ConnectionIs (fixed_of config) conn world law.story stop its_heard → is_over its.command message ≡ false
+  on_by _ _ placed none (is_nobody no fronts untold) =
+      absurd (none (none_in_murder (fixed_of config) world law.master law.nodes.me conn untold.nothing))
+  on_by _ _ placed none (is_elsewhere front given at no untold) =
+      absurd (none (none_in_murder (fixed_of config) world law.master law.nodes.me conn untold.nothing))
+  on_by _ _ placed none (is_open bytes at_node front connection at begun standing) =
+      placed at_node front.replica standing.here
+      (in_murder (fixed_of config) world law.master law.nodes.me at_node front.replica its standing.here standing.placed)
+  on_by _ _ placed none (is_cut_off bytes at_node front connection at gone unanswered) =
+      placed at_node front.replica gone.here
+      (in_murder (fixed_of config) world law.master law.nodes.me at_node front.replica its gone.here gone.placed)
+  on_by _ _ placed none (is_closed stop bytes at_node front connection at gone) =
+      placed at_node front.replica gone.here
+      (in_murder (fixed_of config) world law.master law.nodes.me at_node front.replica its gone.here gone.placed)
+
+  -- to the backend
+  pub down_line_on : IsFirstOn murder law.master.me name message → is_over its.command message ≡ false
+  down_line_on first =
+      on_by (law.stops conn) (heard conn)
+      (λ front replica here is. line_down_on murder front replica its here name node there message own is first)
+      (λ none. none_on_its_way murder conn law.master.me name message first own none) (law.connections conn)
+
+  -- and to the master
+  pub up_line_on : IsFirstOn murder name law.master.me message → is_over its.command message ≡ false
+  up_line_on first =
+      on_by (law.stops conn) (heard conn)
+      (λ front replica here is. line_up_on murder front replica its here name node there message own is first)
+      (λ none. none_on_its_way murder conn name law.master.me message first own none) (law.connections conn)
