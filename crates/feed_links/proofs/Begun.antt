@@ -7,8 +7,8 @@ use Rattle.std.proofs.lemmas.Cmp.{nat_list_cmp_total}
 use Rattle.std.proofs.lemmas.Grind.{fold-append}
 use Rattle.feed_core.specs.declared.replica.Replica.{Replica}
 use Rattle.feed_core.specs.Feed.{empty_replica, replica_after, fed}
-use Rattle.feed_core.specs.Stream.{is_update_tag, update_tag}
-use Rattle.feed_core.proofs.StreamLaw.{heard_line}
+use Rattle.feed_core.specs.Stream.{is_update_tag, update_line, update_tag}
+use Rattle.feed_core.proofs.StreamLaw.{heard_line, update_read}
 use Rattle.master_core.specs.declared.master.Master.{Master}
 use Rattle.master_core.specs.declared.reply.Reply.{Reply}
 use Rattle.master_core.specs.declared.sender.Sender.{Sender}
@@ -33,6 +33,7 @@ use Rattle.mur_base.proofs.MapLaws.{names_apart, value_at-with_entry, value_at-w
 use Rattle.mur_base.proofs.MapOrder.{with_entry-in_order}
 use Rattle.node_record.specs.Table.{MailboxTable}
 use Rattle.feed_links.specs.Lines.{messages_to, IsOf, IsOfAnother, HasStreams, stream_of}
+use Rattle.feed_links.specs.OneFeed.{HasUpdateTag}
 use Rattle.feed_links.specs.Replicas.{hears_all, replica_of, AreNoNews}
 use Rattle.feed_links.specs.Spelled.{CanBeTold}
 use Rattle.feed_links.specs.Streams.{BeginsStream, UpdateBegins, LeavesNode, OthersLeave, TellsNoNews, NoopTellsNothing, StreamsStayInOrder}
@@ -86,6 +87,17 @@ streams_begun master (Frontend other) node same =
     subst (λ n. value_at (slice_cmp nat_cmp) (with_entry (slice_cmp nat_cmp) master.streams n update_tag) node ≡ Some update_tag) (sym same)
     (value_at-with_entry (slice_cmp nat_cmp) names_apart master.streams node update_tag)
 streams_begun master (Outside conn) node never = absurd never
+
+-- whether UPDATE begins a stream or is refused, a node has none or one under its tag
+pub update_tags : (master : Master) (from : Sender) (node : List ℕ) → IsOf node from → HasUpdateTag (stream_of master node)
+    → HasUpdateTag (stream_of (line_step master from update_line).master node)
+unfolding line_step line_by command_step bad_step replied
+update_tags master from node same tag =
+    subst (λ found. HasUpdateTag (stream_of (line_by master from update_line found).master node)) (sym update_read) (by (is_stream master from && true))
+  where
+    by : (b : Bool) → HasUpdateTag (stream_of (cond b (bad_step master from update_tag) (taken master from update_tag command.Update)).master node)
+    by true = tag
+    by false = subst HasUpdateTag (sym (streams_begun master from node same)) refl
 
 table_stays : (master : Master) (from : Sender) → (taken master from update_tag command.Update).master.table ≡ master.table
 unfolding settled streaming replied reply_to update_reply

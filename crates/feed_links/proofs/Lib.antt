@@ -10,6 +10,8 @@ pub mod Following
 pub mod TableLines
 pub mod Begun
 pub mod TablesTold
-pub mod FeedLaw
 pub mod OnlyLines
+pub mod FeedLaw
+pub mod Parts
+pub mod Parted
 pub mod BackendsStay

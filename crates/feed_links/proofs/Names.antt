@@ -1,5 +1,5 @@
 -- Names that are the same and that aren't, and keys that go.
-use Rattle.std.proofs.Common.{◌≡◌, ◌≢◌, ℕ, Bool, true, false, nat_eq, cond, List, [], ◌∷◌, Some, refl, sym, ap, ◌∙◌, subst, arith}
+use Rattle.std.proofs.Common.{◌≡◌, ◌≢◌, ℕ, Bool, true, false, nat_eq, cond, List, [], ◌∷◌, None, Some, refl, sym, ap, ◌∙◌, subst, arith}
 use Rattle.std.specs.declared.cmp.Ordering.TheVariants.{Less}
 use Rattle.std.specs.List.{AllByRecursion}
 use Rattle.std.specs.List.Sorted.{IsStrictlySortedBy}
@@ -46,6 +46,25 @@ module _ {X : Type 0} where
 
   abbrev AreAbove : List ℕ → List (List ℕ × X) → Type 0
   AreAbove name es = AllByRecursion (λ k. slice_cmp nat_cmp name k ≡ Less) (keys_of es)
+
+  -- a name below all isn't among them
+  not_above : (name : List ℕ) (es : List (List ℕ × X)) → AreAbove name es → value_at (slice_cmp nat_cmp) es name ≡ None
+  not_above name [] all = refl
+  not_above name (e ∷ es) all = rw (ap is_eq all.0) (not_above name es all.1)
+
+  itself_gone : (e : List ℕ × X) (es : List (List ℕ × X)) (k : List ℕ) (b : Bool) → is_eq (slice_cmp nat_cmp k e.0) ≡ b → AreAbove e.0 es
+      → value_at (slice_cmp nat_cmp) (without_key (slice_cmp nat_cmp) es k) k ≡ None
+      → value_at (slice_cmp nat_cmp) (without_key (slice_cmp nat_cmp) (e ∷ es) k) k ≡ None
+  itself_gone e es k true h above later =
+      rw h (subst (λ n. value_at (slice_cmp nat_cmp) es n ≡ None) (sym (names_apart.exact k e.0 h)) (not_above e.0 es above))
+  itself_gone e es k false h above later = rw (h, h) later
+
+  -- a key that is gone finds nothing
+  pub value_at-without_key : (es : List (List ℕ × X)) (k : List ℕ) → IsInOrder (slice_cmp nat_cmp) es
+      → value_at (slice_cmp nat_cmp) (without_key (slice_cmp nat_cmp) es k) k ≡ None
+  unfolding IsStrictlySortedBy
+  value_at-without_key [] k order = refl
+  value_at-without_key (e ∷ es) k order = itself_gone e es k (is_eq (slice_cmp nat_cmp k e.0)) refl order.0 (value_at-without_key es k order.1)
 
   above_by : (name : List ℕ) (e : List ℕ × X) (es rest : List (List ℕ × X)) (b : Bool) → AreAbove name (e ∷ es) → AreAbove name rest
       → AreAbove name (cond b es (e ∷ rest))

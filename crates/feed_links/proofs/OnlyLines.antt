@@ -4,6 +4,7 @@ use Rattle.std.specs.Prelude.{if◌then◌else◌}
 use Rattle.std.specs.Cmp.Lexicographic.{pointwise}
 use Rattle.std.proofs.Math.Logic.{⊎_elim}
 use Rattle.std.proofs.lemmas.List.Concat.{flat_map-append}
+use Rattle.link_msg.specs.declared.message.LinkMsg.{LinkMsg}
 use Rattle.link_msg.specs.declared.message.LinkMsg.TheVariants.{Up, End, Line, Ask, Answer}
 use Rattle.link_msg.specs.declared.out.Out.TheVariants.{Link}
 use Rattle.master_core.specs.declared.master.Master.{Master}
@@ -18,10 +19,13 @@ use Rattle.mupdate_codec.specs.declared.command.MResponse.{MResponse}
 use Rattle.mupdate_codec.specs.declared.tag.Tag.{Tag}
 use Rattle.node_record.specs.declared.master.MasterRecord.{MasterRecord}
 use Rattle.feed_links.specs.Lines.{message_to, messages_to, IsOf, IsOfAnother}
-use Rattle.feed_links.specs.OneFeed.{IsLine, AreLines, SendsLines}
-use Rattle.feed_links.proofs.FeedLaw.{both}
+use Rattle.feed_links.specs.OneFeed.{AreLines, SendsLines}
 use Rattle.feed_links.proofs.Messages.{told_line, whose, own_answers, no_answers, none_to_watchers, reply_messages, settled_messages}
 use Rattle.feed_links.proofs.Steps.{StepIs, is_bad, is_taken, step_is}
+
+pub lines_and : (one two : List LinkMsg) → AreLines one → AreLines two → AreLines (one ++ two)
+lines_and [] two first second = second
+lines_and (x ∷ one) two first second = (first.0, lines_and one two first.1 second)
 
 are_lines : (tag : Tag) (answers : List MResponse) → AreLines (map (told_line tag) answers)
 are_lines tag [] = tt
@@ -40,7 +44,7 @@ one_by bytes false = tt
 told_lines : (node : List ℕ) (it : MResponse) (streams : List (List ℕ × Tag)) → AreLines (messages_to node (map (node_told it) streams))
 told_lines node it [] = tt
 told_lines node it (e ∷ streams) =
-    both IsLine (message_to node (Link e.0 (told_line e.1 it))) (messages_to node (map (node_told it) streams)) (one_by _ (pointwise nat_eq e.0 node))
+    lines_and (message_to node (Link e.0 (told_line e.1 it))) (messages_to node (map (node_told it) streams)) (one_by _ (pointwise nat_eq e.0 node))
     (told_lines node it streams)
 
 changes_lines : (node : List ℕ) (master : Master) (made : Option MasterRecord) → AreLines (messages_to node (change_outs master.streams master.watchers made))
@@ -56,7 +60,7 @@ changes_lines node master (Some change) =
 reply_lines : (master : Master) (node : List ℕ) (from : Sender) (tag : Tag) (reply : Reply) → AreLines (messages_to node (reply_outs master from tag reply))
 reply_lines master node from tag reply =
     subst AreLines (sym (reply_messages master node from tag reply))
-    (both IsLine (messages_to node (map (answered from tag) reply.answers)) (messages_to node (change_outs master.streams master.watchers reply.entry))
+    (lines_and (messages_to node (map (answered from tag) reply.answers)) (messages_to node (change_outs master.streams master.watchers reply.entry))
     (answers_lines node from tag reply.answers) (changes_lines node master reply.entry))
 
 step_lines : (master : Master) (node : List ℕ) (from : Sender) (next : Planned) → StepIs master from next → AreLines (messages_to node next.outs)
