@@ -10,11 +10,12 @@ use Rattle.link_msg.specs.declared.counts.Counts.{Counts}
 use Rattle.link_msg.specs.declared.counts.Counts.TheVariants.{IfAnswered}
 use Rattle.link_queue.specs.Broken.{Broken}
 use Rattle.link_msg.specs.declared.how.How.TheVariants.{Here, Behind, Reserved, Unreached}
-use Rattle.mark_history.specs.Marked.{AreMarked, AreMarked as made, CanAct, CanRefuse, CanRefuseNow, IsUnreplied, IsUntold, Tale, acting, asking, done, first_tale, mark_now, refusal}
-use Rattle.mark_history.specs.Marked.{refusing, telling}
+use Rattle.mark_history.specs.Marked.{AreMarked, AreMarked as made, CanAct, CanRefuse, CanRefuseNow, IsUnreplied, IsUntold, Tale, acting, asking, done, first_tale, last_of}
+use Rattle.mark_history.specs.Marked.{mark_now, open_ask, refusal, refusing, taking_back, telling}
 use Rattle.mark_history.specs.declared.mark.Mark.{Mark}
 use Rattle.mark_history.specs.declared.mark.MarkKind.TheVariants.{Home, Told}
 use Rattle.mark_history.proofs.Reached.{TellsReached}
+use Rattle.mur_base.specs.declared.point.AskId.{AskId}
 use Rattle.mur_model.specs.Answer.{NeedsNoStore}
 use Rattle.mur_model.specs.History.{GoesOn, numbered}
 use Rattle.mur_model.specs.declared.setting.Setting.{Setting}
@@ -43,6 +44,14 @@ module _ {setting : Setting} {broken : Broken} where
   sees now marks tale conn request unreplied asked so = record {
     marked = made.sees now marks tale conn request unreplied asked so.marked;
     reached = λ whole. one_more marks (mark_now now tale conn (Home IfAnswered)) (so.reached whole) (λ node e. cc);
+  }
+
+  pub sees_late : (now : ℕ) (marks : List Mark) (tale : Tale) (id : AskId) → id.command ≤ length (tale.told id.conn)
+      → AreMarkedSo setting broken now marks tale
+      → AreMarkedSo setting broken now (marks ++ (record { step = now; ask = id; kind = Home IfAnswered }) ∷ []) tale
+  sees_late now marks tale id low so = record {
+    marked = made.sees_late now marks tale id low so.marked;
+    reached = λ whole. one_more marks (record { step = now; ask = id; kind = Home IfAnswered }) (so.reached whole) (λ node e. cc);
   }
 
   pub carries_out : (now : ℕ) (marks : List Mark) (tale : Tale) (conn : ℕ) (counts : Counts) (request : Request) (serial : ℕ)
@@ -89,6 +98,12 @@ module _ {setting : Setting} {broken : Broken} where
     marked = made.refuses_at_once now marks tale conn tag it node serial can so.marked;
     reached = λ whole. absurd (cut whole);
   }
+
+  pub takes_back : (now : ℕ) (marks : List Mark) (tale : Tale) (conn : ℕ) (answer : Answer) → IsUntold tale conn answer
+      → last_of (open_ask tale conn) marks ≡ Some (Home IfAnswered) → AreMarkedSo setting broken now marks tale
+      → AreMarkedSo setting broken now marks (taking_back tale conn)
+  takes_back now marks tale conn answer untold last so =
+      record { marked = made.takes_back now marks tale conn answer untold last so.marked; reached = so.reached }
 
 -- another link breaks, or comes up
 pub relinked : (setting : Setting) (broken next : Broken) (now : ℕ) (marks : List Mark) (tale : Tale) → (next ≡ [] → broken ≡ [])

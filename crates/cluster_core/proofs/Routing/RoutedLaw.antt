@@ -6,6 +6,7 @@ use Rattle.std.proofs.lemmas.Bool.Decides.{nat_tests}
 use Rattle.std.proofs.lemmas.List.Elements.{All-append, All-cons, All-contains, All-contains_itself, All-nil, Contains-append_left, Contains-push}
 use Rattle.cluster_core.specs.Heard.{heard}
 use Rattle.cluster_core.specs.World.{master_of, setting_of, start, steps_by}
+use Rattle.imap_types.specs.declared.request.Request.{Request}
 use Rattle.link_msg.specs.declared.ask.FrontAsk.{FrontAsk}
 use Rattle.link_msg.specs.declared.counts.Counts.{Counts}
 use Rattle.link_msg.specs.declared.counts.Counts.TheVariants.{Always, IfAnswered}
@@ -18,7 +19,6 @@ use Rattle.mark_history.specs.declared.mark.Mark.{Mark}
 use Rattle.mark_history.specs.declared.mark.MarkKind.{MarkKind}
 use Rattle.mark_history.specs.declared.mark.MarkKind.TheVariants.{Home, Told}
 use Rattle.mark_history.specs.History.{counts_as, point_as, points_of}
-use Rattle.mark_history.specs.Marked.{talk_told}
 use Rattle.mark_history.specs.Moments.{GoOn}
 use Rattle.mark_history.proofs.Counted.{TellsPoint, always_lost, always_replied, each_counted, each_told, none_lost, told_points}
 use Rattle.mark_history.proofs.Counted.TellsPoint.{here_replies, here_unreached}
@@ -31,7 +31,7 @@ use Rattle.mur_base.specs.declared.point.What.{What}
 use Rattle.mur_base.specs.declared.point.What.TheVariants.{Reply as replied, Lost as lost, Unreached as unreached_point}
 use Rattle.mur_config.specs.declared.config.Config.{Config}
 use Rattle.mur_config.specs.Nodes.{AreNodes}
-use Rattle.mur_model.specs.History.{Talk, TalkGoesOn}
+use Rattle.mur_model.specs.History.{GoesOn as ListsGoOn, Talk}
 use Rattle.schedule_text.specs.declared.event.Event.{Event}
 use Rattle.schedule_text.specs.declared.event.Event.TheVariants.{Deliver}
 use Rattle.cluster_core.specs.declared.world.World.{World}
@@ -46,7 +46,7 @@ use Rattle.cluster_core.specs.Headline.Routing.StandsAt.{at_frontend, not_reache
 use Rattle.cluster_core.specs.History.{history_of}
 use Rattle.cluster_core.specs.Numbers.{NumbersFitAll}
 use Rattle.cluster_core.proofs.Runs.OneNodeLaw.{one_more_step}
-use Rattle.cluster_core.proofs.OneServer.EachStep.{LawBehind}
+use Rattle.cluster_core.proofs.OneServer.EachStep.{LawBehind, said_behind}
 use Rattle.cluster_core.proofs.OneServer.MarksGoOn.{run_goes_on, run_steps-append, steps_made}
 use Rattle.cluster_core.proofs.Routing.Alone.{none_listed}
 use Rattle.cluster_core.proofs.Routing.Begun.{IsAlone, never_alone}
@@ -95,13 +95,13 @@ within number count = by (nat_le number count) refl
 
 module _ (config : Config) (are : AreNodes config.nodes) (steps : List Event)
     (laws : (before later : List Event) → steps ≡ before ++ later → LawBehind config before) (law : LawBehind config steps)
-    (fit : NumbersFitAll config steps) (all_said : Talk) (more : TalkGoesOn (talk_told law.story) all_said)
-    (each_more : (before later : List Event) (parts : steps ≡ before ++ later) → TalkGoesOn (talk_told (laws before later parts).story) all_said) where
+    (fit : NumbersFitAll config steps) (all_asked : ℕ → List Request) (more : ListsGoOn law.story.talk.requests all_asked)
+    (each_more : (before later : List Event) (parts : steps ≡ before ++ later) → ListsGoOn (laws before later parts).story.talk.requests all_asked) where
   abbrev whole : World
   whole = run_steps (start config) steps
 
   abbrev talk : Talk
-  talk = talk_told law.story
+  talk = said_behind config steps law
 
   abbrev at : List Event → World
   at before = run_steps (start config) before
@@ -195,7 +195,7 @@ module _ (config : Config) (are : AreNodes config.nodes) (steps : List Event)
     of_step P new more each =
         let IfThen : Mark → Type 0 = λ made. made.step ≡ length before + 1 → P made in
         let then = laws before (event ∷ later) parts in
-        let timely = (holds (setting_of config) (at before).steps (at before).marks then.story then.is_told.marked).order.timely in
+        let timely = (holds (setting_of config) (at before).steps (at before).marks then.story then.is_told.marked).timely in
         subst (λ (m : List Mark). All IfThen m) (sym (behind.parts ∙ ap (λ m. m ++ behind.rest) more))
         (All-append IfThen ((at before).marks ++ new) behind.rest
         (All-append IfThen (at before).marks new
@@ -378,7 +378,7 @@ module _ (config : Config) (are : AreNodes config.nodes) (steps : List Event)
   -- a step that works on a LIST takes its NOOP
   noop_of : (taken : Taken config steps) (id : AskId) → IsList talk id → IsStepOf config steps id taken → TakesNoop config steps taken id
   noop_of taken id is_list =
-      takes_noop config steps talk all_said more taken (laws taken.before _ taken.parts) (each_more taken.before _ taken.parts)
+      takes_noop config steps talk all_asked more taken (laws taken.before _ taken.parts) (each_more taken.before _ taken.parts)
       (fit taken.before _ taken.parts) id is_list
 
   -- a LIST of names that was answered OK stands where the master takes its NOOP
