@@ -15,6 +15,8 @@ use Rattle.cluster_core.specs.Flow.{run_steps}
 use Rattle.cluster_core.specs.World.{setting_of, start}
 use Rattle.cluster_core.specs.declared.world.World.{World}
 use Rattle.cluster_core.proofs.Commands.Standing.{Fixed}
+use Rattle.cluster_core.proofs.Connections.ConnectionLaw.{SaysOn}
+pub use Rattle.cluster_core.proofs.Connections.KeepsBehind.{IsNoCut}
 use Rattle.cluster_core.proofs.Connections.KeepsLaw.{KeepsBehind, KeepsLaw, SaidOn, fixed_of}
 use Rattle.cluster_core.proofs.Connections.KeepsLaw.SaidOn.{back as said_back, on as said_on}
 use Rattle.cluster_core.proofs.OneServer.MarksGoOn.{run_goes_on, run_steps-append}
@@ -35,6 +37,9 @@ pub record EachKeeps (config : Config) (steps : List Event) : Type 0 where
   pub next : (before : List Event) (event : Event) (later : List Event) → steps ≡ before ++ event ∷ later → (law : LawBehind config before)
       → TellsMoves config steps before law
       → KeepsBehind config law.story law.stops (λ conn. heard config conn (before ++ event ∷ [])) (run_steps (start config) (before ++ event ∷ []))
+  -- only a cut takes replies back
+  pub grows : (before : List Event) (event : Event) (later : List Event) (parts : steps ≡ before ++ event ∷ later) (law : LawBehind config before)
+      (moves : TellsMoves config steps before law) → IsNoCut event → SaysOn law.story (next before event later parts law moves).law.story
 
 -- what was said behind these steps and can't be taken back
 abbrev pub said_behind : (config : Config) (steps : List Event) → LawBehind config steps → Talk

@@ -1,5 +1,5 @@
 -- No step works on a LIST but the one in which the master takes its NOOP: a LIST needs no mailbox.
-use Rattle.std.proofs.Common.{◌≡◌, ℕ, Bool, true, false, List, ◌∷◌, Option, Some, sym, ◌∙◌, ap, subst, if◌then◌else◌}
+use Rattle.std.proofs.Common.{◌≡◌, ℕ, ◌+◌, ◌≤◌, Bool, true, false, List, ◌∷◌, length, Option, Some, sym, ◌∙◌, ap, subst, if◌then◌else◌}
 use Rattle.cluster_core.specs.Flow.{run_steps}
 use Rattle.cluster_core.specs.Headline.Routing.{IsList, IsStepOf, TakesNoop, Taken}
 use Rattle.cluster_core.specs.Headline.Routing.IsStepOf.{at_home, at_master}
@@ -15,6 +15,7 @@ use Rattle.imap_types.specs.declared.request.Request.{Request}
 use Rattle.imap_types.specs.declared.request.Request.TheVariants.{Command as a_command}
 use Rattle.link_msg.specs.declared.message.LinkMsg.{LinkMsg}
 use Rattle.link_msg.specs.declared.message.LinkMsg.TheVariants.{Line}
+use Rattle.mupdate_codec.specs.Asks.{line_ask}
 use Rattle.mur_base.specs.declared.point.AskId.{AskId}
 use Rattle.mur_config.specs.declared.config.Config.{Config}
 use Rattle.mur_model.proofs.HistoryGrows.{numbered_on}
@@ -56,7 +57,9 @@ same_command e = cc
 -- ---- its step
 
 module _ (config : Config) (steps : List Event) (talk : Talk) (whole : ℕ → List Request) (on : GoesOn talk.requests whole) (taken : Taken config steps)
-    (law : LawBehind config taken.before) (earlier : GoesOn law.story.talk.requests whole) (fits : NumbersFit (λ conn. heard config conn taken.before)) (id : AskId) (is_list : IsList talk id) where
+    (law : LawBehind config taken.before) (earlier : GoesOn law.story.talk.requests whole) (fits : NumbersFit (λ conn. heard config conn taken.before))
+    (id : AskId) (is_list : IsList talk id)
+    (is_on : (line : List ℕ) → taken.message ≡ Line line → line_ask line ≡ Some id → length (law.story.told id.conn) + 1 ≤ id.command) where
   abbrev came : ℕ → Heard
   came conn = heard config conn taken.before
 
@@ -83,4 +86,4 @@ module _ (config : Config) (steps : List Event) (talk : Talk) (whole : ℕ → L
       absurd (no_mailbox tells.tag tells.c (subst (λ (i : AskId). IsOf config came world law i tells.tag (tells.c).it) its tells.asked))
   takes_noop (at_master line is its mine) =
       by_line line is mine
-      (line_tells config came world law taken.from taken.to line taken.rest id (taken.comes ∙ ap (λ (m : LinkMsg). m ∷ taken.rest) is) its mine fits).is_line
+      (line_tells config came world law taken.from taken.to line taken.rest id (taken.comes ∙ ap (λ (m : LinkMsg). m ∷ taken.rest) is) its (is_on line is its) mine fits).is_line
