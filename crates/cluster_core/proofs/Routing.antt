@@ -9,6 +9,7 @@ pub mod HomeAnswers
 pub mod Makes
 pub mod Unreached
 pub mod HowMade
+pub mod LateLines
 pub mod NamesTaken
 pub mod Alone
 pub mod RoutedLaw

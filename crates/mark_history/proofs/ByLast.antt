@@ -51,7 +51,7 @@ points_by_last setting now marks tale is = same_points (said_of tale) marks is.a
 abbrev pub StaysUnreplied : (ℕ → ℕ) → (ℕ → ℕ) → Mark → Type 0
 StaysUnreplied said now more = (mark : Mark) → said (conn_of mark) < command_of mark → is_of mark.ask more ≡ false → now (conn_of mark) < command_of mark
 
-unreplied_is : (number count : ℕ) → only_saw None (nat_le number count) ≡ true → count < number
+pub unreplied_is : (number count : ℕ) → only_saw None (nat_le number count) ≡ true → count < number
 unfolding only_saw
 unreplied_is number count saw = grind (arith, nat_tests)
 

@@ -17,6 +17,7 @@ use Rattle.mark_history.specs.declared.mark.MarkKind.{MarkKind}
 use Rattle.mark_history.specs.declared.mark.MarkKind.TheVariants.{Home, Told}
 use Rattle.mark_history.specs.History.{counts_as, next_of, point_as, points_by, points_of, refused_as, untold_as}
 use Rattle.mark_history.specs.Marked.{AreMarked, Tale}
+use Rattle.mark_history.proofs.Late.{always_early, each_early, same_points as late_points}
 use Rattle.mark_history.proofs.LeftOut.{LeavesOut, counts_not}
 use Rattle.mark_history.proofs.LeftOut.LeavesOut.{no_marks, stays, left_out}
 use Rattle.mark_history.proofs.MarkLaw.{holds}
@@ -167,9 +168,12 @@ module _ (setting : Setting) (now : ℕ) (marks : List Mark) (tale : Tale) (made
   always_point : (mark : Mark) → Contains marks mark → mark.kind ≡ Home Always
       → Contains (points_of marks) (point_as mark (always_as (nat_le (command_of mark) (length (tale.told (conn_of mark))))))
   always_point mark there always =
-      let law = (holds setting now marks tale made).law in
-      always_there (λ conn. length (tale.talk.answers conn)) (counts_of tale.told) marks law.acting law.leaves law.is_told.fit there.0 mark there.1
-      there.2 always
+      let its = holds setting now marks tale made in
+      let its_there = always_early (counts_of tale.told) marks its.early its.late there.0 mark there.1 there.2 always in
+      subst (λ points. Contains points (point_as mark (always_as (nat_le (command_of mark) (length (tale.told (conn_of mark)))))))
+      (sym (late_points (counts_of tale.told) marks its.early its.late))
+      (always_there (λ conn. length (tale.talk.answers conn)) (counts_of tale.told) its.early its.law.acting its.law.leaves its.law.is_told.fit its_there.0 mark
+      its_there.1 its_there.2 always)
 
   -- the step of a mark that always counts is the point of its command: its reply, if its client was told
   pub always_replied : (mark : Mark) → Contains marks mark → mark.kind ≡ Home Always → command_of mark ≤ length (tale.told (conn_of mark))
@@ -191,11 +195,12 @@ module _ (setting : Setting) (now : ℕ) (marks : List Mark) (tale : Tale) (made
       → (mark.kind ≡ Home IfAnswered → command_of mark ≤ length (tale.told (conn_of mark))) → counts_as mark.kind next ≡ Some what → P (point_as mark what))
       → All Q marks → All P (points_of marks)
   each_told Q P of all =
-      let law = (holds setting now marks tale made).law in
-      each_that_counts (λ conn. length (tale.talk.answers conn)) (counts_of tale.told) Q P
-      (λ mark next what its still counts.
-      of mark next what its (λ kind. low mark (nat_le (command_of mark) (length (tale.told (conn_of mark)))) refl (still kind)) counts)
-      marks law.acting law.leaves law.is_told.fit all
+      let its = holds setting now marks tale made in
+      subst (All P) (sym (late_points (counts_of tale.told) marks its.early its.late))
+      (each_that_counts (λ conn. length (tale.talk.answers conn)) (counts_of tale.told) Q P
+      (λ mark next what has still counts.
+      of mark next what has (λ kind. low mark (nat_le (command_of mark) (length (tale.told (conn_of mark)))) refl (still kind)) counts)
+      its.early its.law.acting its.law.leaves its.law.is_told.fit (each_early Q (counts_of tale.told) marks its.early its.late all))
     where
       low : (mark : Mark) (b : Bool) → nat_le (command_of mark) (length (tale.told (conn_of mark))) ≡ b
           → (nat_le (command_of mark) (length (tale.told (conn_of mark))) ≡ false → ⊥) → command_of mark ≤ length (tale.told (conn_of mark))

@@ -50,7 +50,7 @@ counts_not (Some (Told Behind)) replied saw = cc
 counts_not (Some (Told Reserved)) replied saw = cc
 counts_not (Some (Told (Unreached node))) replied saw = refl
 
-no_point : (mark : Mark) → points_by mark None ≡ []
+pub no_point : (mark : Mark) → points_by mark None ≡ []
 unfolding points_by
 no_point mark = refl
 
@@ -84,7 +84,7 @@ leaves_push said now marks acting more (left_out mark others rest kind saw leave
     (ap (λ n. only_saw n (nat_le (command_of mark) (now (conn_of mark)))) (next_push mark.ask others more) ∙ still mark (next_of mark.ask others) saw)
     (leaves_push said now others rest more leaves still)
 
-next_none : (next : Option MarkKind) → next_or next None ≡ next
+pub next_none : (next : Option MarkKind) → next_or next None ≡ next
 unfolding next_or
 next_none None = refl
 next_none (Some kind) = refl

@@ -15,9 +15,12 @@ pub mod LastMarks
 pub mod PutIn
 pub mod Refused
 pub mod RefusedByLast
+pub mod Tellings
+pub mod Late
 pub mod MarkLaw
 pub mod Reached
 pub mod EachMark
-pub mod Tellings
 pub mod MomentLaw
 pub mod Counted
+pub mod Settled
+pub mod SettledTalk

@@ -1,8 +1,10 @@
 -- Marks that are made so make a legal history.
-use Rattle.std.proofs.Common.{◌≡◌, ◌≢◌, ◌≤◌, ℕ, ◌+◌, Bool, true, false, cond, nat_eq, List, [], ◌∷◌, ◌++◌, length, if◌then◌else◌, Some, refl, sym, ◌∙◌, ap, subst, arith, length-append}
+use Rattle.std.proofs.Common.{◌≡◌, ◌≢◌, ◌≤◌, ℕ, ◌+◌, Bool, true, false, cond, nat_eq, List, [], ◌∷◌, ◌++◌, length, if◌then◌else◌, None, Some, refl, sym, ◌∙◌, ap, subst, arith, length-append}
+use Rattle.std.specs.Prelude.{All}
 use Rattle.std.proofs.Math.Logic.{⊎_elim}
 use Rattle.std.proofs.lemmas.Bool.{cases_eq}
 use Rattle.std.proofs.lemmas.Bool.Decides.{nat_tests}
+use Rattle.std.proofs.lemmas.List.Elements.{All-nil, All-push, All-weaker}
 use Rattle.link_msg.specs.declared.counts.Counts.{Counts}
 use Rattle.link_msg.specs.declared.counts.Counts.TheVariants.{IfAnswered}
 use Rattle.link_msg.specs.declared.how.How.TheVariants.{Here, Behind, Reserved, Unreached}
@@ -24,11 +26,14 @@ use Rattle.mark_history.specs.declared.mark.MarkKind.TheVariants.{Home, Told}
 use Rattle.mark_history.specs.FirstCourse.{first_course}
 use Rattle.mark_history.specs.History.{points_of}
 use Rattle.mark_history.specs.Marked.{AreMarked, CanAct, CanRefuse, CanRefuseNow, IsLegalTo, IsUnreplied, IsUntold, MakesLegalHistories, Tale, acting, done, first_tale, last_of, mark_now, open_ask, refusal, refusing, talk_told, taking_back, telling, with_list}
-use Rattle.mark_history.specs.Marked.AreMarked.{nothing, a_step, asks, sees, carries_out, tells, tells_at_once, refuses, refuses_at_once, takes_back}
-use Rattle.mark_history.proofs.ByLast.{IsToldByLast, asked_by_last, later_by_last, push_by_last, seen_by_last, told_behind_by_last, points_by_last, tale_said}
+use Rattle.mark_history.specs.Marked.AreMarked.{nothing, a_step, asks, sees, sees_late, carries_out, tells, tells_at_once, refuses, refuses_at_once, takes_back}
+use Rattle.mark_history.proofs.ByLast.{IsToldByLast, asked_by_last, later_by_last, push_by_last, seen_by_last, said_of, told_behind_by_last, points_by_last, tale_said}
 use Rattle.mark_history.proofs.CarriesFrom.{from_none, same_functions}
 use Rattle.mark_history.proofs.LeftOut.LeavesOut.{no_marks as none_left}
 use Rattle.mark_history.proofs.Legal.{IsToldSo, all_told, legal_marks}
+use Rattle.mark_history.proofs.Late.{LeavesLate, have_next, late_push, late_seen, same_last, same_last_mark, same_points as late_points}
+use Rattle.mark_history.proofs.Late.LeavesLate.{no_marks as no_late}
+use Rattle.mark_history.proofs.Marks.{counts_of}
 use Rattle.mark_history.proofs.Marks.Carries.{no_marks}
 use Rattle.mark_history.proofs.Tally.{acts, Fit, reached_here, reached_home}
 use Rattle.mark_history.proofs.RefusedByLast.{IsInOrder, order_later, order_none, order_push, refused_by_last}
@@ -260,76 +265,127 @@ refuses_by_last setting now marks tale conn tag it serial can order is =
     as_told setting now (marks ++ mark_now now tale conn (Told Reserved) ∷ []) tale conn (refusal tale conn tag it BeingMoved) serial can.unreplied
     (refused_by_last setting now marks tale conn tag it serial can order is)
 
+-- the marks without late ones, of commands of which their clients were told before, are those of one store
 pub record Holds (setting : Setting) (now : ℕ) (marks : List Mark) (tale : Tale) : Type 0 where
   pub so : HasOne tale
-  pub law : IsToldByLast setting now marks tale
-  pub order : IsInOrder now marks tale.told
+  pub early : List Mark
+  pub late : LeavesLate (counts_of tale.told) marks early
+  pub law : IsToldByLast setting now early tale
+  pub order : IsInOrder now early tale.told
+  pub timely : All (λ (m : Mark). m.step ≤ now) marks
+
+-- a mark of the open command is put behind
+one_more_late : (setting : Setting) (now : ℕ) (marks : List Mark) (tale next : Tale) (conn : ℕ) (kind : MarkKind) (holding : Holds setting now marks tale)
+    → ((other : ℕ) → length (tale.told other) ≤ length (next.told other)) → HasOne next
+    → IsToldByLast setting now (holding.early ++ mark_now now tale conn kind ∷ []) next
+    → Holds setting now (marks ++ mark_now now tale conn kind ∷ []) next
+one_more_late setting now marks tale next conn kind holding grows so law = record {
+  so = so;
+  early = holding.early ++ mark_now now tale conn kind ∷ [];
+  late = late_push (counts_of tale.told) (counts_of next.told) marks holding.early (mark_now now tale conn kind) grows (omega arith) holding.late;
+  law = law;
+  order = order_push now holding.early tale conn kind next.told grows holding.order;
+  timely = All-push (λ (m : Mark). m.step ≤ now) marks (mark_now now tale conn kind) holding.timely (omega arith);
+}
+
+-- the step that saw the open command last is the same
+can_refuse : (setting : Setting) (now : ℕ) (marks : List Mark) (tale : Tale) (conn : ℕ) (tag : Tag) (it : Command) (holding : Holds setting now marks tale)
+    → CanRefuse setting marks tale conn tag it → CanRefuse setting holding.early tale conn tag it
+can_refuse setting now marks tale conn tag it holding can = record {
+  unreplied = can.unreplied;
+  step = can.step;
+  saw = sym (same_last_mark (counts_of tale.told) (open_ask tale conn) (omega arith) None marks holding.early holding.late) ∙ can.saw;
+  refused = can.refused;
+}
 
 pub holds : (setting : Setting) (now : ℕ) (marks : List Mark) (tale : Tale) → AreMarked setting now marks tale → Holds setting now marks tale
-holds setting now marks tale (nothing moving) = record { so = λ conn. all_told [] [] refl; law = first_by_last setting moving; order = order_none }
+holds setting now marks tale (nothing moving) = record {
+  so = λ conn. all_told [] [] refl;
+  early = [];
+  late = no_late;
+  law = first_by_last setting moving;
+  order = order_none;
+  timely = All-nil (λ (m : Mark). m.step ≤ 0);
+}
 holds setting now marks tale (a_step earlier later those its le made) =
     let before = holds setting earlier those its made in record {
       so = before.so;
-      law = later_by_last setting earlier later those its le before.law;
-      order = order_later earlier later those its.told le before.order;
+      early = before.early;
+      late = before.late;
+      law = later_by_last setting earlier later before.early its le before.law;
+      order = order_later earlier later before.early its.told le before.order;
+      timely = All-weaker (λ (m : Mark). m.step ≤ earlier) (λ (m : Mark). m.step ≤ later) (λ m h. omega (arith, h, le)) those before.timely;
     }
 holds setting now marks tale (asks at those its requests more made) =
-    let before = holds setting at those its made in record { so = before.so; law = asked_by_last setting at those its requests more before.law; order = before.order }
+    let before = holds setting at those its made in record {
+      so = before.so;
+      early = before.early;
+      late = before.late;
+      law = asked_by_last setting at before.early its requests more before.law;
+      order = before.order;
+      timely = before.timely;
+    }
 holds setting now marks tale (sees at those its conn request unreplied asked made) =
     let before = holds setting at those its made in
+    one_more_late setting at those its its conn (Home IfAnswered) before (λ c. omega arith) before.so
+    (as_open (λ m. IsToldByLast setting at (before.early ++ m ∷ []) its) at its conn (Home IfAnswered) unreplied
+    (seen_by_last setting at before.early its conn before.law))
+holds setting now marks tale (sees_late at those its id low made) =
+    let before = holds setting at those its made in
+    let mark : Mark = record { step = at; ask = id; kind = Home IfAnswered } in
     record {
       so = before.so;
-      law = as_open (λ m. IsToldByLast setting at (those ++ m ∷ []) its) at its conn (Home IfAnswered) unreplied
-          (seen_by_last setting at those its conn before.law);
-      order = order_push at those its conn (Home IfAnswered) its.told (λ c. omega arith) before.order;
+      early = before.early;
+      late = late_seen (counts_of its.told) those before.early mark refl low
+          (have_next (said_of its) (counts_of its.told) before.law.is_told.ahead before.early before.law.acting before.law.leaves before.law.is_told.fit)
+          before.late;
+      law = before.law;
+      order = before.order;
+      timely = All-push (λ (m : Mark). m.step ≤ at) those mark before.timely (omega arith);
     }
 holds setting now marks tale (carries_out at those its conn counts request serial can unless made) =
     let before = holds setting at those its made in
-    record {
-      so = acting_one setting its conn request serial before.so;
-      law = acts_by_last setting at those its conn counts request serial can unless before.law;
-      order = order_push at those its conn (Home counts) its.told (λ c. omega arith) before.order;
-    }
+    one_more_late setting at those its (acting setting its conn request serial) conn (Home counts) before (λ c. omega arith)
+    (acting_one setting its conn request serial before.so)
+    (acts_by_last setting at before.early its conn counts request serial can unless before.law)
 holds setting now marks tale (tells at those its conn answer untold made) =
     let before = holds setting at those its made in
-    record {
-      so = telling_one its conn answer untold before.so;
-      law = tells_by_last setting at those its conn answer untold before.law;
-      order = order_push at those its conn (Told Behind) _ (telling_more its conn answer) before.order;
-    }
+    one_more_late setting at those its (telling its conn answer) conn (Told Behind) before (telling_more its conn answer)
+    (telling_one its conn answer untold before.so)
+    (tells_by_last setting at before.early its conn answer untold before.law)
 holds setting now marks tale (tells_at_once at those its conn request serial can alone made) =
     let before = holds setting at those its made in
     let answer : Answer = (done setting its conn request serial).answer in
-    record {
-      so = telling_one (acting setting its conn request serial) conn answer (list_at its.talk.answers conn (its.told conn ++ answer ∷ []))
-          (acting_one setting its conn request serial before.so);
-      law = at_once_by_last setting at those its conn request serial can before.law;
-      order = order_push at those its conn (Told Here) _ (telling_more its conn answer) before.order;
-    }
+    one_more_late setting at those its (telling (acting setting its conn request serial) conn answer) conn (Told Here) before (telling_more its conn answer)
+    (telling_one (acting setting its conn request serial) conn answer (list_at its.talk.answers conn (its.told conn ++ answer ∷ []))
+    (acting_one setting its conn request serial before.so))
+    (at_once_by_last setting at before.early its conn request serial can before.law)
 holds setting now marks tale (refuses at those its conn tag it serial can made) =
     let before = holds setting at those its made in
     let answer : Answer = (refusal its conn tag it BeingMoved).answer in
-    record {
-      so = telling_one (refusing its conn tag it BeingMoved serial) conn answer (list_at its.talk.answers conn (its.told conn ++ answer ∷ []))
-          (refusing_one its conn tag it BeingMoved serial before.so);
-      law = refuses_by_last setting at those its conn tag it serial can before.order before.law;
-      order = order_push at those its conn (Told Reserved) _ (telling_more its conn answer) before.order;
-    }
+    one_more_late setting at those its (telling (refusing its conn tag it BeingMoved serial) conn answer) conn (Told Reserved) before
+    (telling_more its conn answer)
+    (telling_one (refusing its conn tag it BeingMoved serial) conn answer (list_at its.talk.answers conn (its.told conn ++ answer ∷ []))
+    (refusing_one its conn tag it BeingMoved serial before.so))
+    (refuses_by_last setting at before.early its conn tag it serial (can_refuse setting at those its conn tag it before can) before.order before.law)
 holds setting now marks tale (refuses_at_once at those its conn tag it node serial can made) =
     let before = holds setting at those its made in
     let answer : Answer = (refusal its conn tag it NotReached).answer in
-    record {
-      so = telling_one (refusing its conn tag it NotReached serial) conn answer (list_at its.talk.answers conn (its.told conn ++ answer ∷ []))
-          (refusing_one its conn tag it NotReached serial before.so);
-      law = unreached_by_last setting at those its conn tag it node serial can before.law;
-      order = order_push at those its conn (Told (Unreached node)) _ (telling_more its conn answer) before.order;
-    }
+    one_more_late setting at those its (telling (refusing its conn tag it NotReached serial) conn answer) conn (Told (Unreached node)) before
+    (telling_more its conn answer)
+    (telling_one (refusing its conn tag it NotReached serial) conn answer (list_at its.talk.answers conn (its.told conn ++ answer ∷ []))
+    (refusing_one its conn tag it NotReached serial before.so))
+    (unreached_by_last setting at before.early its conn tag it node serial can before.law)
 holds setting now marks tale (takes_back at those its conn answer untold last made) =
     let before = holds setting at those its made in
     record {
       so = taken_one its conn before.so;
-      law = taken_back_by_last setting at those its conn answer untold last before.law;
+      early = before.early;
+      late = before.late;
+      law = taken_back_by_last setting at before.early its conn answer untold
+          (sym (same_last (counts_of its.told) (open_ask its conn) (omega arith) None those before.early before.late) ∙ last) before.law;
       order = before.order;
+      timely = before.timely;
     }
 
 pub legal_by_last : (setting : Setting) (now : ℕ) (marks : List Mark) (tale : Tale) → IsToldByLast setting now marks tale
@@ -339,4 +395,7 @@ legal_by_last setting now marks tale is so =
     (legal_marks setting now is.acting tale.talk tale.told tale.course is.is_told so)
 
 pub legal_histories : MakesLegalHistories
-legal_histories setting now marks tale made = let its = holds setting now marks tale made in legal_by_last setting now marks tale its.law its.so
+legal_histories setting now marks tale made =
+    let its = holds setting now marks tale made in
+    subst (λ points. IsLegalTo setting (talk_told tale) points tale.course.store) (sym (late_points (counts_of tale.told) marks its.early its.late))
+    (legal_by_last setting now its.early tale its.law its.so)

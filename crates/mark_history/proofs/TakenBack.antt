@@ -50,7 +50,7 @@ found : (p : Mark → Bool) (marks : List Mark) → 0 < count_by p marks → Fou
 found p [] some = absurd (omega arith)
 found p (first ∷ marks) some = found_by p first marks (p first) refl (omega (arith, some, count_cons p first marks)) (found p marks)
 
-none_untold : (kind : MarkKind) (next : Option MarkKind) → fits kind next false ≡ true → next ≡ None
+pub none_untold : (kind : MarkKind) (next : Option MarkKind) → fits kind next false ≡ true → next ≡ None
 unfolding fits may_refuse
 none_untold (Told Here) next fit = cc
 none_untold (Told Behind) next fit = cc

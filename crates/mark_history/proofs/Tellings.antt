@@ -1,4 +1,5 @@
--- Of each command that a client was told of, one mark tells it, and none of the command stands behind that; each mark is of a command that was asked.
+-- Of each command that a client was told of, one mark tells it, and those that stand behind it only saw the command; each mark is of a command that was
+-- asked.
 use Rattle.std.proofs.Common.{◌≡◌, ◌≢◌, ◌⊎◌, inl, inr, ℕ, zero, suc, ◌+◌, ◌≤◌, ◌<◌, Bool, true, false, List, [], ◌∷◌, ◌++◌, length, Some, refl, sym}
 use Rattle.std.proofs.Common.{◌∙◌, ap, subst, arith, length-append}
 use Rattle.std.specs.Prelude.{All, AllPairs, Contains}
@@ -6,6 +7,7 @@ use Rattle.std.proofs.Math.Logic.{⊎_elim}
 use Rattle.std.proofs.lemmas.Bool.{cases_eq}
 use Rattle.std.proofs.lemmas.List.Elements.{All-push, All-weaker, Contains-append_left, Contains-push}
 use Rattle.std.proofs.lemmas.Option.{slice_get_within}
+use Rattle.link_msg.specs.declared.counts.Counts.TheVariants.{IfAnswered}
 use Rattle.imap_types.specs.declared.reply.NoText.TheVariants.{BeingMoved, NotReached}
 use Rattle.imap_types.specs.declared.request.Answer.{Answer}
 use Rattle.imap_types.specs.declared.request.Request.{Request}
@@ -15,7 +17,7 @@ use Rattle.mark_history.specs.declared.mark.Mark.{Mark}
 use Rattle.mark_history.specs.declared.mark.MarkKind.{MarkKind}
 use Rattle.mark_history.specs.declared.mark.MarkKind.TheVariants.{Home, Told}
 use Rattle.mark_history.specs.Marked.{AreMarked, Tale, acting, asking, done, first_tale, mark_now, refusal, refusing, telling, with_list}
-use Rattle.mark_history.specs.Marked.AreMarked.{nothing, a_step, asks, sees, carries_out, tells, tells_at_once, refuses, refuses_at_once, takes_back}
+use Rattle.mark_history.specs.Marked.AreMarked.{nothing, a_step, asks, sees, sees_late, carries_out, tells, tells_at_once, refuses, refuses_at_once, takes_back}
 use Rattle.mark_history.proofs.Marks.{marks_push}
 use Rattle.mark_history.proofs.Tally.{command_of, conn_of}
 use Rattle.mark_history.proofs.TakenBack.{list_at, list_elsewhere}
@@ -25,9 +27,10 @@ unfoldable pub tells_client : MarkKind → Bool
 tells_client (Home counts) = false
 tells_client (Told how) = true
 
--- behind it none is of the command
+-- behind it one of the command, or of an earlier one, counts only if the client is told
 abbrev pub EndsTelling : Mark → Mark → Type 0
-EndsTelling earlier later = tells_client earlier.kind ≡ true → conn_of earlier ≡ conn_of later → command_of earlier < command_of later
+EndsTelling earlier later = tells_client earlier.kind ≡ true → conn_of earlier ≡ conn_of later → command_of later ≤ command_of earlier
+    → later.kind ≡ Home IfAnswered
 
 -- among the marks is one that tells of this command
 pub record IsToldAmong (marks : List Mark) (conn number : ℕ) : Type 0 where
@@ -40,10 +43,11 @@ pub record IsToldAmong (marks : List Mark) (conn number : ℕ) : Type 0 where
 pub record HasTellings (marks : List Mark) (tale : Tale) : Type 0 where
   pub ends : AllPairs EndsTelling marks
   pub low : All (λ (m : Mark). tells_client m.kind ≡ true → command_of m ≤ length (tale.told (conn_of m))) marks
-  pub from_one : All (λ (m : Mark). 0 < command_of m) marks
+  pub from_one : All (λ (m : Mark). command_of m ≡ 0 → m.kind ≡ Home IfAnswered) marks
   pub asked : All (λ (m : Mark). command_of m ≤ length (tale.talk.requests (conn_of m))) marks
   pub each : (conn number : ℕ) → 0 < number → number ≤ length (tale.told conn) → IsToldAmong marks conn number
-  -- no more was replied than asked
+  -- no more was told, and no more was replied, than asked
+  pub told_few : (conn : ℕ) → length (tale.told conn) ≤ length (tale.talk.requests conn)
   pub replied : (conn : ℕ) → length (tale.talk.answers conn) ≤ length (tale.talk.requests conn)
 
 -- ---- the open command was asked
@@ -85,13 +89,14 @@ module _ (now : ℕ) (marks : List Mark) (tale next : Tale) (conn : ℕ) (kind :
 
   pub put_behind : HasTellings (marks ++ mark ∷ []) next
   put_behind = record {
-    ends = marks_push EndsTelling marks mark has.ends (λ k d h. λ tells same. omega (arith, has.low k d h tells, ap (λ c. length (tale.told c)) same));
+    ends = marks_push EndsTelling marks mark has.ends
+        (λ k d h. λ tells same behind. absurd (omega (arith, behind, has.low k d h tells, ap (λ c. length (tale.told c)) same)));
     low = All-push (λ (m : Mark). tells_client m.kind ≡ true → command_of m ≤ length (next.told (conn_of m))) marks mark
         (All-weaker (λ (m : Mark). tells_client m.kind ≡ true → command_of m ≤ length (tale.told (conn_of m)))
         (λ (m : Mark). tells_client m.kind ≡ true → command_of m ≤ length (next.told (conn_of m)))
         (λ m h tells. omega (arith, h tells, by.more (conn_of m))) marks has.low)
         (λ tells. omega (arith, by.own tells));
-    from_one = All-push (λ (m : Mark). 0 < command_of m) marks mark has.from_one (omega arith);
+    from_one = All-push (λ (m : Mark). command_of m ≡ 0 → m.kind ≡ Home IfAnswered) marks mark has.from_one (λ none. absurd (omega (arith, none)));
     asked = All-push (λ (m : Mark). command_of m ≤ length (next.talk.requests (conn_of m))) marks mark
         (All-weaker (λ (m : Mark). command_of m ≤ length (tale.talk.requests (conn_of m)))
         (λ (m : Mark). command_of m ≤ length (next.talk.requests (conn_of m)))
@@ -102,8 +107,45 @@ module _ (now : ℕ) (marks : List Mark) (tale next : Tale) (conn : ℕ) (kind :
         (λ (its : (tells_client kind ≡ true) × (other ≡ conn) × (number ≡ length (tale.told conn) + 1)).
         record { mark = mark; there = Contains-push marks mark; tells = its.0; its_conn = sym its.1; its_number = sym its.2 })
         (by.only other number low);
+    told_few = λ other. ⊎_elim
+        (λ (early : length (next.told other) ≤ length (tale.told other)). omega (arith, early, has.told_few other, asked_now other))
+        (λ (its : (tells_client kind ≡ true) × (other ≡ conn) × (length (next.told other) ≡ length (tale.told conn) + 1)).
+        omega (arith, its.2, is_asked, asked_now conn, ap (λ c. length (next.talk.requests c)) its.1))
+        (by.only other (length (next.told other)) (omega arith));
     replied = replied;
   }
+
+-- ---- a mark of a command of which its client was told is put behind
+
+low_asked : (marks : List Mark) (tale : Tale) → HasTellings marks tale → (mark : Mark) → command_of mark ≤ length (tale.told (conn_of mark))
+    → command_of mark ≤ length (tale.talk.requests (conn_of mark))
+low_asked marks tale has mark low = omega (arith, low, has.told_few (conn_of mark))
+
+home_tells : (kind : MarkKind) → kind ≡ Home IfAnswered → tells_client kind ≡ true → ⊥
+unfolding tells_client
+home_tells (Home counts) late told = cc
+home_tells (Told how) late told = cc
+
+put_late : (marks : List Mark) (tale : Tale) (mark : Mark) → mark.kind ≡ Home IfAnswered → command_of mark ≤ length (tale.told (conn_of mark))
+    → HasTellings marks tale → HasTellings (marks ++ mark ∷ []) tale
+put_late marks tale mark late low has = record {
+  ends = marks_push EndsTelling marks mark has.ends (λ k d h. λ tells same behind. late);
+  low = All-push (λ (m : Mark). tells_client m.kind ≡ true → command_of m ≤ length (tale.told (conn_of m))) marks mark has.low
+      (λ tells. absurd (home_tells mark.kind late tells));
+  from_one = All-push (λ (m : Mark). command_of m ≡ 0 → m.kind ≡ Home IfAnswered) marks mark has.from_one (λ none. late);
+  asked = All-push (λ (m : Mark). command_of m ≤ length (tale.talk.requests (conn_of m))) marks mark has.asked (low_asked marks tale has mark low);
+  each = λ other number above told.
+      let its = has.each other number above told in
+      record {
+        mark = its.mark;
+        there = Contains-append_left marks (mark ∷ []) its.mark its.there;
+        tells = its.tells;
+        its_conn = its.its_conn;
+        its_number = its.its_number;
+      };
+  told_few = has.told_few;
+  replied = has.replied;
+}
 
 -- ---- what is told
 
@@ -193,6 +235,7 @@ none_told moving = record {
   from_one = λ k d h. absurd (omega arith);
   asked = λ k d h. absurd (omega arith);
   each = λ conn number above low. absurd (omega arith);
+  told_few = λ conn. omega arith;
   replied = λ conn. omega arith;
 }
 
@@ -208,6 +251,7 @@ more_asked marks tale requests more has =
       asked = All-weaker (λ (m : Mark). command_of m ≤ length (tale.talk.requests (conn_of m))) (λ (m : Mark). command_of m ≤ length (requests (conn_of m)))
           (λ m h. omega (arith, h, longer (conn_of m))) marks has.asked;
       each = has.each;
+      told_few = λ other. omega (arith, has.told_few other, longer other);
       replied = λ other. omega (arith, has.replied other, longer other);
     }
 
@@ -221,6 +265,8 @@ has_tellings setting now marks tale (sees at those its conn request unreplied as
     put_behind at those its its conn (Home _) before
     (subst (λ b. TellsBy b its its conn) (sym (no_client _)) (tells_nothing its its conn refl refl))
     (omega (arith, numbered_within (its.talk.requests conn) (length (its.told conn) + 1) request asked)) before.replied
+has_tellings setting now marks tale (sees_late at those its id low made) =
+    put_late those its (record { step = at; ask = id; kind = Home IfAnswered }) refl low (has_tellings setting at those its made)
 has_tellings setting now marks tale (carries_out at those its conn counts request serial can unless made) =
     let before = has_tellings setting at those its made in
     let open_asked : length (its.told conn) < length (its.talk.requests conn) =
@@ -269,5 +315,6 @@ has_tellings setting now marks tale (takes_back at those its conn answer untold 
       from_one = before.from_one;
       asked = before.asked;
       each = before.each;
+      told_few = before.told_few;
       replied = said_back its conn answer untold before.replied;
     }

@@ -13,7 +13,8 @@ use Rattle.cluster_core.specs.Headline.Outside.{table_at}
 use Rattle.cluster_core.proofs.OneServer.MarksGoOn.{steps_made}
 use Rattle.cluster_core.proofs.Runs.OneNodeLaw.{one_more_step}
 use Rattle.cluster_core.proofs.Commands.Moving.{MovesBy}
-use Rattle.cluster_core.proofs.Connections.KeepsLaw.{KeepsLaw, KeepsOn}
+use Rattle.cluster_core.proofs.Connections.KeepsBehind.{StepKeeps}
+use Rattle.cluster_core.proofs.Connections.KeepsLaw.{KeepsLaw}
 use Rattle.cluster_core.proofs.OneServer.EachStep.{EachKeeps, LawBehind, TellsMoves, heard_next, kept_all}
 use Rattle.cluster_core.proofs.OneServer.MovingLaw.{StartsWith, moves_then, moving_of}
 use Rattle.cluster_core.proofs.OneServer.OneHome.{one_home_each}
@@ -24,7 +25,7 @@ abbrev pub AnyStepKeeps : Config → (World → Type 0) → Type 0
 AnyStepKeeps config Holds = (came : ℕ → Heard) (world : World) (event : Event) (law : KeepsLaw config came world) → Holds world
     → NumbersFit (λ conn. hears config conn (came conn) event)
     → MovesBy law.story.talk.moving (world.steps + 1) (table_at (steps_by world event) (master_of config))
-    → KeepsOn config law.story law.stops (λ conn. hears config conn (came conn) event) (steps_by world event)
+    → StepKeeps config law.story law.stops (λ conn. hears config conn (came conn) event) (steps_by world event) event
 
 -- it holds behind each step
 abbrev pub HoldsBehindAll : Config → (World → Type 0) → List Event → Type 0
@@ -71,12 +72,18 @@ pub each_keeps : (config : Config) (steps : List Event) (Holds : World → Type 
 each_keeps config steps Holds any starts holds fit = record {
   first = (begins config steps starts).0;
   moves = (begins config steps starts).1;
-  next = λ before event later e law moves.
-      as_run config before event (λ came w. KeepsOn config law.story law.stops came w)
-      (any (λ conn. heard config conn before) (run_steps (start config) before) event law (holds before (event ∷ later) e)
-      (numbers_next config before event (fit (before ++ event ∷ []) later (e ∙ sym (append_assoc before (event ∷ []) later))))
-      (moves_next config steps before event later law.story.talk.moving e moves));
+  next = λ before event later e law moves. (keeps before event later e law moves).0;
+  grows = λ before event later e law moves. (keeps before event later e law moves).1;
 }
+  where
+    keeps : (before : List Event) (event : Event) (later : List Event) → steps ≡ before ++ event ∷ later → (law : LawBehind config before)
+        → TellsMoves config steps before law
+        → StepKeeps config law.story law.stops (λ conn. heard config conn (before ++ event ∷ [])) (run_steps (start config) (before ++ event ∷ [])) event
+    keeps before event later e law moves =
+        as_run config before event (λ came w. StepKeeps config law.story law.stops came w event)
+        (any (λ conn. heard config conn before) (run_steps (start config) before) event law (holds before (event ∷ later) e)
+        (numbers_next config before event (fit (before ++ event ∷ []) later (e ∙ sym (append_assoc before (event ∷ []) later))))
+        (moves_next config steps before event later law.story.talk.moving e moves))
 
 -- ---- the home law
 

@@ -13,7 +13,7 @@ use Rattle.cluster_core.specs.Flow.{run_steps, steps_of_run}
 use Rattle.cluster_core.specs.Headline.Closed.{GivesNoMore}
 use Rattle.cluster_core.specs.Shown.{given_to}
 use Rattle.cluster_core.specs.World.{start}
-use Rattle.cluster_core.proofs.Connections.KeepsLaw.{KeepsLaw, KeepsOn}
+use Rattle.cluster_core.proofs.Connections.KeepsLaw.{KeepsBehind, KeepsLaw}
 use Rattle.cluster_core.proofs.Links.Stand.{LinksStand}
 use Rattle.cluster_core.proofs.Links.StandLaw.{links_stand}
 use Rattle.cluster_core.proofs.OneServer.EachStep.{EachKeeps, LawBehind, TellsMoves, heard_next, kept_all}
@@ -32,7 +32,7 @@ not_elsewhere came shut e = (let no : false ≡ true = sym (ap has_closed e) ∙
 
 -- what a client was given is the transcript of what was heard of it and of what it was told
 step_gives : (config : Config) (now then : ℕ → Heard) (world next : World) (conn : ℕ) → LinksStand config world → LinksStand config next
-    → (law : KeepsLaw config now world) → KeepsOn config law.story law.stops then next → then conn ≡ now conn → has_closed (now conn) ≡ true
+    → (law : KeepsLaw config now world) → KeepsBehind config law.story law.stops then next → then conn ≡ now conn → has_closed (now conn) ≡ true
     → given_to next conn ≡ given_to world conn
 step_gives config now then world next conn links links_then law on same shut =
     let was = says_of config now world law links conn in
@@ -54,7 +54,7 @@ stays_given config steps before (event ∷ more) later conn are each e law moves
     heard_next config conn before event ∙ closed_hears config conn (heard config conn before) event shut in
     sym (ap (λ s. given_to (run_steps (start config) s) conn) (append_assoc before (event ∷ []) more))
     ∙ stays_given config steps (before ++ event ∷ []) more later conn are each (e ∙ sym (append_assoc before (event ∷ []) (more ++ later))) on.law
-    (on.more.moving ∙ moves) (ap has_closed same ∙ shut)
+    (on.moving ∙ moves) (ap has_closed same ∙ shut)
     ∙ step_gives config (λ c. heard config c before) (λ c. heard config c (before ++ event ∷ [])) (run_steps (start config) before)
     (run_steps (start config) (before ++ event ∷ [])) conn (links_stand config before are) (links_stand config (before ++ event ∷ []) are) law on same shut
 

@@ -1,16 +1,25 @@
 -- The law at each step of a run, where each step keeps it.
-use Rattle.std.proofs.Common.{◌≡◌, ℕ, List, [], ◌∷◌, ◌++◌, refl, sym, ◌∙◌, ap, subst, append_assoc}
+use Rattle.std.proofs.Common.{◌≡◌, ℕ, List, [], ◌∷◌, ◌++◌, length, take, refl, sym, ◌∙◌, ap, subst, append_assoc}
 use Rattle.std.proofs.lemmas.List.{append-nil}
 use Rattle.imap_talk.specs.Heard.{Heard, nobody}
-use Rattle.mark_history.specs.Marked.{talk_told}
+use Rattle.mark_history.specs.Marked.{AreMarked, Tale}
+use Rattle.mark_history.specs.declared.mark.Mark.{Mark}
+use Rattle.mark_history.proofs.SettledTalk.{SerialsGoOn, settled_talk, settled_talk_goes_on}
+use Rattle.mark_history.proofs.SettledTalk.SerialsGoOn.{more_given, taken_back}
 use Rattle.mur_config.specs.declared.config.Config.{Config}
 use Rattle.mur_model.specs.History.{Talk, TalkGoesOn}
 use Rattle.mur_model.proofs.HistoryGrows.{same_talk, talks_follow}
 use Rattle.schedule_text.specs.declared.event.Event.{Event}
 use Rattle.cluster_core.specs.Heard.{heard, heard_from, hears}
 use Rattle.cluster_core.specs.Flow.{run_steps}
-use Rattle.cluster_core.specs.World.{start}
-use Rattle.cluster_core.proofs.Connections.KeepsLaw.{KeepsLaw, KeepsOn}
+use Rattle.cluster_core.specs.World.{setting_of, start}
+use Rattle.cluster_core.specs.declared.world.World.{World}
+use Rattle.cluster_core.proofs.Commands.Standing.{Fixed}
+use Rattle.cluster_core.proofs.Connections.ConnectionLaw.{SaysOn}
+pub use Rattle.cluster_core.proofs.Connections.KeepsBehind.{IsNoCut}
+use Rattle.cluster_core.proofs.Connections.KeepsLaw.{KeepsBehind, KeepsLaw, SaidOn, fixed_of}
+use Rattle.cluster_core.proofs.Connections.KeepsLaw.SaidOn.{back as said_back, on as said_on}
+use Rattle.cluster_core.proofs.OneServer.MarksGoOn.{run_goes_on, run_steps-append}
 use Rattle.cluster_core.proofs.OneServer.MovingLaw.{moving_of}
 
 -- behind these steps of a run
@@ -27,13 +36,20 @@ pub record EachKeeps (config : Config) (steps : List Event) : Type 0 where
   pub moves : TellsMoves config steps [] first
   pub next : (before : List Event) (event : Event) (later : List Event) → steps ≡ before ++ event ∷ later → (law : LawBehind config before)
       → TellsMoves config steps before law
-      → KeepsOn config law.story law.stops (λ conn. heard config conn (before ++ event ∷ [])) (run_steps (start config) (before ++ event ∷ []))
+      → KeepsBehind config law.story law.stops (λ conn. heard config conn (before ++ event ∷ [])) (run_steps (start config) (before ++ event ∷ []))
+  -- only a cut takes replies back
+  pub grows : (before : List Event) (event : Event) (later : List Event) (parts : steps ≡ before ++ event ∷ later) (law : LawBehind config before)
+      (moves : TellsMoves config steps before law) → IsNoCut event → SaysOn law.story (next before event later parts law moves).law.story
+
+-- what was said behind these steps and can't be taken back
+abbrev pub said_behind : (config : Config) (steps : List Event) → LawBehind config steps → Talk
+said_behind config steps law = settled_talk (run_steps (start config) steps).marks law.story
 
 -- the law behind some of the steps of a run in which this will have been said
 pub record IsKeptAt (config : Config) (all : List Event) (talk : Talk) (steps : List Event) : Type 0 where
   pub law : LawBehind config steps
   pub moves : TellsMoves config all steps law
-  pub more : TalkGoesOn (talk_told law.story) talk
+  pub more : TalkGoesOn (said_behind config steps law) talk
 
 -- and behind each
 pub record KeepsAll (config : Config) (steps : List Event) : Type 0 where
@@ -54,22 +70,49 @@ at_an_event P before event rest is later (first ∷ front) back e =
     let behind : rest ≡ front ++ back = cc in
     subst (λ (x : Event). P (before ++ x ∷ front)) same (subst P (append_assoc before (event ∷ []) front) (later front back behind))
 
+-- ---- a step takes back nothing of what can't be
+
+serials_go_on : (fixed : Fixed) (before : Tale) (world : World) (story : Tale) (conn : ℕ) → SaidOn fixed before world story conn → SerialsGoOn before story conn
+serials_go_on fixed before world story conn (said_on more grows) = more_given more.0 more.1
+serials_go_on fixed before world story conn (said_back is) =
+    taken_back (is.serials ∙ ap (λ l. take (length l) (before.talk.serials conn)) (sym is.said))
+
+marks_next : (config : Config) (before : List Event) (event : Event)
+    → (more : List Mark) × ((run_steps (start config) (before ++ event ∷ [])).marks ≡ (run_steps (start config) before).marks ++ more)
+marks_next config before event =
+    let on = run_goes_on (run_steps (start config) before) (event ∷ []) in
+    (on.rest, ap (λ (w : World). w.marks) (run_steps-append (start config) before (event ∷ [])) ∙ on.parts)
+
+step_goes_on : (config : Config) (before : List Event) (event : Event) (law : LawBehind config before)
+    (keeps : KeepsBehind config law.story law.stops (λ conn. heard config conn (before ++ event ∷ [])) (run_steps (start config) (before ++ event ∷ [])))
+    → TalkGoesOn (said_behind config before law) (said_behind config (before ++ event ∷ []) keeps.law)
+step_goes_on config before event law keeps =
+    let world : World = run_steps (start config) before in
+    let next : World = run_steps (start config) (before ++ event ∷ []) in
+    let more = marks_next config before event in
+    subst (λ marks. TalkGoesOn (said_behind config before law) (settled_talk marks (keeps.law).story)) (sym more.1)
+    (settled_talk_goes_on (setting_of config) world.steps next.steps world.marks more.0 law.story (keeps.law).story law.is_told.marked
+    (subst (λ marks. AreMarked (setting_of config) next.steps marks (keeps.law).story) more.1 ((keeps.law).is_told).marked) keeps.requests keeps.answers
+    keeps.moving (λ conn. serials_go_on (fixed_of config) law.story next (keeps.law).story conn (keeps.said conn)))
+
 record KeepsFrom (config : Config) (steps : List Event) (said : Talk) (before rest : List Event) : Type 0 where
   talk : Talk
   more : TalkGoesOn said talk
   at : (front back : List Event) → rest ≡ front ++ back → IsKeptAt config steps talk (before ++ front)
 
 kept_from : (config : Config) (steps before rest : List Event) → EachKeeps config steps → steps ≡ before ++ rest → (law : LawBehind config before)
-    → TellsMoves config steps before law → KeepsFrom config steps (talk_told law.story) before rest
+    → TellsMoves config steps before law → KeepsFrom config steps (said_behind config before law) before rest
 kept_from config steps before [] each e law moves = record {
-  talk = talk_told law.story;
-  more = same_talk (talk_told law.story);
-  at = at_the_end (IsKeptAt config steps (talk_told law.story)) before (record { law = law; moves = moves; more = same_talk (talk_told law.story) });
+  talk = said_behind config before law;
+  more = same_talk (said_behind config before law);
+  at = at_the_end (IsKeptAt config steps (said_behind config before law)) before
+      (record { law = law; moves = moves; more = same_talk (said_behind config before law) });
 }
 kept_from config steps before (event ∷ rest) each e law moves =
     let one = each.next before event rest e law moves in
-    let all = kept_from config steps (before ++ event ∷ []) rest each (e ∙ sym (append_assoc before (event ∷ []) rest)) one.law (one.more.moving ∙ moves) in
-    let more = talks_follow (talk_told law.story) (talk_told one.law.story) all.talk one.more all.more in
+    let all = kept_from config steps (before ++ event ∷ []) rest each (e ∙ sym (append_assoc before (event ∷ []) rest)) one.law (one.moving ∙ moves) in
+    let more =
+    talks_follow (said_behind config before law) (said_behind config (before ++ event ∷ []) one.law) all.talk (step_goes_on config before event law one) all.more in
     record {
       talk = all.talk;
       more = more;

@@ -11,7 +11,6 @@ use Rattle.imap_talk.proofs.RequestsOf.{asks_all}
 use Rattle.imap_talk.proofs.SoundStores.{empty_is}
 use Rattle.mail_store.specs.Kept.{AreUidsBelowNext}
 use Rattle.mark_history.specs.FirstCourse.{first_course}
-use Rattle.mark_history.specs.Marked.{talk_told}
 use Rattle.mark_history.specs.Moments.{GoOn}
 use Rattle.mur_config.specs.declared.config.Config.{Config}
 use Rattle.mur_config.specs.Nodes.{AreNodes}
@@ -48,7 +47,7 @@ use Rattle.cluster_core.specs.Numbers.{NumbersFitAll}
 use Rattle.cluster_core.specs.Shown.{given_to}
 use Rattle.cluster_core.specs.World.{start}
 use Rattle.cluster_core.proofs.OneServer.Boxes.{has_boxes, has_rights}
-use Rattle.cluster_core.proofs.OneServer.EachStep.{EachKeeps, IsKeptAt, LawBehind, kept_all}
+use Rattle.cluster_core.proofs.OneServer.EachStep.{EachKeeps, IsKeptAt, LawBehind, kept_all, said_behind}
 use Rattle.cluster_core.proofs.OneServer.HistoryLaw.{history_is, stands_in_time}
 use Rattle.cluster_core.proofs.OneServer.MarksGoOn.{run_goes_on, steps_made}
 use Rattle.cluster_core.proofs.Runs.Unrolled.{run_steps-append}
@@ -88,6 +87,7 @@ told_so_far config steps talk before later are date_is silent earlier fits now l
     let all : ℕ → Heard = λ conn. heard config conn (before ++ later) in
     let says : (conn : ℕ) → SaysOf (law_setting config) world conn (law.stops conn) (came conn) (law.story.told conn) =
     λ conn. says_of config came world law (links_stand config before are) conn in
+    let so_far : Talk = said_behind config before law in
     let history = history_is config came world law in
     let legal = history.legal in
     let on : GoOn world.steps world.marks whole.marks =
@@ -97,16 +97,16 @@ told_so_far config steps talk before later are date_is silent earlier fits now l
     (asks_all (law_setting config) (frames_heard (came conn))) in
     let rises : (name : List ℕ) → IfSome (box_at legal.last.store name) Rises =
     λ name. box_rises legal.last.store name
-    (points_rise (law_setting config) (talk_told law.story) first_course legal.last (history_of world) legal.legal.follows none_rises) in
+    (points_rise (law_setting config) so_far first_course legal.last (history_of world) legal.legal.follows none_rises) in
     let below : (name : List ℕ) → IfSome (box_at legal.last.store name) AreUidsBelowNext =
     λ name. some_below (box_at legal.last.store name) (rises name) in
     record {
-      so_far = talk_told law.story;
+      so_far = so_far;
       goes_on = now.more;
       asked = asked;
       stops = law.stops;
       given = λ conn mail. (says conn).given (λ _. silent conn mail);
-      read = λ conn mail. read_of_legal (law_setting config) first_course (talk_told law.story) (history_of world) legal.last legal.legal date_is empty_is
+      read = λ conn mail. read_of_legal (law_setting config) first_course so_far (history_of world) legal.last legal.legal date_is empty_is
           (λ other. heard_sound (law_setting config) (came other) (law.story.talk.requests other) (asked other)) conn (law.stops conn) (given_to world conn)
           (bytes_heard (came conn)) ((says conn).given (λ _. silent conn mail));
       ends_only_last = λ conn. (says conn).lasts;
@@ -114,7 +114,7 @@ told_so_far config steps talk before later are date_is silent earlier fits now l
       legal = legal.legal;
       stops_late = before_cut ((conn : ℕ) → law.stops conn ≡ silent_stop) (λ whole conn. (says conn).cut whole) (uncut config before);
       reached = before_cut (All IsReached (history_of world)) (λ whole. reached_in world (law.is_told.reached whole)) (uncut config before);
-      refusals = have_causes (law_setting config) first_course (talk_told law.story) (history_of world) legal.last legal.legal;
+      refusals = have_causes (law_setting config) first_course so_far (history_of world) legal.last legal.legal;
       one_content = subst (λ (s : Store). HasBoxesOf config s world) (sym legal.same_store) (has_boxes config came world law);
       rights = subst (λ (s : Store). HasItsRights config s world) (sym legal.same_store) (has_rights config came world law);
       homes_shown = subst (λ (s : Store). ShowsBoxesOf config s world) (sym legal.same_store) (shows_boxes config came world law are);
@@ -124,18 +124,18 @@ told_so_far config steps talk before later are date_is silent earlier fits now l
       appended_there = keeps_appended (law_setting config) legal.last.store rises;
       done = does_what_it_says (law_setting config) legal.last.store rises;
       others_unseen = λ conn. keeps_to_its_own (law_setting config) legal.last.store (legal.last.sessions conn)
-          (points_own (law_setting config) (talk_told law.story) first_course legal.last (history_of world) legal.legal.follows
+          (points_own (law_setting config) so_far first_course legal.last (history_of world) legal.legal.follows
           (none_own (law_setting config)) conn);
       lists = lists_mailboxes (law_setting config) legal.last.store;
-      views_told = views_are_told (law_setting config) first_course (talk_told law.story) (history_of world) legal.last legal.legal none_rises (λ conn. refl);
-      news_told = news_are_told (law_setting config) first_course (talk_told law.story) (history_of world) legal.last legal.legal none_rises none_given (λ conn. refl);
+      views_told = views_are_told (law_setting config) first_course so_far (history_of world) legal.last legal.legal none_rises (λ conn. refl);
+      news_told = news_are_told (law_setting config) first_course so_far (history_of world) legal.last legal.legal none_rises none_given (λ conn. refl);
       low_serials = subst (λ (s : Store). All (λ (pair : Pair). pair.serial ≤ reserves_taken config before) s.given) (sym legal.same_store)
           (serials_are_low config are before law);
       lost_next = history.lost_next;
       made_by_now = history.made_by_now;
       in_time = stands_in_time config came all world whole law last on;
-      routed = are_routed config are before (λ front back parts. (earlier front back parts).law) law fits talk now.more
-          (λ front back parts. (earlier front back parts).more);
+      routed = are_routed config are before (λ front back parts. (earlier front back parts).law) law fits talk.requests (now.more).requests
+          (λ front back parts. ((earlier front back parts).more).requests);
       counted = steps_made config before;
       nothing_waits = λ empty conn stays.
           subst (λ r. IsAnsweredThrough r (law.story.told conn) ⊎ (law.stops conn ≡ is_lost)) (sym (law.requests conn)) ((says conn).waits_not empty stays);

@@ -12,10 +12,11 @@ use Rattle.imap_types.specs.declared.request.Answer.{Answer}
 use Rattle.imap_types.specs.declared.request.Request.{Request}
 use Rattle.imap_types.specs.declared.request.Request.TheVariants.{Command as a_command}
 use Rattle.link_msg.specs.declared.how.How.TheVariants.{Here}
-use Rattle.mark_history.specs.Marked.{AreMarked, Tale, done, refusal, telling, talk_told}
-use Rattle.mark_history.specs.Marked.AreMarked.{nothing, a_step, asks, sees, carries_out, tells, tells_at_once, refuses, refuses_at_once, takes_back}
+use Rattle.mark_history.specs.Marked.{AreMarked, Tale, done, refusal, telling}
+use Rattle.mark_history.specs.Marked.AreMarked.{nothing, a_step, asks, sees, sees_late, carries_out, tells, tells_at_once, refuses, refuses_at_once, takes_back}
 use Rattle.mark_history.specs.declared.mark.Mark.{Mark}
 use Rattle.mark_history.specs.declared.mark.MarkKind.TheVariants.{Told}
+use Rattle.mark_history.proofs.SettledTalk.{settled_talk}
 use Rattle.mark_history.proofs.TakenBack.{list_at}
 use Rattle.mur_base.specs.declared.point.AskId.{AskId}
 use Rattle.mur_model.specs.Act.{act_by, act_of, need_begun, need_in, need_of, need_selected, need_taken}
@@ -82,6 +83,8 @@ module _ (setting : Setting) where
       still_so its _ more (same_lists its.told) those (answered_alone at those its made)
   answered_alone now marks tale (sees at those its conn request unreplied asked made) =
       push its those _ (answered_alone at those its made) (λ here. cc)
+  answered_alone now marks tale (sees_late at those its id low made) =
+      push its those _ (answered_alone at those its made) (λ here. cc)
   answered_alone now marks tale (carries_out at those its conn counts request serial can unless made) =
       push _ those _ (still_so its _ (same_lists its.talk.requests) (same_lists its.told) those (answered_alone at those its made)) (λ here. cc)
   answered_alone now marks tale (tells at those its conn answer untold made) =
@@ -147,9 +150,9 @@ just e = cc
 
 -- no frontend answers it alone
 pub none_listed : (setting : Setting) (now : ℕ) (marks : List Mark) (tale : Tale) → AreMarked setting now marks tale
-    → All (λ (mark : Mark). mark.kind ≡ Told Here → IsListed (talk_told tale) mark.ask → ⊥) marks
+    → All (λ (mark : Mark). mark.kind ≡ Told Here → IsListed (settled_talk marks tale) mark.ask → ⊥) marks
 none_listed setting now marks tale made =
-    All-weaker (IfHere setting tale) (λ (mark : Mark). mark.kind ≡ Told Here → IsListed (talk_told tale) mark.ask → ⊥)
+    All-weaker (IfHere setting tale) (λ (mark : Mark). mark.kind ≡ Told Here → IsListed (settled_talk marks tale) mark.ask → ⊥)
     (λ mark so here listed.
     let its = so here in
     let list = listed.is_list in

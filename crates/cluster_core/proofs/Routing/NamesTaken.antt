@@ -1,5 +1,5 @@
 -- No step works on a LIST but the one in which the master takes its NOOP: a LIST needs no mailbox.
-use Rattle.std.proofs.Common.{◌≡◌, ℕ, Bool, true, false, List, ◌∷◌, Option, Some, sym, ◌∙◌, ap, subst, if◌then◌else◌}
+use Rattle.std.proofs.Common.{◌≡◌, ℕ, ◌+◌, ◌≤◌, Bool, true, false, List, ◌∷◌, length, Option, Some, sym, ◌∙◌, ap, subst, if◌then◌else◌}
 use Rattle.cluster_core.specs.Flow.{run_steps}
 use Rattle.cluster_core.specs.Headline.Routing.{IsList, IsStepOf, TakesNoop, Taken}
 use Rattle.cluster_core.specs.Headline.Routing.IsStepOf.{at_home, at_master}
@@ -15,12 +15,12 @@ use Rattle.imap_types.specs.declared.request.Request.{Request}
 use Rattle.imap_types.specs.declared.request.Request.TheVariants.{Command as a_command}
 use Rattle.link_msg.specs.declared.message.LinkMsg.{LinkMsg}
 use Rattle.link_msg.specs.declared.message.LinkMsg.TheVariants.{Line}
-use Rattle.mark_history.specs.Marked.{talk_told}
+use Rattle.mupdate_codec.specs.Asks.{line_ask}
 use Rattle.mur_base.specs.declared.point.AskId.{AskId}
 use Rattle.mur_config.specs.declared.config.Config.{Config}
 use Rattle.mur_model.proofs.HistoryGrows.{numbered_on}
 use Rattle.mur_model.specs.Act.{need_begun, need_in, need_of, need_selected, need_taken}
-use Rattle.mur_model.specs.History.{Talk, TalkGoesOn, numbered}
+use Rattle.mur_model.specs.History.{GoesOn, Talk, numbered}
 use Rattle.mur_model.specs.Listing.{list, separator_told}
 use Rattle.mur_model.specs.Needed.{Mailbox, Names, Work}
 use Rattle.mur_model.specs.Traits.{is_in, may_be, traits_of}
@@ -56,8 +56,10 @@ same_command e = cc
 
 -- ---- its step
 
-module _ (config : Config) (steps : List Event) (talk whole : Talk) (on : TalkGoesOn talk whole) (taken : Taken config steps) (law : LawBehind config taken.before)
-    (earlier : TalkGoesOn (talk_told law.story) whole) (fits : NumbersFit (λ conn. heard config conn taken.before)) (id : AskId) (is_list : IsList talk id) where
+module _ (config : Config) (steps : List Event) (talk : Talk) (whole : ℕ → List Request) (on : GoesOn talk.requests whole) (taken : Taken config steps)
+    (law : LawBehind config taken.before) (earlier : GoesOn law.story.talk.requests whole) (fits : NumbersFit (λ conn. heard config conn taken.before))
+    (id : AskId) (is_list : IsList talk id)
+    (is_on : (line : List ℕ) → taken.message ≡ Line line → line_ask line ≡ Some id → length (law.story.told id.conn) + 1 ≤ id.command) where
   abbrev came : ℕ → Heard
   came conn = heard config conn taken.before
 
@@ -67,9 +69,9 @@ module _ (config : Config) (steps : List Event) (talk whole : Talk) (on : TalkGo
   -- no command of this number needs a mailbox
   no_mailbox : (tag : Tag) (c : ClientCommand) → IsOf config came world law id tag c.it → ⊥
   no_mailbox tag c asked =
-      let early : numbered (whole.requests id.conn) id.command ≡ Some (a_command tag c.it) =
-      numbered_on law.story.talk.requests whole.requests earlier.requests id.conn id.command (a_command tag c.it) asked in
-      let late = numbered_on talk.requests whole.requests on.requests id.conn id.command (a_command is_list.tag (command.List is_list.reference is_list.mailbox))
+      let early : numbered (whole id.conn) id.command ≡ Some (a_command tag c.it) =
+      numbered_on law.story.talk.requests whole earlier id.conn id.command (a_command tag c.it) asked in
+      let late = numbered_on talk.requests whole on id.conn id.command (a_command is_list.tag (command.List is_list.reference is_list.mailbox))
       is_list.asked in
       let same : c.it ≡ command.List is_list.reference is_list.mailbox = same_command (sym early ∙ late) in
       needs_none c.setting c.was is_list.reference is_list.mailbox c.name c.work (ap (need_of c.setting c.was) (sym same) ∙ c.need)
@@ -84,4 +86,4 @@ module _ (config : Config) (steps : List Event) (talk whole : Talk) (on : TalkGo
       absurd (no_mailbox tells.tag tells.c (subst (λ (i : AskId). IsOf config came world law i tells.tag (tells.c).it) its tells.asked))
   takes_noop (at_master line is its mine) =
       by_line line is mine
-      (line_tells config came world law taken.from taken.to line taken.rest id (taken.comes ∙ ap (λ (m : LinkMsg). m ∷ taken.rest) is) its mine fits).is_line
+      (line_tells config came world law taken.from taken.to line taken.rest id (taken.comes ∙ ap (λ (m : LinkMsg). m ∷ taken.rest) is) its (is_on line is its) mine fits).is_line

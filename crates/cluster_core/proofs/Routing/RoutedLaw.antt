@@ -1,24 +1,27 @@
 -- Each point of a run's history stands where a step worked on its command, or where its frontend answered it alone; and each ask for messages and each new
 -- mailbox has its point.
-use Rattle.std.proofs.Common.{◌≡◌, ◌≢◌, ◌⊎◌, inl, inr, ℕ, ◌+◌, ◌≤◌, ◌<◌, Bool, true, false, nat_le, List, [], ◌∷◌, ◌++◌, length, Option, Some, refl, sym, ◌∙◌, ap, subst, arith, length-append}
-use Rattle.std.specs.Prelude.{All, Contains}
+use Rattle.std.proofs.Common.{◌≡◌, ◌≢◌, ◌⊎◌, inl, inr, ℕ, ◌+◌, ◌≤◌, ◌<◌, Bool, true, false, nat_le, List, [], ◌∷◌, ◌++◌, length, Option, None, Some, refl, sym, ◌∙◌, ap, subst, arith, length-append}
+use Rattle.std.specs.Option.{IsSome}
+use Rattle.std.specs.Prelude.{All, Contains, is_some}
+use Rattle.std.proofs.Math.Logic.{⊎_elim}
 use Rattle.std.proofs.lemmas.Bool.Decides.{nat_tests}
 use Rattle.std.proofs.lemmas.List.Elements.{All-append, All-cons, All-contains, All-contains_itself, All-nil, Contains-append_left, Contains-push}
 use Rattle.cluster_core.specs.Heard.{heard}
-use Rattle.cluster_core.specs.World.{master_of, setting_of, start, steps_by}
+use Rattle.cluster_core.specs.World.{front_at, home_at, master_of, node_at, setting_of, start, steps_by}
+use Rattle.front_core.specs.declared.front.Front.{Front}
+use Rattle.imap_types.specs.declared.request.Request.{Request}
 use Rattle.link_msg.specs.declared.ask.FrontAsk.{FrontAsk}
 use Rattle.link_msg.specs.declared.counts.Counts.{Counts}
 use Rattle.link_msg.specs.declared.counts.Counts.TheVariants.{Always, IfAnswered}
 use Rattle.link_msg.specs.declared.how.How.{How}
 use Rattle.link_msg.specs.declared.how.How.TheVariants.{Here}
 use Rattle.link_msg.specs.declared.message.LinkMsg.{LinkMsg}
-use Rattle.link_msg.specs.declared.message.LinkMsg.TheVariants.{Ask}
+use Rattle.link_msg.specs.declared.message.LinkMsg.TheVariants.{Ask, Line}
 use Rattle.link_queue.specs.Links.{on_link}
 use Rattle.mark_history.specs.declared.mark.Mark.{Mark}
 use Rattle.mark_history.specs.declared.mark.MarkKind.{MarkKind}
 use Rattle.mark_history.specs.declared.mark.MarkKind.TheVariants.{Home, Told}
 use Rattle.mark_history.specs.History.{counts_as, point_as, points_of}
-use Rattle.mark_history.specs.Marked.{talk_told}
 use Rattle.mark_history.specs.Moments.{GoOn}
 use Rattle.mark_history.proofs.Counted.{TellsPoint, always_lost, always_replied, each_counted, each_told, none_lost, told_points}
 use Rattle.mark_history.proofs.Counted.TellsPoint.{here_replies, here_unreached}
@@ -31,7 +34,12 @@ use Rattle.mur_base.specs.declared.point.What.{What}
 use Rattle.mur_base.specs.declared.point.What.TheVariants.{Reply as replied, Lost as lost, Unreached as unreached_point}
 use Rattle.mur_config.specs.declared.config.Config.{Config}
 use Rattle.mur_config.specs.Nodes.{AreNodes}
-use Rattle.mur_model.specs.History.{Talk, TalkGoesOn}
+use Rattle.mupdate_codec.specs.Asks.{line_ask}
+use Rattle.mur_model.specs.History.{GoesOn as ListsGoOn, Talk}
+use Rattle.node_step.specs.NodeStep.{as_back, as_front, as_master}
+use Rattle.node_step.specs.declared.node.NodeState.{NodeState}
+use Rattle.node_step.specs.declared.node.NodeState.TheVariants as state
+use Rattle.node_step.proofs.NodeKinds.{a_back, a_front, a_master}
 use Rattle.schedule_text.specs.declared.event.Event.{Event}
 use Rattle.schedule_text.specs.declared.event.Event.TheVariants.{Deliver}
 use Rattle.cluster_core.specs.declared.world.World.{World}
@@ -45,17 +53,20 @@ use Rattle.cluster_core.specs.Headline.Routing.IsStepOf.{at_home, at_master}
 use Rattle.cluster_core.specs.Headline.Routing.StandsAt.{at_frontend, not_reached, where_taken}
 use Rattle.cluster_core.specs.History.{history_of}
 use Rattle.cluster_core.specs.Numbers.{NumbersFitAll}
+use Rattle.cluster_core.proofs.Keeps.AlwaysRuns.{run_holds}
 use Rattle.cluster_core.proofs.Runs.OneNodeLaw.{one_more_step}
-use Rattle.cluster_core.proofs.OneServer.EachStep.{LawBehind}
+use Rattle.cluster_core.proofs.OneServer.EachStep.{LawBehind, said_behind}
 use Rattle.cluster_core.proofs.OneServer.MarksGoOn.{run_goes_on, run_steps-append, steps_made}
 use Rattle.cluster_core.proofs.Routing.Alone.{none_listed}
-use Rattle.cluster_core.proofs.Routing.Begun.{IsAlone, never_alone}
+use Rattle.cluster_core.proofs.Routing.Begun.{IsAlone, IsBegun, never_alone}
 use Rattle.cluster_core.proofs.Routing.HomeAnswers.{IsServed, ask_is_served}
 use Rattle.cluster_core.proofs.Routing.HowMade.{IsMadeSo, IsToldAlone, all_made}
 use Rattle.cluster_core.proofs.Routing.HowMade.IsMadeSo.{is_taken, is_told}
+use Rattle.cluster_core.proofs.Routing.LateLines.{IsBarred, line_barred}
 use Rattle.cluster_core.proofs.Routing.Makes.{DiffersAt, MasterDeed, master_deeds, master_makes}
 use Rattle.cluster_core.proofs.Routing.NamesTaken.{takes_noop}
 use Rattle.cluster_core.proofs.Routing.Works.{IsUnderWay, ask_tells, line_tells}
+use Rattle.cluster_core.proofs.Serials.GoesOnLines.{line_is_on}
 use Rattle.cluster_core.proofs.Starts.Begins.{start_quiet}
 
 -- ---- lists
@@ -95,13 +106,13 @@ within number count = by (nat_le number count) refl
 
 module _ (config : Config) (are : AreNodes config.nodes) (steps : List Event)
     (laws : (before later : List Event) → steps ≡ before ++ later → LawBehind config before) (law : LawBehind config steps)
-    (fit : NumbersFitAll config steps) (all_said : Talk) (more : TalkGoesOn (talk_told law.story) all_said)
-    (each_more : (before later : List Event) (parts : steps ≡ before ++ later) → TalkGoesOn (talk_told (laws before later parts).story) all_said) where
+    (fit : NumbersFitAll config steps) (all_asked : ℕ → List Request) (more : ListsGoOn law.story.talk.requests all_asked)
+    (each_more : (before later : List Event) (parts : steps ≡ before ++ later) → ListsGoOn (laws before later parts).story.talk.requests all_asked) where
   abbrev whole : World
   whole = run_steps (start config) steps
 
   abbrev talk : Talk
-  talk = talk_told law.story
+  talk = said_behind config steps law
 
   abbrev at : List Event → World
   at before = run_steps (start config) before
@@ -130,33 +141,87 @@ module _ (config : Config) (are : AreNodes config.nodes) (steps : List Event)
 
   -- ---- a command that a frontend answered alone
 
-  under_way : (id : AskId) (taken : Taken config steps) → IsStepOf config steps id taken
-      → IsUnderWay config (λ conn. heard config conn taken.before) (at taken.before) (laws taken.before _ taken.parts) id
-  under_way id taken (at_home ask is its none home) =
+  -- who sent the master a message is a frontend, or a backend
+  sender_by : (taken : Taken config steps) → taken.to ≡ master_of config → (found : Option NodeState) → node_at (at taken.before) taken.from ≡ found
+      → ((front : Front) × (front_at (at taken.before) taken.from ≡ Some front)) ⊎ IsSome (home_at (at taken.before) taken.from)
+  sender_by taken mine None none =
+      absurd (let no : [] ≡ taken.message ∷ taken.rest = sym ((run_holds config taken.before).senders taken.from taken.to none) ∙ taken.comes in cc)
+  sender_by taken mine (Some (state.Front front)) there = inl (front, ap as_front there ∙ a_front front)
+  sender_by taken mine (Some (state.Back home)) there = inr (ap is_some (ap as_back there ∙ a_back home))
+  sender_by taken mine (Some (state.Master master)) there =
+      let its = laws taken.before _ taken.parts in
+      absurd (let me : taken.from ≡ master_of config = its.nodes.only taken.from master (ap as_master there ∙ a_master master) in
+      let none = ((run_holds config taken.before).masters (master_of config) its.master its.nodes.is_there).selfless in
+      let no : [] ≡ taken.message ∷ taken.rest =
+      sym none ∙ ap (λ f. on_link (at taken.before).links f (master_of config)) (sym me) ∙ ap (on_link (at taken.before).links taken.from) (sym mine) ∙ taken.comes in cc)
+
+  sender : (taken : Taken config steps) → taken.to ≡ master_of config
+      → ((front : Front) × (front_at (at taken.before) taken.from ≡ Some front)) ⊎ IsSome (home_at (at taken.before) taken.from)
+  sender taken mine = sender_by taken mine (node_at (at taken.before) taken.from) refl
+
+  line_there : (taken : Taken config steps) (line : List ℕ) → taken.message ≡ Line line → taken.to ≡ master_of config
+      → on_link (at taken.before).links taken.from (master_of config) ≡ Line line ∷ taken.rest
+  line_there taken line is mine =
+      ap (on_link (at taken.before).links taken.from) (sym mine) ∙ taken.comes ∙ ap (λ (m : LinkMsg). m ∷ taken.rest) is
+
+  -- a line of a frontend
+  barred : (taken : Taken config steps) (id : AskId) (line : List ℕ) → taken.message ≡ Line line → line_ask line ≡ Some id → taken.to ≡ master_of config
+      → (front : Front) → front_at (at taken.before) taken.from ≡ Some front → IsBarred config steps laws taken.before id line
+  barred taken id line is its mine front there =
+      line_barred config are steps laws fit taken.before _ taken.parts taken.from (master_of config) line taken.rest id (line_there taken line is mine) its front there
+
+  -- of a backend: its command isn't over
+  line_on : (taken : Taken config steps) (id : AskId) (line : List ℕ) → taken.message ≡ Line line → line_ask line ≡ Some id → taken.to ≡ master_of config
+      → IsSome (home_at (at taken.before) taken.from) → length ((laws taken.before _ taken.parts).story.told id.conn) + 1 ≤ id.command
+  line_on taken id line is its mine home =
+      line_is_on config (λ conn. heard config conn taken.before) (at taken.before) (laws taken.before _ taken.parts) taken.from line taken.rest id home
+      (line_there taken line is mine) its
+
+  -- the command had begun behind some of the steps, and was the first of which its client wasn't told
+  record HadBegun (id : AskId) : Type 0 where
+    before : List Event
+    later : List Event
+    parts : steps ≡ before ++ later
+    begun : IsBegun (at before) id
+    last : id.command ≡ length ((laws before later parts).story.told id.conn) + 1
+
+  had_begun : (id : AskId) (taken : Taken config steps) → IsStepOf config steps id taken → HadBegun id
+  had_begun id taken (at_home ask is its none home) =
       let law_then = laws taken.before _ taken.parts in
+      let way : IsUnderWay config (λ conn. heard config conn taken.before) (at taken.before) law_then id =
       subst (IsUnderWay config (λ conn. heard config conn taken.before) (at taken.before) law_then) its
       (ask_tells config (λ conn. heard config conn taken.before) (at taken.before) law_then taken.from taken.to ask taken.rest
-      (taken.comes ∙ ap (λ (m : LinkMsg). m ∷ taken.rest) is)).under_way
-  under_way id taken (at_master line is its mine) =
+      (taken.comes ∙ ap (λ (m : LinkMsg). m ∷ taken.rest) is)).under_way in
+      record { before = taken.before; later = _; parts = taken.parts; begun = way.begun; last = way.last }
+  had_begun id taken (at_master line is its mine) = ⊎_elim
+      (λ (front : (it : Front) × (front_at (at taken.before) taken.from ≡ Some it)).
+      let sent = barred taken id line is its mine front.0 front.1 in
+      record { before = sent.before; later = sent.later; parts = sent.parts; begun = sent.begun; last = sent.number })
+      (λ (home : IsSome (home_at (at taken.before) taken.from)).
+      let way : IsUnderWay config (λ conn. heard config conn taken.before) (at taken.before) (laws taken.before _ taken.parts) id =
       (line_tells config (λ conn. heard config conn taken.before) (at taken.before) (laws taken.before _ taken.parts) taken.from taken.to line taken.rest id
-      (taken.comes ∙ ap (λ (m : LinkMsg). m ∷ taken.rest) is) its mine (fit taken.before _ taken.parts)).under_way
+      (taken.comes ∙ ap (λ (m : LinkMsg). m ∷ taken.rest) is) its (line_on taken id line is its mine home) mine (fit taken.before _ taken.parts)).under_way in
+      record { before = taken.before; later = _; parts = taken.parts; begun = way.begun; last = way.last })
+      (sender taken mine)
 
   no_step : (made : Mark) (how : How) → Contains whole.marks made → made.kind ≡ Told how → IsToldAlone config steps made → (taken : Taken config steps)
       → IsStepOf config steps made.ask taken → ⊥
-  no_step made how there kind told taken works = by (within (length taken.before) (length told.at.before))
+  no_step made how there kind told taken works = by (had_begun made.ask taken works)
     where
-      by : (length taken.before ≤ length told.at.before) ⊎ (length told.at.before < length taken.before) → ⊥
-      by (inl first) =
-          let on = fronts taken.before _ told.at.before _ (sym taken.parts ∙ told.at.parts) first in
-          never_alone (at taken.before) on.more made.ask (under_way made.ask taken works).begun
-          (subst (λ (w : World). IsAlone w made.ask) (ap (run_steps (start config)) on.parts ∙ run_steps-append (start config) taken.before on.more) told.alone)
-      by (inr later) =
-          let law_then = laws taken.before _ taken.parts in
+      by : HadBegun made.ask → ⊥
+      by had = ⊎_elim
+          (λ (first : length had.before ≤ length told.at.before).
+          let on = fronts had.before _ told.at.before _ (sym had.parts ∙ told.at.parts) first in
+          never_alone (at had.before) on.more made.ask had.begun
+          (subst (λ (w : World). IsAlone w made.ask) (ap (run_steps (start config)) on.parts ∙ run_steps-append (start config) had.before on.more) told.alone))
+          (λ (later : length told.at.before < length had.before).
+          let law_then = laws had.before had.later had.parts in
           let low : command_of made ≤ length (law_then.story.told (conn_of made)) =
-          All-contains (λ (m : Mark). tells_client m.kind ≡ true → command_of m ≤ length (law_then.story.told (conn_of m))) (at taken.before).marks made
-          (has_tellings (setting_of config) (at taken.before).steps (at taken.before).marks law_then.story law_then.is_told.marked).low
-          (early taken.before _ taken.parts made there (omega (arith, later, told.at.step_is))) (tells_it made.kind how kind) in
-          absurd (omega (arith, low, (under_way made.ask taken works).last))
+          All-contains (λ (m : Mark). tells_client m.kind ≡ true → command_of m ≤ length (law_then.story.told (conn_of m))) (at had.before).marks made
+          (has_tellings (setting_of config) (at had.before).steps (at had.before).marks law_then.story law_then.is_told.marked).low
+          (early had.before had.later had.parts made there (omega (arith, later, told.at.step_is))) (tells_it made.kind how kind) in
+          absurd (omega (arith, low, had.last)))
+          (within (length had.before) (length told.at.before))
 
   -- ---- a mark that always counts is a point
 
@@ -195,7 +260,7 @@ module _ (config : Config) (are : AreNodes config.nodes) (steps : List Event)
     of_step P new more each =
         let IfThen : Mark → Type 0 = λ made. made.step ≡ length before + 1 → P made in
         let then = laws before (event ∷ later) parts in
-        let timely = (holds (setting_of config) (at before).steps (at before).marks then.story then.is_told.marked).order.timely in
+        let timely = (holds (setting_of config) (at before).steps (at before).marks then.story then.is_told.marked).timely in
         subst (λ (m : List Mark). All IfThen m) (sym (behind.parts ∙ ap (λ m. m ++ behind.rest) more))
         (All-append IfThen ((at before).marks ++ new) behind.rest
         (All-append IfThen (at before).marks new
@@ -377,9 +442,16 @@ module _ (config : Config) (are : AreNodes config.nodes) (steps : List Event)
 
   -- a step that works on a LIST takes its NOOP
   noop_of : (taken : Taken config steps) (id : AskId) → IsList talk id → IsStepOf config steps id taken → TakesNoop config steps taken id
-  noop_of taken id is_list =
-      takes_noop config steps talk all_said more taken (laws taken.before _ taken.parts) (each_more taken.before _ taken.parts)
-      (fit taken.before _ taken.parts) id is_list
+  noop_of taken id is_list (at_master line is its mine) = ⊎_elim
+      (λ (front : (it : Front) × (front_at (at taken.before) taken.from ≡ Some it)).
+      record { line = is ∙ ap Line (barred taken id line is its mine front.0 front.1).line_is; to = mine })
+      (λ (home : IsSome (home_at (at taken.before) taken.from)).
+      takes_noop config steps talk all_asked more taken (laws taken.before _ taken.parts) (each_more taken.before _ taken.parts) (fit taken.before _ taken.parts) id
+      is_list (λ other e told. line_on taken id other e told mine home) (at_master line is its mine))
+      (sender taken mine)
+  noop_of taken id is_list (at_home ask is its none home) =
+      takes_noop config steps talk all_asked more taken (laws taken.before _ taken.parts) (each_more taken.before _ taken.parts) (fit taken.before _ taken.parts) id
+      is_list (λ other e told. (let no : Ask ask ≡ Line other = sym is ∙ e in cc)) (at_home ask is its none home)
 
   -- a LIST of names that was answered OK stands where the master takes its NOOP
   abbrev NotAlone : Mark → Type 0
