@@ -195,20 +195,20 @@ among_homes world node (state.Back home) there = ap (λ found. is_some (as_back 
 among_homes world node (state.Master it) there = tt
 
 -- each node stays what it is
-is_back_kind : Option Kind → Bool
-is_back_kind (Some backend_kind) = true
-is_back_kind other = false
+pub is_home_kind : Option Kind → Bool
+is_home_kind (Some backend_kind) = true
+is_home_kind other = false
 
-back_by_kind : (it : Option NodeState) → is_some (as_back it) ≡ is_back_kind (kind_of it)
-unfolding as_back is_back_kind
-back_by_kind None = refl
-back_by_kind (Some (state.Front front)) = refl
-back_by_kind (Some (state.Back home)) = refl
-back_by_kind (Some (state.Master master)) = refl
+pub home_by_kind : (it : Option NodeState) → is_some (as_back it) ≡ is_home_kind (kind_of it)
+unfolding as_back is_home_kind
+home_by_kind None = refl
+home_by_kind (Some (state.Front front)) = refl
+home_by_kind (Some (state.Back home)) = refl
+home_by_kind (Some (state.Master master)) = refl
 
 pub homes_stay : (world : World) (node : List ℕ) (input : NodeInput) (name : List ℕ) → homes_of (comes world node input) name ≡ homes_of world name
 homes_stay world node input name =
-    back_by_kind (node_at (comes world node input) name) ∙ ap is_back_kind (comes_kinds world node input name) ∙ sym (back_by_kind (node_at world name))
+    home_by_kind (node_at (comes world node input) name) ∙ ap is_home_kind (comes_kinds world node input name) ∙ sym (home_by_kind (node_at world name))
 
 module _ (master : List ℕ) where
   comes_quiet : (world : World) (node : List ℕ) (input : NodeInput) → InputIsQuiet master (homes_of world) node input → WorldIsQuiet master world
