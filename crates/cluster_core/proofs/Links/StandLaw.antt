@@ -840,14 +840,14 @@ first_streams : (config : Config) → (first_master config).streams ≡ []
 unfolding booted
 first_streams config = refl
 
+no_streams_order : (let none : List (List ℕ × Tag) = [] in IsInOrder (slice_cmp nat_cmp) none)
+unfolding IsStrictlySortedBy
+no_streams_order = tt
+
 start_ordered : (config : Config) → AreNodes config.nodes → AreOrdered config (start config)
 start_ordered config are master at =
     let same : first_master config ≡ master = same_Some (first_master config) master (sym (ap as_master (master_starts config are).at ∙ a_master (first_master config)) ∙ at) in
-    subst (IsInOrder (slice_cmp nat_cmp)) (sym (first_streams config) ∙ ap (λ (m : Master). m.streams) same) in_order
-  where
-    in_order : (let none : List (List ℕ × Tag) = [] in IsInOrder (slice_cmp nat_cmp) none)
-    unfolding IsStrictlySortedBy
-    in_order = tt
+    subst (IsInOrder (slice_cmp nat_cmp)) (sym (first_streams config) ∙ ap (λ (m : Master). m.streams) same) no_streams_order
 
 start_stands : (config : Config) → AreNodes config.nodes → Stand config (start config)
 start_stands config are = record {
@@ -866,6 +866,12 @@ start_stands config are = record {
     false_true e = cc
 
 -- ---- a run
+
+-- a frontend has the nodes in order to which its links are up
+pub ups_in_order : (config : Config) (steps : List Event) → AreNodes config.nodes → (node : List ℕ) (front : Front)
+    → front_at (run_steps (start config) steps) node ≡ Some front → IsInOrder (slice_cmp nat_cmp) front.ups
+ups_in_order config steps are node front at =
+    ((run_stands config (start config) steps (start_quiet config are) (start_stands config are)).fronts node front at).order
 
 pub links_stand : (config : Config) (steps : List Event) → AreNodes config.nodes → LinksStand config (run_steps (start config) steps)
 links_stand config steps are =

@@ -42,21 +42,21 @@ waits_so world node server front id at waits =
     ∙ ap (λ s. has_asked s server) waits.stage ∙ ap (λ a. asks_at a server) waits.at ∙ same_name server
 
 -- one that awaits a node as a server's answer awaits it
-asked_awaited : (master : List ℕ) (found : Option Connection) (server : List ℕ) → waits_for found server ≡ true → awaited master found server ≡ true
+at_awaited : (master : List ℕ) (at : At) (server : List ℕ) → asks_at at server ≡ true → waits_at master at server ≡ true
+at_awaited master (Home asked) server e = e
+at_awaited master (Barrier why) server e = cc
+
+stage_awaits : (master : List ℕ) (stage : Stage) (server : List ℕ) → has_asked stage server ≡ true → awaits master stage server ≡ true
+unfolding has_asked awaits
+stage_awaits master Reading server e = cc
+stage_awaits master (Waits tag it) server e = at_awaited master it.at server e
+stage_awaits master (Lists tag it) server e = cc
+stage_awaits master Ended server e = cc
+
+pub asked_awaited : (master : List ℕ) (found : Option Connection) (server : List ℕ) → waits_for found server ≡ true → awaited master found server ≡ true
 unfolding waits_for awaited
 asked_awaited master None server asked = cc
-asked_awaited master (Some connection) server asked = by connection.stage asked
-  where
-    by : (stage : Stage) → has_asked stage server ≡ true → awaits master stage server ≡ true
-    unfolding has_asked awaits
-    by Reading e = cc
-    by (Waits tag it) e = at it.at e
-      where
-        at : (at : At) → asks_at at server ≡ true → waits_at master at server ≡ true
-        at (Home asked) e = e
-        at (Barrier why) e = cc
-    by (Lists tag it) e = cc
-    by Ended e = cc
+asked_awaited master (Some connection) server asked = stage_awaits master connection.stage server asked
 
 links_hold : (config : Config) (world : World) → ((node : List ℕ) → IsBackend config node → IsSome (home_at world node)) → LinksStand config world
     → LinksHold config world
