@@ -7,3 +7,5 @@ pub mod Tells
 pub mod TellsLaw
 pub mod Thinned
 pub mod ThinnedLaw
+pub mod Streams
+pub mod KindsStay

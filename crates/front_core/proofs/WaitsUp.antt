@@ -1,4 +1,4 @@
--- A command waits for a server's answer only while the link to the server is up: nothing is asked where the link isn't, and its end ends the connection.
+-- A command waits for a server's answer, or for the master's OK, only while the link to that node is up: nothing is asked where the link isn't, and behind its end nothing waits for it.
 use Rattle.std.proofs.Common.{◌≡◌, ◌≢◌, ◌⊎◌, inl, inr, ℕ, nat_eq, Bool, true, false, cond, List, [], ◌∷◌, Option, None, Some, refl, sym, ◌∙◌, ap, subst}
 use Rattle.std.specs.Map.{keys_of}
 use Rattle.std.specs.Ordering.{nat_cmp, is_eq}
@@ -58,92 +58,95 @@ use Rattle.front_core.specs.Front.{answer_at, answer_from, bytes_by, bytes_in, c
 use Rattle.front_core.specs.Front.{all_end, awaited, end_at, end_if, front_hang_at, hang, having_read, hung_up, line_by, line_from, ok_at, one_ends}
 use Rattle.front_core.specs.Front.{noting, up_from, waits_for, ways_of, with_up, without_up}
 use Rattle.front_core.specs.Slots.{new_connection}
-use Rattle.front_core.specs.Stages.{asks_at, awaits, has_asked, waits_at}
+use Rattle.front_core.specs.Stages.{awaits, waits_at}
 use Rattle.front_core.specs.Taken.{Turned, Ways, answers_last, asks, begins_if, comes_at, input_comes, input_in, inputs_come, lists, lists_if, next_of, request_in}
 use Rattle.front_core.specs.Taken.{list_refused, to_begin, told_now, turned_by_need}
 use Rattle.front_core.specs.Ups.{Ups, is_up}
 use Rattle.front_core.proofs.OwnOuts.{one_ways}
 use Rattle.front_core.proofs.UpsLaws.{coming_keeps, others_going}
 
--- what waits at this stage for a server's answer has its link up
-abbrev pub IsUpAt : Ups → Stage → Type 0
-IsUpAt ups stage = (node : List ℕ) → has_asked stage node ≡ true → is_up ups node ≡ true
+-- what waits at this stage for a server, or for the master, has its link up
+abbrev pub IsUpAt : List ℕ → Ups → Stage → Type 0
+IsUpAt master ups stage = (node : List ℕ) → awaits master stage node ≡ true → is_up ups node ≡ true
 
--- a stage that waits for no server
-reads_up : (ups : Ups) → IsUpAt ups Reading
-unfolding has_asked
-reads_up ups node asked = cc
+-- a stage that waits for nobody
+reads_up : (master : List ℕ) (ups : Ups) → IsUpAt master ups Reading
+unfolding awaits
+reads_up master ups node asked = cc
 
-lists_up : (ups : Ups) (tag : Tag) (it : Listing) → IsUpAt ups (Lists tag it)
-unfolding has_asked
-lists_up ups tag it node asked = cc
+ended_up : (master : List ℕ) (ups : Ups) → IsUpAt master ups Ended
+unfolding awaits
+ended_up master ups node asked = cc
 
-ended_up : (ups : Ups) → IsUpAt ups Ended
-unfolding has_asked
-ended_up ups node asked = cc
+-- a LIST waits for the master
+lists_up : (master : List ℕ) (ups : Ups) (tag : Tag) (it : Listing) → is_up ups master ≡ true → IsUpAt master ups (Lists tag it)
+unfolding awaits
+lists_up master ups tag it up node asked = subst (λ n. is_up ups n ≡ true) (same_text master node (sym asked)) up
 
 -- ---- the node that is asked is the one that is waited for
 
-AsksThere : At → Sent → Type 0
-AsksThere at sent = (node : List ℕ) → asks_at at node ≡ true → node ≡ sent.to
+AsksThere : List ℕ → At → Sent → Type 0
+AsksThere master at sent = (node : List ℕ) → waits_at master at node ≡ true → node ≡ sent.to
 
-at_server_there : (server : List ℕ) (sent : Sent) → sent.to ≡ server → AsksThere (Home server) sent
+at_server_there : (master server : List ℕ) (sent : Sent) → sent.to ≡ server → AsksThere master (Home server) sent
 unfolding AsksThere
-at_server_there server sent is node asked = sym (is ∙ same_text server node (sym asked))
+at_server_there master server sent is node asked = sym (is ∙ same_text server node (sym asked))
 
-at_master_there : (why : Why) (sent : Sent) → AsksThere (Barrier why) sent
+at_master_there : (master : List ℕ) (why : Why) (sent : Sent) → sent.to ≡ master → AsksThere master (Barrier why) sent
 unfolding AsksThere
-at_master_there why sent node asked = cc
+at_master_there master why sent is node asked = sym (is ∙ same_text master node (sym asked))
 
 begun_there : (master : List ℕ) (id : AskId) (session : Sess) (it : Waiting) (is_next : Next)
-    → AsksThere (first_by master id session it is_next).waiting.at (first_by master id session it is_next).sent
-begun_there master id session it (next.Ask server) = at_server_there server _ refl
-begun_there master id session it (next.Barrier why) = at_master_there why _
-begun_there master id session it next.Missing = at_master_there _ _
-begun_there master id session it next.Refused = at_master_there _ _
+    → AsksThere master (first_by master id session it is_next).waiting.at (first_by master id session it is_next).sent
+begun_there master id session it (next.Ask server) = at_server_there master server _ refl
+begun_there master id session it (next.Barrier why) = at_master_there master why _ refl
+begun_there master id session it next.Missing = at_master_there master _ _ refl
+begun_there master id session it next.Refused = at_master_there master _ _ refl
 
-GoesThere : At → Then → Type 0
-GoesThere at (then.Sends sent) = AsksThere at sent
-GoesThere at what = Unit {0}
+GoesThere : List ℕ → At → Then → Type 0
+GoesThere master at (then.Sends sent) = AsksThere master at sent
+GoesThere master at what = Unit {0}
 
-needs_there : (at : At) (found : Option Need) → GoesThere at (needs_by found)
+needs_there : (master : List ℕ) (at : At) (found : Option Need) → GoesThere master at (needs_by found)
 unfolding GoesThere
-needs_there at None = tt
-needs_there at (Some need) = tt
+needs_there master at None = tt
+needs_there master at (Some need) = tt
 
 goes_there : (master : List ℕ) (id : AskId) (session : Sess) (it : Waiting) (is_next : Next)
-    → GoesThere (goes_on master id session it is_next).waiting.at (goes_on master id session it is_next).then
+    → GoesThere master (goes_on master id session it is_next).waiting.at (goes_on master id session it is_next).then
 unfolding GoesThere
-goes_there master id session it (next.Ask server) = at_server_there server _ refl
-goes_there master id session it (next.Barrier why) = at_master_there why _
-goes_there master id session it next.Missing = needs_there _ _
+goes_there master id session it (next.Ask server) = at_server_there master server _ refl
+goes_there master id session it (next.Barrier why) = at_master_there master why _ refl
+goes_there master id session it next.Missing = needs_there master _ _
 goes_there master id session it next.Refused = tt
 
-told_there : (session : Sess) (it : Waiting) (body : AnswerBody) → GoesThere (told_by session it body).waiting.at (told_by session it body).then
+told_there : (master : List ℕ) (session : Sess) (it : Waiting) (body : AnswerBody)
+    → GoesThere master (told_by session it body).waiting.at (told_by session it body).then
 unfolding GoesThere
-told_there session it (answer_body.Done outcome seen) = needs_there _ _
-told_there session it (answer_body.Unreached node) = tt
-told_there session it answer_body.Lost = tt
-told_there session it answer_body.NotNow = tt
-told_there session it (answer_body.Moved server) = tt
+told_there master session it (answer_body.Done outcome seen) = needs_there master _ _
+told_there master session it (answer_body.Unreached node) = tt
+told_there master session it answer_body.Lost = tt
+told_there master session it answer_body.NotNow = tt
+told_there master session it (answer_body.Moved server) = tt
 
 answered_there_by : (master : List ℕ) (id : AskId) (session : Sess) (it : Waiting) (body : AnswerBody) (found : Option Next)
-    → GoesThere (answered_by master id session it body found).waiting.at (answered_by master id session it body found).then
-answered_there_by master id session it body None = told_there session it body
+    → GoesThere master (answered_by master id session it body found).waiting.at (answered_by master id session it body found).then
+answered_there_by master id session it body None = told_there master session it body
 answered_there_by master id session it body (Some is_next) = goes_there master id session it is_next
 
 answered_there : (master : List ℕ) (id : AskId) (session : Sess) (it : Waiting) (body : AnswerBody)
-    → GoesThere (answered master id session it body).waiting.at (answered master id session it body).then
+    → GoesThere master (answered master id session it body).waiting.at (answered master id session it body).then
 unfolding answered
 answered_there master id session it body = answered_there_by master id session it body (behind_answer body)
 
 first_there : (ways : Ways) (id : AskId) (session : Sess) (it : Waiting)
-    → AsksThere (first_sent ways.recs ways.master ways.first id session it).waiting.at (first_sent ways.recs ways.master ways.first id session it).sent
+    → AsksThere ways.master (first_sent ways.recs ways.master ways.first id session it).waiting.at (first_sent ways.recs ways.master ways.first id session it).sent
 unfolding first_sent
 first_there ways id session it = begun_there ways.master id session it (first_step ways.recs ways.first (ask_for it.name it.asking.op))
 
 cleared_there : (ways : Ways) (id : AskId) (session : Sess) (it : Waiting) (why : Why)
-    → GoesThere (cleared ways.recs ways.master ways.first id session it why).waiting.at (cleared ways.recs ways.master ways.first id session it why).then
+    → GoesThere ways.master (cleared ways.recs ways.master ways.first id session it why).waiting.at
+    (cleared ways.recs ways.master ways.first id session it why).then
 unfolding cleared
 cleared_there ways id session it why =
     goes_there ways.master id session it (behind_ok ways.recs ways.first (ask_for it.name it.asking.op) why)
@@ -152,10 +155,10 @@ cleared_there ways id session it why =
 
 module _ (setting : Setting) (ways : Ways) (conn : ℕ) where
   abbrev pub IsUp : Connection → Type 0
-  IsUp connection = IsUpAt ways.ups connection.stage
+  IsUp connection = IsUpAt ways.master ways.ups connection.stage
 
-  waits_up : (tag : Tag) (it : Waiting) (sent : Sent) → AsksThere it.at sent → is_up ways.ups sent.to ≡ true → IsUpAt ways.ups (Waits tag it)
-  unfolding has_asked AsksThere
+  waits_up : (tag : Tag) (it : Waiting) (sent : Sent) → AsksThere ways.master it.at sent → is_up ways.ups sent.to ≡ true → IsUpAt ways.master ways.ups (Waits tag it)
+  unfolding awaits AsksThere
   waits_up tag it sent there up node asked = subst (λ n. is_up ways.ups n ≡ true) (sym (there node asked)) up
 
   now_up : (how : How) (connection : Connection) (session : Sess) (tag : Tag) (reply : Reply) → IsUp connection
@@ -163,7 +166,7 @@ module _ (setting : Setting) (ways : Ways) (conn : ℕ) where
   unfolding told_now
   now_up how connection session tag reply was = was
 
-  begins_up : (up : Bool) (connection : Connection) (tag : Tag) (begun : Begun) → is_up ways.ups begun.sent.to ≡ up → AsksThere begun.waiting.at begun.sent
+  begins_up : (up : Bool) (connection : Connection) (tag : Tag) (begun : Begun) → is_up ways.ups begun.sent.to ≡ up → AsksThere ways.master begun.waiting.at begun.sent
       → IsUp connection → IsUp (begins_if up conn connection tag begun).connection
   begins_up true connection tag begun up there was = waits_up tag begun.waiting begun.sent there up
   begins_up false connection tag begun up there was = now_up _ connection _ tag _ was
@@ -175,21 +178,21 @@ module _ (setting : Setting) (ways : Ways) (conn : ℕ) where
       begins_up (is_up ways.ups (begun.sent).to) connection tag begun refl
       (first_there ways (next_of conn connection) connection.session (to_begin name asking)) was
 
-  lists_if_up : (up : Bool) (connection : Connection) (tag : Tag) (it : Listing) → IsUp connection
+  lists_if_up : (up : Bool) (connection : Connection) (tag : Tag) (it : Listing) → is_up ways.ups ways.master ≡ up → IsUp connection
       → IsUp (lists_if up ways.master conn connection tag it).connection
-  lists_if_up true connection tag it was = lists_up ways.ups tag it
-  lists_if_up false connection tag it was = now_up _ connection _ tag _ was
+  lists_if_up true connection tag it up was = lists_up ways.master ways.ups tag it up
+  lists_if_up false connection tag it up was = now_up _ connection _ tag _ was
 
   last_up : (connection : Connection) (tag : Tag) (reply : Reply) → IsUp (answers_last conn connection tag reply).connection
   unfolding answers_last
-  last_up connection tag reply = ended_up ways.ups
+  last_up connection tag reply = ended_up ways.master ways.ups
 
   need_up : (connection : Connection) (tag : Tag) (need : Need) → IsUp connection → IsUp (turned_by_need ways conn connection tag need).connection
   unfolding turned_by_need
   need_up connection tag (needs.Reply reply) was = now_up _ connection connection.session tag reply was
   need_up connection tag (needs.Leave reply) was = last_up connection tag reply
   need_up connection tag (needs.Home name asking) was = asks_up connection tag name asking was
-  need_up connection tag (needs.Names it) was = lists_if_up (is_up ways.ups ways.master) connection tag it was
+  need_up connection tag (needs.Names it) was = lists_if_up (is_up ways.ups ways.master) connection tag it refl was
 
   request_up : (connection : Connection) (request : Request) → IsUp connection → IsUp (request_in setting ways conn connection request).connection
   unfolding request_in
@@ -202,7 +205,7 @@ module _ (setting : Setting) (ways : Ways) (conn : ℕ) where
   unfolding input_in
   input_up connection (Asks request) was = request_up connection request was
   input_up connection (GoesOn why) was = was
-  input_up connection (Faults fault) was = ended_up ways.ups
+  input_up connection (Faults fault) was = ended_up ways.master ways.ups
 
   comes_up : (connection : Connection) (input : Input) (stage : Stage) → IsUp connection → IsUp (comes_at setting ways conn connection input stage).connection
   unfolding comes_at
@@ -219,7 +222,7 @@ module _ (setting : Setting) (ways : Ways) (conn : ℕ) where
 
   -- a client is given a reply, and the inputs that waited come
   read_up : (connection : Connection) (how : How) (text : List ℕ) → IsUp (reads_on setting ways conn connection how text).connection
-  read_up connection how text = inputs_up (reading_again connection) connection.waiting (reads_up ways.ups)
+  read_up connection how text = inputs_up (reading_again connection) connection.waiting (reads_up ways.master ways.ups)
 
   refused_up : (connection : Connection) (tag : Tag) (refused : Refused) (node : List ℕ)
       → IsUp (refused_behind setting ways conn connection tag refused node).connection
@@ -231,30 +234,30 @@ module _ (setting : Setting) (ways : Ways) (conn : ℕ) where
 
   behind_up : (connection : Connection) (tag : Tag) (how : How) (need : Need) → IsUp (need_behind setting ways conn connection tag how need).connection
   behind_up connection tag how (needs.Reply reply) = read_up connection how (reply_text tag reply)
-  behind_up connection tag how (needs.Leave reply) = ended_up ways.ups
+  behind_up connection tag how (needs.Leave reply) = ended_up ways.master ways.ups
   behind_up connection tag how (needs.Home name asking) =
       waiting_up (asks ways conn (record connection { stage = Reading }) tag name asking)
-      (asks_up (record connection { stage = Reading }) tag name asking (reads_up ways.ups))
+      (asks_up (record connection { stage = Reading }) tag name asking (reads_up ways.master ways.ups))
   behind_up connection tag how (needs.Names it) =
       waiting_up (lists ways conn (record connection { stage = Reading }) tag it)
-      (lists_if_up (is_up ways.ups ways.master) (record connection { stage = Reading }) tag it (reads_up ways.ups))
+      (lists_if_up (is_up ways.ups ways.master) (record connection { stage = Reading }) tag it refl (reads_up ways.master ways.ups))
 
-  sends_up : (up : Bool) (connection : Connection) (tag : Tag) (it : Waiting) (sent : Sent) → is_up ways.ups sent.to ≡ up → AsksThere it.at sent
+  sends_up : (up : Bool) (connection : Connection) (tag : Tag) (it : Waiting) (sent : Sent) → is_up ways.ups sent.to ≡ up → AsksThere ways.master it.at sent
       → IsUp (sends_if up setting ways conn connection tag it sent).connection
   sends_up true connection tag it sent up there = waits_up tag it sent there up
   sends_up false connection tag it sent up there =
       refused_up connection tag (relocated connection.session it.asking.awaited (unreached sent.to)) sent.to
 
-  then_up : (connection : Connection) (tag : Tag) (it : Waiting) (what : Then) → GoesThere it.at what → IsUp connection
+  then_up : (connection : Connection) (tag : Tag) (it : Waiting) (what : Then) → GoesThere ways.master it.at what → IsUp connection
       → IsUp (by_then setting ways conn connection tag it what).connection
   unfolding GoesThere
   then_up connection tag it (then.Sends sent) there was = sends_up (is_up ways.ups sent.to) connection tag it sent refl there
   then_up connection tag it (then.Needs need) there was = behind_up connection tag Behind need
   then_up connection tag it (then.Refused cause reply) there was = read_up connection (how_for cause) (reply_text tag reply)
-  then_up connection tag it then.Lost there was = ended_up ways.ups
+  then_up connection tag it then.Lost there was = ended_up ways.master ways.ups
   then_up connection tag it then.Stays there was = was
 
-  went_up : (connection : Connection) (tag : Tag) (went : WentOn) → GoesThere went.waiting.at went.then → IsUp connection
+  went_up : (connection : Connection) (tag : Tag) (went : WentOn) → GoesThere ways.master went.waiting.at went.then → IsUp connection
       → IsUp (goes_on_by setting ways conn connection tag went).connection
   went_up connection tag went there was = then_up (record connection { session = went.session }) tag went.waiting went.then there was
 
@@ -286,7 +289,7 @@ module _ (setting : Setting) (ways : Ways) (conn : ℕ) where
   ok_up connection id was = ok_up_by connection _ connection.stage was
 
   ends_up : (connection : Connection) (tag : Tag) (it : Waiting) (at : At) → IsUp (ends_at setting ways conn connection tag it at).connection
-  ends_up connection tag it (Home server) = ended_up ways.ups
+  ends_up connection tag it (Home server) = ended_up ways.master ways.ups
   ends_up connection tag it (Barrier why) =
       refused_up connection tag (relocated connection.session it.asking.awaited (unreached ways.master)) ways.master
 
@@ -294,50 +297,50 @@ module _ (setting : Setting) (ways : Ways) (conn : ℕ) where
   unfolding end_by
   end_up_by connection (Waits tag it) e = ends_up connection tag it it.at
   end_up_by connection (Lists tag it) e = refused_up connection tag (list_refused connection.session) ways.master
-  end_up_by connection Reading e = subst (IsUpAt ways.ups) (sym e) (reads_up ways.ups)
-  end_up_by connection Ended e = subst (IsUpAt ways.ups) (sym e) (ended_up ways.ups)
+  end_up_by connection Reading e = subst (IsUpAt ways.master ways.ups) (sym e) (reads_up ways.master ways.ups)
+  end_up_by connection Ended e = subst (IsUpAt ways.master ways.ups) (sym e) (ended_up ways.master ways.ups)
 
-  -- one whose link ends waits for no server on that link
+  -- one whose link ends waits for nobody on that link
   pub end_up : (connection : Connection) → IsUp (end_comes setting ways conn connection).connection
   end_up connection = end_up_by connection connection.stage refl
 
 -- what is kept of a connection waits where it did
-released_up : (ups : Ups) (connection : Connection) (stage : Stage) → connection.stage ≡ stage → IsUpAt ups connection.stage
-    → IsUpAt ups (released_at connection stage).stage
+released_up : (master : List ℕ) (ups : Ups) (connection : Connection) (stage : Stage) → connection.stage ≡ stage → IsUpAt master ups connection.stage
+    → IsUpAt master ups (released_at connection stage).stage
 unfolding released_at
-released_up ups connection Reading e was = was
-released_up ups connection (Waits tag it) e was = was
-released_up ups connection (Lists tag it) e was = was
-released_up ups connection Ended e was = ended_up ups
+released_up master ups connection Reading e was = was
+released_up master ups connection (Waits tag it) e was = was
+released_up master ups connection (Lists tag it) e was = was
+released_up master ups connection Ended e was = ended_up master ups
 
 -- ---- a frontend
 
 -- each of its connections waits only where a link is up
 abbrev pub WaitUp : Front → Type 0
-WaitUp front = (conn : ℕ) (connection : Connection) → connection_at front conn ≡ Some connection → IsUpAt front.ups connection.stage
+WaitUp front = (conn : ℕ) (connection : Connection) → connection_at front conn ≡ Some connection → IsUpAt front.master front.ups connection.stage
 
 -- so it does, with the same links up as that one
 pub record StaysUp (was now : Front) : Type 0 where
   pub ups : now.ups ≡ was.ups
   pub wait : WaitUp now
 
-changed_up : (front : Front) (conn : ℕ) (old now : Connection) → connection_at front conn ≡ Some old → IsUpAt front.ups now.stage → WaitUp front
+changed_up : (front : Front) (conn : ℕ) (old now : Connection) → connection_at front conn ≡ Some old → IsUpAt front.master front.ups now.stage → WaitUp front
     → WaitUp (record front { connections = with_value nat_cmp front.connections conn now })
 changed_up front conn old now there is wait other connection at = ⊎_elim
     (λ (e : other ≡ conn). (let same : Some now ≡ Some connection =
     sym (value_at-with_value nat_cmp numbers_apart front.connections conn now old there)
     ∙ subst (λ n. value_at nat_cmp (with_value nat_cmp front.connections conn now) n ≡ Some connection) e at in
-    let it : now ≡ connection = cc in subst (λ (c : Connection). IsUpAt front.ups c.stage) it is))
+    let it : now ≡ connection = cc in subst (λ (c : Connection). IsUpAt front.master front.ups c.stage) it is))
     (λ (ne : other ≢ conn). wait other connection (sym (value_at-with_value-other nat_cmp numbers_apart front.connections conn other now ne) ∙ at))
     (same_or_other nat_cmp numbers_apart other conn)
 
-entered_up : (front : Front) (conn : ℕ) (now : Connection) → IsUpAt front.ups now.stage → WaitUp front
+entered_up : (front : Front) (conn : ℕ) (now : Connection) → IsUpAt front.master front.ups now.stage → WaitUp front
     → WaitUp (record front { connections = with_entry nat_cmp front.connections conn now })
 entered_up front conn now is wait other connection at = ⊎_elim
     (λ (e : other ≡ conn). (let same : Some now ≡ Some connection =
     sym (value_at-with_entry nat_cmp numbers_apart front.connections conn now)
     ∙ subst (λ n. value_at nat_cmp (with_entry nat_cmp front.connections conn now) n ≡ Some connection) e at in
-    let it : now ≡ connection = cc in subst (λ (c : Connection). IsUpAt front.ups c.stage) it is))
+    let it : now ≡ connection = cc in subst (λ (c : Connection). IsUpAt front.master front.ups c.stage) it is))
     (λ (ne : other ≢ conn). wait other connection (sym (value_at-with_entry-other nat_cmp numbers_apart front.connections conn other now ne) ∙ at))
     (same_or_other nat_cmp numbers_apart other conn)
 
@@ -348,19 +351,19 @@ module _ (front : Front) (wait : WaitUp front) where
   still_so : Stays front
   still_so = record { ups = refl; wait = wait }
 
-  turned_so : (conn : ℕ) (old : Connection) (turned : Turned) → connection_at front conn ≡ Some old → IsUpAt front.ups turned.connection.stage
+  turned_so : (conn : ℕ) (old : Connection) (turned : Turned) → connection_at front conn ≡ Some old → IsUpAt front.master front.ups turned.connection.stage
       → Stays (record front { connections = with_value nat_cmp front.connections conn (released turned.connection) })
   turned_so conn old turned there is = record {
     ups = refl;
     wait = changed_up front conn old (released turned.connection) there
-        (released_up front.ups turned.connection turned.connection.stage refl is) wait;
+        (released_up front.master front.ups turned.connection turned.connection.stage refl is) wait;
   }
 
   -- a client that connects
   connects_so : (conn : ℕ) (found : Option Connection) → Stays (connect_at front conn found).front
   unfolding connect_at new_connection
   connects_so conn (Some there) = still_so
-  connects_so conn None = record { ups = refl; wait = entered_up front conn new_connection (reads_up front.ups) wait }
+  connects_so conn None = record { ups = refl; wait = entered_up front conn new_connection (reads_up front.master front.ups) wait }
 
   pub connect_stays : (conn : ℕ) → Stays (connect front conn).front
   unfolding connect
@@ -370,7 +373,7 @@ module _ (front : Front) (wait : WaitUp front) where
   hangs_so : (conn : ℕ) (found : Option Connection) → connection_at front conn ≡ found → Stays (front_hang_at front conn found)
   unfolding front_hang_at
   hangs_so conn None at = still_so
-  hangs_so conn (Some connection) at = record { ups = refl; wait = changed_up front conn connection (hung_up connection) at (ended_up front.ups) wait }
+  hangs_so conn (Some connection) at = record { ups = refl; wait = changed_up front conn connection (hung_up connection) at (ended_up front.master front.ups) wait }
 
   pub hang_stays : (conn : ℕ) → Stays (hang front conn)
   unfolding hang
@@ -461,7 +464,7 @@ key_among (e ∷ es) conn connection at =
 -- what waits where no link is up waits for this node, and is one of the connections that are left
 abbrev WaitUpBut : Front → List ℕ → List ℕ → Type 0
 WaitUpBut front node conns = (conn : ℕ) (connection : Connection) → connection_at front conn ≡ Some connection → (server : List ℕ)
-    → has_asked connection.stage server ≡ true → (is_up front.ups server ≡ true) ⊎ ((server ≡ node) × IsAmong conns conn)
+    → awaits front.master connection.stage server ≡ true → (is_up front.ups server ≡ true) ⊎ ((server ≡ node) × IsAmong conns conn)
 
 one_less : (front : Front) (node server : List ℕ) (conn other : ℕ) (conns : List ℕ) → other ≢ conn
     → (is_up front.ups server ≡ true) ⊎ ((server ≡ node) × IsAmong (conn ∷ conns) other) → (is_up front.ups server ≡ true) ⊎ ((server ≡ node) × IsAmong conns other)
@@ -470,30 +473,19 @@ one_less front node server conn other conns ne was = ⊎_elim
     (λ left. ⊎_elim (λ same. absurd (ne same)) (λ later. inr (left.0, later)) left.1)
     was
 
-at_awaits : (master node : List ℕ) (at : At) → asks_at at node ≡ true → waits_at master at node ≡ true
-at_awaits master node (Home server) asked = asked
-at_awaits master node (Barrier why) asked = cc
-
-asked_awaits : (master node : List ℕ) (stage : Stage) → has_asked stage node ≡ true → awaits master stage node ≡ true
-unfolding has_asked awaits
-asked_awaits master node Reading asked = cc
-asked_awaits master node (Waits tag it) asked = at_awaits master node it.at asked
-asked_awaits master node (Lists tag it) asked = cc
-asked_awaits master node Ended asked = cc
-
-asked_awaited : (master node : List ℕ) (found : Option Connection) (connection : Connection) → found ≡ Some connection → has_asked connection.stage node ≡ true
-    → awaited master found node ≡ true
+its_awaited : (master node : List ℕ) (found : Option Connection) (connection : Connection) → found ≡ Some connection
+    → awaits master connection.stage node ≡ true → awaited master found node ≡ true
 unfolding awaited
-asked_awaited master node None connection at asked = cc
-asked_awaited master node (Some it) connection at asked =
-    let same : it ≡ connection = cc in
-    asked_awaits master node it.stage (subst (λ (c : Connection). has_asked c.stage node ≡ true) (sym same) asked)
+its_awaited master node None connection at asked = cc
+its_awaited master node (Some it) connection at asked =
+    let same : it ≡ connection = cc in subst (λ (c : Connection). awaits master c.stage node ≡ true) (sym same) asked
 
 module _ (front : Front) (node : List ℕ) (conn : ℕ) (conns : List ℕ) (wait : WaitUpBut front node (conn ∷ conns)) where
   -- what holds of this connection, and the others as before
-  others_but : (now : Front) → now.ups ≡ front.ups → ((other : ℕ) → other ≢ conn → connection_at now other ≡ connection_at front other)
-      → ((connection : Connection) → connection_at now conn ≡ Some connection → IsUpAt front.ups connection.stage) → WaitUpBut now node conns
-  others_but now same others here other connection at server asked =
+  others_but : (now : Front) → now.ups ≡ front.ups → now.master ≡ front.master → ((other : ℕ) → other ≢ conn → connection_at now other ≡ connection_at front other)
+      → ((connection : Connection) → connection_at now conn ≡ Some connection → IsUpAt front.master front.ups connection.stage) → WaitUpBut now node conns
+  others_but now same same_master others here other connection at server asks =
+      let asked : awaits front.master connection.stage server ≡ true = ap (λ m. awaits m connection.stage server) (sym same_master) ∙ asks in
       subst (λ ups. (is_up ups server ≡ true) ⊎ ((server ≡ node) × IsAmong conns other)) (sym same)
       (⊎_elim
       (λ (e : other ≡ conn). inl (here connection (ap (connection_at now) (sym e) ∙ at) server asked))
@@ -503,27 +495,27 @@ module _ (front : Front) (node : List ℕ) (conn : ℕ) (conns : List ℕ) (wait
   ended_but : (found : Option Connection) → connection_at front conn ≡ found → WaitUpBut (end_at front conn found).front node conns
   unfolding end_at
   ended_but None there =
-      others_but front refl (λ other ne. refl) (λ connection at. absurd (let no : None ≡ Some connection = sym there ∙ at in none_some connection no))
+      others_but front refl refl (λ other ne. refl) (λ connection at. absurd (let no : None ≡ Some connection = sym there ∙ at in none_some connection no))
     where
       none_some : (connection : Connection) → None ≡ Some connection → ⊥
       none_some connection e = cc
   ended_but (Some was) there =
       let turned = end_comes front.setting (ways_of front) conn was in
-      others_but (record front { connections = with_value nat_cmp front.connections conn (released turned.connection) }) refl
+      others_but (record front { connections = with_value nat_cmp front.connections conn (released turned.connection) }) refl refl
       (λ other ne. value_at-with_value-other nat_cmp numbers_apart front.connections conn other (released turned.connection) ne)
       (λ connection at. (let same : Some (released turned.connection) ≡ Some connection =
       sym (value_at-with_value nat_cmp numbers_apart front.connections conn (released turned.connection) was there) ∙ at in
       let it : released turned.connection ≡ connection = cc in
-      subst (λ (c : Connection). IsUpAt front.ups c.stage) it
-      (released_up front.ups turned.connection turned.connection.stage refl (end_up front.setting (ways_of front) conn was))))
+      subst (λ (c : Connection). IsUpAt front.master front.ups c.stage) it
+      (released_up front.master front.ups turned.connection turned.connection.stage refl (end_up front.setting (ways_of front) conn was))))
 
   end_if_but : (waits : Bool) → awaited front.master (connection_at front conn) node ≡ waits → WaitUpBut (end_if waits front conn).front node conns
   end_if_but true e = ended_but (connection_at front conn) refl
   end_if_but false e =
-      others_but front refl (λ other ne. refl) (λ connection at server asked. ⊎_elim
+      others_but front refl refl (λ other ne. refl) (λ connection at server asked. ⊎_elim
       (λ up. up)
-      (λ left. absurd (let yes = asked_awaited front.master node (connection_at front conn) connection at
-      (subst (λ n. has_asked connection.stage n ≡ true) left.0 asked) in
+      (λ left. absurd (let yes = its_awaited front.master node (connection_at front conn) connection at
+      (subst (λ n. awaits front.master connection.stage n ≡ true) left.0 asked) in
       let no : false ≡ true = sym e ∙ yes in false_true no))
       (wait conn connection at server asked))
     where
@@ -560,11 +552,11 @@ message_stays front from (Ask ask) wait = still_so front wait
 
 -- ---- as a test
 
-pub waits_for_up : (front : Front) (conn : ℕ) (found : Option Connection) (server : List ℕ) → WaitUp front → connection_at front conn ≡ found
-    → waits_for found server ≡ true → is_up front.ups server ≡ true
-unfolding waits_for
-waits_for_up front conn None server wait at asked = cc
-waits_for_up front conn (Some connection) server wait at asked = wait conn connection at server asked
+pub awaited_up : (front : Front) (conn : ℕ) (found : Option Connection) (server : List ℕ) → WaitUp front → connection_at front conn ≡ found
+    → awaited front.master found server ≡ true → is_up front.ups server ≡ true
+unfolding awaited
+awaited_up front conn None server wait at asked = cc
+awaited_up front conn (Some connection) server wait at asked = wait conn connection at server asked
 
 -- one without connections
 pub none_waits : (front : Front) → front.connections ≡ [] → WaitUp front

@@ -21,7 +21,7 @@ use Rattle.node_step.specs.NodeStep.{as_master}
 use Rattle.cluster_core.specs.declared.world.World.{World}
 use Rattle.cluster_core.specs.World.{master_at, node_at}
 use Rattle.cluster_core.proofs.Links.Tells.{ArePartedAt, kind_of, parted_still}
-use Rattle.cluster_core.proofs.Links.Thinned.{IsThinned, part_of_none}
+use Rattle.cluster_core.proofs.Links.Thinned.{IsThinned, part_of_none, parts_of}
 use Rattle.cluster_core.proofs.Nodes.Carried.{given_all, given_by, given_out, is_made, made}
 use Rattle.cluster_core.proofs.Nodes.Comes.{made_here, made_other}
 use Rattle.cluster_core.proofs.Points.Outside.{AreThey, IsIts, they_keep}
@@ -47,9 +47,9 @@ thinned_always world next thin holds =
           record {
             watchers = subst (λ cs. AreThey (IsIts node cs) master.watchers) (sym thin.clients) is.watchers;
             no_stream = is.no_stream;
-            selfless = part_of_none (thin.parts node node) is.selfless;
+            selfless = part_of_none (parts_of world next thin node node) is.selfless;
           });
-      senders = λ node other none. part_of_none (thin.parts node other) (holds.senders node other (sym (same node) ∙ none));
+      senders = λ node other none. part_of_none (parts_of world next thin node other) (holds.senders node other (sym (same node) ∙ none));
       cut = λ one other lost.
           (let was = holds.cut one other (ap (λ (b : Broken). is_broken b one other) (sym thin.broken) ∙ lost) in
           (parted_still world next (λ any. ap kind_of (same any)) one other was.0, was.1));

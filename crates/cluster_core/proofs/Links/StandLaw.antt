@@ -10,18 +10,22 @@ use Rattle.std.proofs.lemmas.List.{append-nil}
 use Rattle.std.proofs.lemmas.Option.{same_Some}
 use Rattle.back_node.specs.declared.node.BackNode.{BackNode}
 use Rattle.feed_links.proofs.Names.{order_kept}
+use Rattle.feed_links.specs.Lines.{HasStreams, stream_of}
 use Rattle.front_core.specs.declared.front.Front.{Front}
-use Rattle.front_core.specs.Front.{connection_at, new_front, noting}
+use Rattle.front_core.specs.Front.{awaited, connection_at, new_front, noting}
 use Rattle.front_core.specs.Ups.{Ups, coming_up, going_down, is_up}
-use Rattle.front_core.proofs.UpsLaws.{coming_keeps, down_goes, others_coming, others_going}
-use Rattle.front_core.proofs.WaitsUp.{WaitUp, bytes_stay, connect_stays, hang_stays, message_stays, none_waits, waits_for_up}
+use Rattle.front_core.proofs.UpsLaws.{down_goes, others_coming, others_going}
+use Rattle.front_core.proofs.WaitsUp.{WaitUp, awaited_up, bytes_stay, connect_stays, hang_stays, message_stays, none_waits}
 use Rattle.link_msg.specs.declared.message.LinkMsg.{LinkMsg}
 use Rattle.link_msg.specs.declared.message.LinkMsg.TheVariants.{Up, End, Line, Ask, Answer}
 use Rattle.link_queue.specs.Broken.{breaking, is_broken, mending}
 use Rattle.link_queue.specs.Links.{Links, on_link, same_link, without_first}
 use Rattle.link_queue.proofs.BrokenLaws.{none_broken}
 use Rattle.link_queue.proofs.Wires.{on_link-taken, same_itself, same_names}
+use Rattle.master_core.specs.Boot.{booted}
+use Rattle.master_core.specs.Linked.{node_says}
 use Rattle.master_core.specs.declared.master.Master.{Master}
+use Rattle.mupdate_codec.specs.declared.tag.Tag.{Tag}
 use Rattle.mur_base.specs.Map.{IsInOrder, value_at, with_value}
 use Rattle.mur_base.proofs.MapLaws.{names_apart, same_or_other, value_at-with_value, value_at-with_value-other}
 use Rattle.mur_base.proofs.MapOrder.{with_entry-in_order}
@@ -33,8 +37,8 @@ use Rattle.node_step.specs.declared.input.NodeInput.{NodeInput}
 use Rattle.node_step.specs.declared.input.NodeInput.TheVariants.{Opened, Piece, Hung, From}
 use Rattle.node_step.specs.declared.node.NodeState.{NodeState}
 use Rattle.node_step.specs.declared.node.NodeState.TheVariants as state
-use Rattle.node_step.specs.NodeStep.{Acted, as_front, back_takes, front_takes, master_takes, takes as node_takes}
-use Rattle.node_step.proofs.NodeKinds.{a_front, back_no_front, front_is}
+use Rattle.node_step.specs.NodeStep.{Acted, as_front, as_master, back_takes, front_takes, master_takes, takes as node_takes}
+use Rattle.node_step.proofs.NodeKinds.{a_front, back_no_front, front_is, master_is}
 use Rattle.schedule_text.specs.declared.event.Event.{Event}
 use Rattle.schedule_text.specs.declared.event.Event.TheVariants.{Open, Data, Hang, Deliver, Cut, Join}
 use Rattle.cluster_core.specs.declared.world.Client.{Client}
@@ -42,16 +46,20 @@ use Rattle.cluster_core.specs.declared.world.World.{World}
 use Rattle.cluster_core.specs.Flow.{run_steps}
 use Rattle.cluster_core.specs.Headline.OneNode.{OnlyLinksChange, are_both, relinks}
 use Rattle.cluster_core.specs.Headline.OneStore.{HasCut}
-use Rattle.cluster_core.specs.World.{acts, backends_of, client_at, client_does, comes_to, cuts_if, deliver_first, front_at, joins_if, master_of, may_cut, may_join, no_world, node_at, not_lost, opens, start, stepped, steps_by}
+use Rattle.cluster_core.specs.World.{acts, backends_of, client_at, client_does, comes_to, cuts_if, deliver_first, front_at, joins_if, master_at, master_of, may_cut, may_join, no_world, node_at, not_lost, opens, start, stepped, steps_by}
 use Rattle.cluster_core.specs.World.{taken_from_link, takes, told_up, with_acted, with_client, with_cut, with_join, with_nodes, with_ups}
 use Rattle.cluster_core.proofs.Feeds.Beside.{no_one}
-use Rattle.cluster_core.proofs.Links.Stand.{IsDown, LinksStand}
+use Rattle.cluster_core.proofs.Links.Stand.{IsDown, IsOver, LinksStand}
 use Rattle.cluster_core.proofs.Links.Stand.IsDown.{is_ending, has_ended}
+use Rattle.cluster_core.proofs.Links.Stand.IsOver.{is_over, over_soon}
+use Rattle.cluster_core.proofs.Links.Streams.{IsNotFrom, order_stays, stream_ends, streams_stay}
+use Rattle.cluster_core.proofs.Nodes.Comes.{a_master, master_does}
+use Rattle.cluster_core.proofs.Nodes.Known.{front_self}
 use Rattle.cluster_core.proofs.Nodes.LinksUp.{up_if, ups_on}
 use Rattle.cluster_core.proofs.Runs.NeverMoved.{WorldIsQuiet, may_join_broken, never_moved, some_break, some_mend, start_quiet, step_quiet}
 use Rattle.cluster_core.proofs.Runs.OneNodeLaw.{carry_all_sends, comes_broken, comes_lost, cut_works, join_works, one_more_step, same_broken}
-use Rattle.cluster_core.proofs.Runs.QuietNodes.{InputIsQuiet, IsQuiet, IsQuietOn}
-use Rattle.cluster_core.proofs.Starts.Begins.{Starts, first_front, starts}
+use Rattle.cluster_core.proofs.Runs.QuietNodes.{IsQuiet}
+use Rattle.cluster_core.proofs.Starts.Begins.{Starts, first_front, first_master, master_starts, starts}
 use Rattle.cluster_core.proofs.Starts.Begins.Starts.{is_front, is_home, is_silent}
 use Rattle.cluster_core.proofs.Starts.Fresh.{fresh_empty}
 
@@ -130,6 +138,7 @@ noted ups input = ups
 record Took (input : NodeInput) (was now : Front) : Type 0 where
   ups : now.ups ≡ noted was.ups input
   wait : WaitUp now
+  master : now.master ≡ was.master
 
 noted_so : (front : Front) (from : List ℕ) (message : LinkMsg) → (noting front from message).ups ≡ noted front.ups (From from message)
 unfolding noting
@@ -147,24 +156,23 @@ TookAs input was (state.Master master) = ⊥
 
 front_took : (front : Front) (input : NodeInput) → WaitUp front → TookAs input front (front_takes front input).state
 unfolding front_takes
-front_took front (Opened conn) wait = let is = connect_stays front wait conn in record { ups = is.ups; wait = is.wait }
-front_took front (Piece conn bytes) wait = let is = bytes_stay front wait conn bytes in record { ups = is.ups; wait = is.wait }
-front_took front (Hung conn) wait = let is = hang_stays front wait conn in record { ups = is.ups; wait = is.wait }
+front_took front (Opened conn) wait =
+    let is = connect_stays front wait conn in record { ups = is.ups; wait = is.wait; master = (front_self front (Opened conn)).master }
+front_took front (Piece conn bytes) wait =
+    let is = bytes_stay front wait conn bytes in record { ups = is.ups; wait = is.wait; master = (front_self front (Piece conn bytes)).master }
+front_took front (Hung conn) wait =
+    let is = hang_stays front wait conn in record { ups = is.ups; wait = is.wait; master = (front_self front (Hung conn)).master }
 front_took front (From name message) wait =
-    let is = message_stays front name message wait in record { ups = is.ups ∙ noted_so front name message; wait = is.wait }
+    let is = message_stays front name message wait in
+    record { ups = is.ups ∙ noted_so front name message; wait = is.wait; master = (front_self front (From name message)).master }
 
 -- ---- what a frontend of a run is
 
--- what its commands wait for is up, as is the link to the master
+-- what its commands wait for is up
 record FrontIs (config : Config) (front : Front) : Type 0 where
   wait : WaitUp front
   order : IsInOrder (slice_cmp nat_cmp) front.ups
-  master_up : is_up front.ups (master_of config) ≡ true
-
-abbrev NodeIs : Config → List ℕ → NodeState → Type 0
-NodeIs config node (state.Front front) = FrontIs config front
-NodeIs config node (state.Back home) = Unit {0}
-NodeIs config node (state.Master master) = Unit {0}
+  master_is : front.master ≡ master_of config
 
 noted_order : (ups : Ups) (input : NodeInput) → IsInOrder (slice_cmp nat_cmp) ups → IsInOrder (slice_cmp nat_cmp) (noted ups input)
 noted_order ups (From name Up) order = with_entry-in_order (slice_cmp nat_cmp) nat_list_cmp_total ups name tt order
@@ -176,24 +184,11 @@ noted_order ups (Opened conn) order = order
 noted_order ups (Piece conn bytes) order = order
 noted_order ups (Hung conn) order = order
 
--- the master's link stays up
-noted_master : (master node : List ℕ) (ups : Ups) (input : NodeInput) → InputIsQuiet master node input → is_up ups master ≡ true
-    → is_up (noted ups input) master ≡ true
-noted_master master node ups (From name Up) is up = coming_keeps ups name master up
-noted_master master node ups (From name End) is up = others_going ups name master (λ e. is.0 (sym e)) ∙ up
-noted_master master node ups (From name (Line bytes)) is up = up
-noted_master master node ups (From name (Ask ask)) is up = up
-noted_master master node ups (From name (Answer answer)) is up = up
-noted_master master node ups (Opened conn) is up = up
-noted_master master node ups (Piece conn bytes) is up = up
-noted_master master node ups (Hung conn) is up = up
-
-took_is : (config : Config) (node : List ℕ) (input : NodeInput) (was now : Front) → InputIsQuiet (master_of config) node input → FrontIs config was
-    → Took input was now → FrontIs config now
-took_is config node input was now quiet is took = record {
+took_is : (config : Config) (input : NodeInput) (was now : Front) → FrontIs config was → Took input was now → FrontIs config now
+took_is config input was now is took = record {
   wait = took.wait;
   order = subst (IsInOrder (slice_cmp nat_cmp)) (sym took.ups) (noted_order was.ups input is.order);
-  master_up = ap (λ u. is_up u (master_of config)) took.ups ∙ noted_master (master_of config) node was.ups input quiet is.master_up;
+  master_is = took.master ∙ is.master_is;
 }
 
 -- ---- a world
@@ -205,15 +200,29 @@ abbrev AreDown : World → Type 0
 AreDown world = (node server : List ℕ) (front : Front) → front_at world node ≡ Some front → is_broken world.broken server node ≡ true
     → IsDown (on_link world.links server node) (is_up front.ups server)
 
+-- whom a frontend asks
+abbrev IsAsked : Config → List ℕ → Type 0
+IsAsked config server = (list_any (pointwise nat_eq server) (backends_of config.nodes) ≡ true) ⊎ (server ≡ master_of config)
+
 abbrev AreAllUp : Config → World → Type 0
-AreAllUp config world = world.broken ≡ [] → (node server : List ℕ) (front : Front) → front_at world node ≡ Some front
-    → list_any (pointwise nat_eq server) (backends_of config.nodes) ≡ true → is_up front.ups server ≡ true
+AreAllUp config world = world.broken ≡ [] → (node server : List ℕ) (front : Front) → front_at world node ≡ Some front → IsAsked config server
+    → is_up front.ups server ≡ true
+
+-- streams of nodes whose links to the master are broken
+abbrev AreOver : Config → World → Type 0
+AreOver config world = (node : List ℕ) (front : Front) (master : Master) → front_at world node ≡ Some front → master_at world (master_of config) ≡ Some master
+    → is_broken world.broken node (master_of config) ≡ true → IsOver (on_link world.links node (master_of config)) (stream_of master node)
+
+abbrev AreOrdered : Config → World → Type 0
+AreOrdered config world = (master : Master) → master_at world (master_of config) ≡ Some master → HasStreams master
 
 record Stand (config : Config) (world : World) : Type 0 where
   both : (one other : List ℕ) → is_broken world.broken one other ≡ is_broken world.broken other one
   fronts : FrontsAre config world
   down : AreDown world
   all_up : AreAllUp config world
+  over : AreOver config world
+  ordered : AreOrdered config world
 
 -- ---- something comes to a node
 
@@ -278,6 +287,73 @@ became world node input it there other now at =
     as_was ne (ap as_front (sym (value_at-with_value-other (slice_cmp nat_cmp) names_apart world.nodes node other acted.state ne) ∙ now_at) ∙ a_front now))
     (same_or_other (slice_cmp nat_cmp) names_apart other node)
 
+-- the master is as it was, or it took it
+
+NotMaster : NodeState → Type 0
+NotMaster (state.Front front) = Unit {0}
+NotMaster (state.Back home) = Unit {0}
+NotMaster (state.Master master) = ⊥
+
+front_is_none : (front : Front) (input : NodeInput) → NotMaster (front_takes front input).state
+unfolding front_takes NotMaster
+front_is_none front (Opened conn) = tt
+front_is_none front (Piece conn bytes) = tt
+front_is_none front (Hung conn) = tt
+front_is_none front (From name message) = tt
+
+back_is_none : (home : BackNode) (input : NodeInput) → NotMaster (back_takes home input).state
+unfolding back_takes NotMaster
+back_is_none home (Opened conn) = tt
+back_is_none home (Piece conn bytes) = tt
+back_is_none home (Hung conn) = tt
+back_is_none home (From name message) = tt
+
+no_master_state : (it : NodeState) (master : Master) → NotMaster it → it ≢ state.Master master
+unfolding NotMaster
+no_master_state it master not is = subst NotMaster is not
+
+its_state : (master : Master) (input : NodeInput) → (master_takes master input).state ≡ state.Master (master_does master input).master
+unfolding master_takes
+its_state master (Opened conn) = refl
+its_state master (Piece conn bytes) = refl
+its_state master (Hung conn) = refl
+its_state master (From name message) = refl
+
+-- the master behind what a node took
+record DoneBy (was : NodeState) (input : NodeInput) (now : Master) : Type 0 where
+  master : Master
+  is : was ≡ state.Master master
+  does : now ≡ (master_does master input).master
+
+done_by : (was : NodeState) (input : NodeInput) (now : Master) → (node_takes was input).state ≡ state.Master now → DoneBy was input now
+unfolding node_takes
+done_by (state.Front front) input now is = absurd (no_master_state (front_takes front input).state now (front_is_none front input) is)
+done_by (state.Back home) input now is = absurd (no_master_state (back_takes home input).state now (back_is_none home input) is)
+done_by (state.Master master) input now is =
+    record { master = master; is = refl; does = (let same : state.Master now ≡ state.Master (master_does master input).master = sym is ∙ its_state master input in cc) }
+
+data BecameMaster (world : World) (node : List ℕ) (input : NodeInput) (name : List ℕ) (now : Master) : Type 0 where
+  master_was : name ≢ node → master_at world name ≡ Some now → BecameMaster world node input name now
+  master_took : (was : Master) → name ≡ node → master_at world node ≡ Some was → now ≡ (master_does was input).master
+      → BecameMaster world node input name now
+
+became_master : (world : World) (node : List ℕ) (input : NodeInput) (it : NodeState) → node_at world node ≡ Some it → (name : List ℕ) (now : Master)
+    → master_at (acts world node (node_takes it input)) name ≡ Some now → BecameMaster world node input name now
+became_master world node input it there name now at =
+    let acted = node_takes it input in
+    let now_at : value_at (slice_cmp nat_cmp) (with_value (slice_cmp nat_cmp) world.nodes node acted.state) name ≡ Some (state.Master now) =
+    ap (λ nodes. value_at (slice_cmp nat_cmp) nodes name) (sym (acts_nodes world node acted)) ∙ master_is (node_at (acts world node acted) name) now at in
+    ⊎_elim
+    (λ (e : name ≡ node).
+    (let same : Some acted.state ≡ Some (state.Master now) =
+    sym (value_at-with_value (slice_cmp nat_cmp) names_apart world.nodes node acted.state it there)
+    ∙ subst (λ n. value_at (slice_cmp nat_cmp) (with_value (slice_cmp nat_cmp) world.nodes node acted.state) n ≡ Some (state.Master now)) e now_at in
+    let done = done_by it input now (same_Some acted.state (state.Master now) same) in
+    master_took done.master e (ap as_master there ∙ ap (λ s. as_master (Some s)) done.is ∙ a_master done.master) done.does))
+    (λ (ne : name ≢ node).
+    master_was ne (ap as_master (sym (value_at-with_value-other (slice_cmp nat_cmp) names_apart world.nodes node name acted.state ne) ∙ now_at) ∙ a_master now))
+    (same_or_other (slice_cmp nat_cmp) names_apart name node)
+
 -- no End that comes
 abbrev InputIsSaid : NodeInput → Type 0
 InputIsSaid (From name message) = IsQuiet message
@@ -295,7 +371,6 @@ said_keeps ups (Hung conn) server is up = up
 
 -- what holds of a world to whose node something comes
 record MayCome (config : Config) (world : World) (node : List ℕ) (input : NodeInput) : Type 0 where
-  quiet : InputIsQuiet (master_of config) node input
   said : world.broken ≡ [] → InputIsSaid input
   both : (one other : List ℕ) → is_broken world.broken one other ≡ is_broken world.broken other one
   fronts : FrontsAre config world
@@ -304,11 +379,23 @@ record MayCome (config : Config) (world : World) (node : List ℕ) (input : Node
       → IsDown (on_link world.links server other) (is_up front.ups server)
   here_down : (server : List ℕ) (front : Front) → front_at world node ≡ Some front → is_broken world.broken server node ≡ true
       → IsDown (on_link world.links server node) (is_up (noted front.ups input) server)
+  ordered : AreOrdered config world
+  else_over : node ≢ master_of config → AreOver config world
+  here_over : node ≡ master_of config → (other : List ℕ) (front : Front) (master : Master) → front_at world other ≡ Some front
+      → master_at world (master_of config) ≡ Some master → is_broken world.broken other (master_of config) ≡ true
+      → IsOver (on_link world.links other (master_of config)) (stream_of (master_does master input).master other)
 
 module _ (config : Config) (world : World) (node : List ℕ) (input : NodeInput) (may : MayCome config world node input) where
+  abbrev me : List ℕ
+  me = master_of config
+
   no_front_there : as_front None ≡ None
   unfolding as_front
   no_front_there = refl
+
+  no_master_there : as_master None ≡ None
+  unfolding as_master
+  no_master_there = refl
 
   none_stands : node_at world node ≡ None → Stand config world
   none_stands none = record {
@@ -320,8 +407,17 @@ module _ (config : Config) (world : World) (node : List ℕ) (input : NodeInput)
         absurd (let no : None ≡ Some front = sym (ap as_front none ∙ no_front_there) ∙ ap (front_at world) (sym e) ∙ at in none_some front no))
         (λ (ne : other ≢ node). may.else_down other server front ne at broken)
         (same_or_other (slice_cmp nat_cmp) names_apart other node);
+    over = λ other front master at is broken. ⊎_elim
+        (λ (e : node ≡ me).
+        absurd (let no : None ≡ Some master = sym (ap as_master none ∙ no_master_there) ∙ ap (master_at world) e ∙ is in no_master master no))
+        (λ (ne : node ≢ me). may.else_over ne other front master at is broken)
+        (same_or_other (slice_cmp nat_cmp) names_apart node me);
+    ordered = may.ordered;
   }
     where
+      no_master : (master : Master) → None ≡ Some master → ⊥
+      no_master master e = cc
+
       none_some : (front : Front) → None ≡ Some front → ⊥
       none_some front e = cc
 
@@ -335,7 +431,7 @@ module _ (config : Config) (world : World) (node : List ℕ) (input : NodeInput)
     front_by : (other : List ℕ) (now : Front) → Became world node input other now → FrontIs config now
     front_by other now (as_was ne at) = may.fronts other now at
     front_by other now (has_taken was e at took) =
-        let is = may.fronts node was at in took_is config node input was now may.quiet is (took is.wait)
+        let is = may.fronts node was at in took_is config input was now is (took is.wait)
 
     down_by : (other server : List ℕ) (now : Front) → Became world node input other now → is_broken world.broken server other ≡ true
         → IsDown (on_link world.links server other) (is_up now.ups server)
@@ -345,12 +441,28 @@ module _ (config : Config) (world : World) (node : List ℕ) (input : NodeInput)
         (subst (λ u. IsDown (on_link world.links server node) (is_up u server)) (sym (took (may.fronts node was at).wait).ups)
         (may.here_down server was at (subst (λ n. is_broken world.broken server n ≡ true) e broken)))
 
-    up_by : world.broken ≡ [] → (other server : List ℕ) (now : Front) → Became world node input other now
-        → list_any (pointwise nat_eq server) (backends_of config.nodes) ≡ true → is_up now.ups server ≡ true
+    up_by : world.broken ≡ [] → (other server : List ℕ) (now : Front) → Became world node input other now → IsAsked config server
+        → is_up now.ups server ≡ true
     up_by whole other server now (as_was ne at) among = may.all_up whole other server now at among
     up_by whole other server now (has_taken was e at took) among =
         ap (λ u. is_up u server) (took (may.fronts node was at).wait).ups
         ∙ said_keeps was.ups input server (may.said whole) (may.all_up whole node server was at among)
+
+    -- a frontend is one that was there
+    was_front : (other : List ℕ) (now : Front) → Became world node input other now → (was : Front) × (front_at world other ≡ Some was)
+    was_front other now (as_was ne at) = (now, at)
+    was_front other now (has_taken was e at took) = (was, ap (front_at world) e ∙ at)
+
+    over_by : (other : List ℕ) (front : Front) (now : Master) → front_at world other ≡ Some front → BecameMaster world node input me now
+        → is_broken world.broken other me ≡ true → IsOver (on_link world.links other me) (stream_of now other)
+    over_by other front now at (master_was ne is) broken = may.else_over (λ e. ne (sym e)) other front now at is broken
+    over_by other front now at (master_took was e is does) broken =
+        subst (λ (m : Master). IsOver (on_link world.links other me) (stream_of m other)) (sym does)
+        (may.here_over (sym e) other front was at (ap (master_at world) e ∙ is) broken)
+
+    ordered_by : (now : Master) → BecameMaster world node input me now → HasStreams now
+    ordered_by now (master_was ne is) = may.ordered now is
+    ordered_by now (master_took was e is does) = subst HasStreams (sym does) (order_stays was input (may.ordered was (ap (master_at world) e ∙ is)))
 
     some_stands : comes_to world node input (Some it) ≡ then → Stand config then
     some_stands is = record {
@@ -362,6 +474,13 @@ module _ (config : Config) (world : World) (node : List ℕ) (input : NodeInput)
           subst (λ q. IsDown q (is_up front.ups server))
           (sym (ap (λ (w : World). on_link w.links server other) (sym is) ∙ comes_lost world node input (Some it) server other was))
           (down_by other server front (became world node input it there other front at) was));
+      over = λ other front master at its broken.
+          (let was : is_broken world.broken other me ≡ true = ap (λ b. is_broken b other me) (sym then_broken) ∙ broken in
+          let there_before = was_front other front (became world node input it there other front at) in
+          subst (λ q. IsOver q (stream_of master other))
+          (sym (ap (λ (w : World). on_link w.links other me) (sym is) ∙ comes_lost world node input (Some it) other me was))
+          (over_by other there_before.0 master there_before.1 (became_master world node input it there me master its) was));
+      ordered = λ master its. ordered_by master (became_master world node input it there me master its);
     }
 
   stands_by : (found : Option NodeState) → node_at world node ≡ found → Stand config (comes_to world node input found)
@@ -385,11 +504,11 @@ client_noted ups (Piece conn bytes) is = refl
 client_noted ups (Hung conn) is = refl
 client_noted ups (From name message) is = absurd is
 
-client_quiet : (master node : List ℕ) (input : NodeInput) → IsOfClient input → InputIsQuiet master node input
-client_quiet master node (Opened conn) is = tt
-client_quiet master node (Piece conn bytes) is = tt
-client_quiet master node (Hung conn) is = tt
-client_quiet master node (From name message) is = absurd is
+client_not_from : (node : List ℕ) (input : NodeInput) → IsOfClient input → IsNotFrom node input
+client_not_from node (Opened conn) is = tt
+client_not_from node (Piece conn bytes) is = tt
+client_not_from node (Hung conn) is = tt
+client_not_from node (From name message) is = absurd is
 
 client_said : (input : NodeInput) → IsOfClient input → InputIsSaid input
 client_said (Opened conn) is = tt
@@ -399,7 +518,6 @@ client_said (From name message) is = absurd is
 
 client_may : (config : Config) (world : World) (node : List ℕ) (input : NodeInput) → IsOfClient input → Stand config world → MayCome config world node input
 client_may config world node input is stand = record {
-  quiet = client_quiet (master_of config) node input is;
   said = λ _. client_said input is;
   both = stand.both;
   fronts = stand.fronts;
@@ -407,6 +525,11 @@ client_may config world node input is stand = record {
   else_down = λ other server front ne at broken. stand.down other server front at broken;
   here_down = λ server front at broken.
       subst (λ u. IsDown (on_link world.links server node) (is_up u server)) (sym (client_noted front.ups input is)) (stand.down node server front at broken);
+  ordered = stand.ordered;
+  else_over = λ ne. stand.over;
+  here_over = λ e other front master at its broken.
+      subst (IsOver (on_link world.links other (master_of config))) (sym (streams_stay master other input (client_not_from other input is)))
+      (stand.over other front master at its broken);
 }
 
 opens_stand : (config : Config) (world : World) (node : List ℕ) (conn : ℕ) (found : Option Client) → Stand config world
@@ -415,7 +538,7 @@ unfolding opens
 opens_stand config world node conn (Some there) stand = stand
 opens_stand config world node conn None stand =
     comes_stand config (with_client world node conn) node (Opened conn) (client_may config (with_client world node conn) node (Opened conn) tt
-    (record { both = stand.both; fronts = stand.fronts; all_up = stand.all_up; down = stand.down }))
+    (record { both = stand.both; fronts = stand.fronts; all_up = stand.all_up; down = stand.down; over = stand.over; ordered = stand.ordered }))
 
 acts_stand : (config : Config) (world : World) (input : NodeInput) (found : Option Client) → IsOfClient input → Stand config world
     → Stand config (client_does world input found)
@@ -435,6 +558,18 @@ taken_first message rest up (has_ended e down) = absurd (none_there message rest
   where
     none_there : (message : LinkMsg) (rest : List LinkMsg) → message ∷ rest ≡ [] → ⊥
     none_there message rest e = cc
+
+-- behind the first message to the master there is the End still, or that was it, and the stream ends
+over_first : (master : Master) (node : List ℕ) (message : LinkMsg) (rest : List LinkMsg) → HasStreams master → IsOver (message ∷ rest) (stream_of master node)
+    → IsOver rest (stream_of (node_says master node message).master node)
+over_first master node message rest order (over_soon [] e) =
+    let ended : message ≡ End = cc in
+    is_over (let none : rest ≡ [] = cc in none) (ap (λ m. stream_of (node_says master node m).master node) ended ∙ stream_ends master node order)
+over_first master node message rest order (over_soon (first ∷ messages) e) = over_soon messages (let same : rest ≡ messages ++ End ∷ [] = cc in same)
+over_first master node message rest order (is_over e none) = absurd (nothing_there message rest e)
+  where
+    nothing_there : (message : LinkMsg) (rest : List LinkMsg) → message ∷ rest ≡ [] → ⊥
+    nothing_there message rest e = cc
 
 -- of the others' links nothing is noted
 other_noted : (ups : Ups) (from server : List ℕ) (message : LinkMsg) → server ≢ from → is_up (noted ups (From from message)) server ≡ is_up ups server
@@ -471,9 +606,17 @@ module _ (config : Config) (world : World) (from to : List ℕ) (message : LinkM
       (taken_first message rest (is_up front.ups from)
       (subst (λ q. IsDown q (is_up front.ups from)) first (stand.down to from front at broken))))
 
+  -- the stream of the node from which it comes
+  this_over : to ≡ master_of config → (master : Master) (front : Front) → front_at world from ≡ Some front → master_at world (master_of config) ≡ Some master
+      → is_broken world.broken from (master_of config) ≡ true
+      → IsOver (on_link taken.links from (master_of config)) (stream_of (node_says master from message).master from)
+  this_over e master front at its broken =
+      subst (λ q. IsOver q (stream_of (node_says master from message).master from)) (sym (ap (on_link taken.links from) (sym e) ∙ taken_rest))
+      (over_first master from message rest (stand.ordered master its)
+      (subst (λ q. IsOver q (stream_of master from)) (ap (on_link world.links from) (sym e) ∙ first) (stand.over from front master at its broken)))
+
   message_may : MayCome config taken to (From from message)
   message_may = record {
-    quiet = (subst (AllByRecursion (IsQuietOn (master_of config) from to)) first (quiet.links from to)).0;
     said = λ whole. (subst (AllByRecursion IsQuiet) first (quiet.calm whole from to)).0;
     both = stand.both;
     fronts = stand.fronts;
@@ -490,6 +633,21 @@ module _ (config : Config) (world : World) (from to : List ℕ) (message : LinkM
         (sym (same_queue world.links from to server to (same_link server to from to) refl (λ is. ne is.0)))
         (subst (IsDown (on_link world.links server to)) (sym (other_noted front.ups from server message ne)) (stand.down to server front at broken)))
         (same_or_other (slice_cmp nat_cmp) names_apart server from);
+    ordered = stand.ordered;
+    else_over = λ ne other front master at its broken.
+        subst (λ q. IsOver q (stream_of master other))
+        (sym (same_queue world.links from to other (master_of config) (same_link other (master_of config) from to) refl (λ is. ne (sym is.1))))
+        (stand.over other front master at its broken);
+    here_over = λ e other front master at its broken. ⊎_elim
+        (λ (same : other ≡ from).
+        subst (λ n. IsOver (on_link taken.links n (master_of config)) (stream_of (node_says master from message).master n)) (sym same)
+        (this_over e master front (ap (front_at world) (sym same) ∙ at) its (ap (λ n. is_broken world.broken n (master_of config)) (sym same) ∙ broken)))
+        (λ (ne : other ≢ from).
+        subst (λ q. IsOver q (stream_of (node_says master from message).master other))
+        (sym (same_queue world.links from to other (master_of config) (same_link other (master_of config) from to) refl (λ is. ne is.0)))
+        (subst (IsOver (on_link world.links other (master_of config))) (sym (streams_stay master other (From from message) (λ same. ne (sym same))))
+        (stand.over other front master at its broken)))
+        (same_or_other (slice_cmp nat_cmp) names_apart other from);
   }
 
 deliver_stands : (config : Config) (world : World) (from to : List ℕ) (queue : List LinkMsg) → on_link world.links from to ≡ queue
@@ -530,6 +688,12 @@ cut_down true there was up k l queue is down = is_ending (take k queue) refl
 cut_down false true was up k l queue is down = is_ending (take l queue) refl
 cut_down false false was up k l queue is down = down is
 
+cut_over : (here there was : Bool) (k l : ℕ) (queue : List LinkMsg) (stream : Option Tag) → ((here || there) || was) ≡ true → (was ≡ true → IsOver queue stream)
+    → IsOver (cond here (take k queue ++ End ∷ []) (cond there (take l queue ++ End ∷ []) queue)) stream
+cut_over true there was k l queue stream is over = over_soon (take k queue) refl
+cut_over false true was k l queue stream is over = over_soon (take l queue) refl
+cut_over false false was k l queue stream is over = over is
+
 cut_changes : (world : World) (one other : List ℕ) (k l : ℕ) → may_cut world one other ≡ true
     → OnlyLinksChange (Cut one other k l) world (with_cut world one other k l)
 unfolding cuts_if
@@ -549,6 +713,12 @@ cut_stands config world one other k l true e stand =
           subst (λ q. IsDown q (is_up front.ups server)) (sym (now.queues server node))
           (cut_down (same_link server node one other) (same_link server node other one) (is_broken world.broken server node) (is_up front.ups server) k l
           (on_link world.links server node) (sym (now.broken server node) ∙ broken) (stand.down node server front at));
+      over = λ node front master at its broken.
+          (let me : List ℕ = master_of config in
+          subst (λ q. IsOver q (stream_of master node)) (sym (now.queues node me))
+          (cut_over (same_link node me one other) (same_link node me other one) (is_broken world.broken node me) k l
+          (on_link world.links node me) (stream_of master node) (sym (now.broken node me) ∙ broken) (stand.over node front master at its)));
+      ordered = stand.ordered;
     }
 cut_stands config world one other k l false e stand = stand
 
@@ -560,6 +730,13 @@ join_down true there was up queue is down = cc
 join_down false true was up queue is down = cc
 join_down false false was up queue is down =
     subst (λ q. IsDown q up) (sym (append-nil (queue ++ []) ∙ append-nil queue)) (down is)
+
+join_over : (here there was : Bool) (queue : List LinkMsg) (stream : Option Tag) → cond (here || there) false was ≡ true → (was ≡ true → IsOver queue stream)
+    → IsOver ((queue ++ cond here (Up ∷ []) []) ++ cond there (Up ∷ []) []) stream
+join_over true there was queue stream is over = cc
+join_over false true was queue stream is over = cc
+join_over false false was queue stream is over =
+    subst (λ q. IsOver q stream) (sym (append-nil (queue ++ []) ∙ append-nil queue)) (over is)
 
 join_changes : (world : World) (one other : List ℕ) → OnlyLinksChange (Join one other) world (with_join world one other)
 unfolding joins_if
@@ -578,6 +755,12 @@ join_stands config world one other true stand =
           subst (λ q. IsDown q (is_up front.ups server)) (sym (now.queues server node))
           (join_down (same_link server node one other) (same_link server node other one) (is_broken world.broken server node) (is_up front.ups server)
           (on_link world.links server node) (sym (now.broken server node) ∙ broken) (stand.down node server front at));
+      over = λ node front master at its broken.
+          (let me : List ℕ = master_of config in
+          subst (λ q. IsOver q (stream_of master node)) (sym (now.queues node me))
+          (join_over (same_link node me one other) (same_link node me other one) (is_broken world.broken node me)
+          (on_link world.links node me) (stream_of master node) (sym (now.broken node me) ∙ broken) (stand.over node front master at its)));
+      ordered = stand.ordered;
     }
 join_stands config world one other false stand = stand
 
@@ -597,7 +780,7 @@ step_stands : (config : Config) (world : World) (event : Event) → WorldIsQuiet
     → Stand config (steps_by world event)
 step_stands config world event quiet stand =
     takes_stand config (stepped world) event (record { nodes = quiet.nodes; links = quiet.links; whole = quiet.whole; calm = quiet.calm })
-    (record { both = stand.both; fronts = stand.fronts; all_up = stand.all_up; down = stand.down })
+    (record { both = stand.both; fronts = stand.fronts; all_up = stand.all_up; down = stand.down; over = stand.over; ordered = stand.ordered })
 
 run_stands : (config : Config) (world : World) (steps : List Event) → WorldIsQuiet (master_of config) world → Stand config world
     → Stand config (run_steps world steps)
@@ -623,14 +806,14 @@ unfolding IsStrictlySortedBy
 none_order = tt
 
 first_is_new : (config : Config) (name : List ℕ) → ((first_front config name).connections ≡ [])
-    × ((first_front config name).ups ≡ ups_on name [] (links_of config.nodes))
+    × ((first_front config name).ups ≡ ups_on name [] (links_of config.nodes)) × ((first_front config name).master ≡ master_of config)
 unfolding new_front
-first_is_new config name = (refl, refl)
+first_is_new config name = (refl, refl, refl)
 
 -- a frontend at the start
 record StartsUp (config : Config) (front : Front) : Type 0 where
   is : FrontIs config front
-  up : (server : List ℕ) → list_any (pointwise nat_eq server) (backends_of config.nodes) ≡ true → is_up front.ups server ≡ true
+  up : (server : List ℕ) → IsAsked config server → is_up front.ups server ≡ true
 
 starts_up : (config : Config) (are : AreNodes config.nodes) (name : List ℕ) (front : Front) (found : Option Node) → Starts config are name found
     → front_at (start config) name ≡ Some front → StartsUp config front
@@ -641,14 +824,30 @@ starts_up config are name front found (is_front node begins front_kind back_kind
       is = record {
         wait = none_waits (first_front config name) new.0;
         order = subst (IsInOrder (slice_cmp nat_cmp)) (sym new.1) (ups_order name [] (links_of config.nodes) none_order);
-        master_up = ap (λ u. is_up u (master_of config)) new.1 ∙ begins.linked.to_master;
+        master_is = new.2;
       };
-      up = λ server among. ap (λ u. is_up u server) new.1 ∙ begins.linked.to_backend server among;
+      up = λ server. ⊎_elim
+          (λ among. ap (λ u. is_up u server) new.1 ∙ begins.linked.to_backend server among)
+          (λ e. ap (λ n. is_up (first_front config name).ups n) e ∙ ap (λ u. is_up u (master_of config)) new.1 ∙ begins.linked.to_master);
     })
 starts_up config are name front found (is_home node begins front_kind back_kind master_kind) at =
     absurd (no_one (front_at (start config) name) front at (back_no_front (node_at (start config) name) _ begins.at))
 starts_up config are name front found (is_silent other it begins no_front no_back front_kind back_kind masters) at =
     absurd (no_one (front_at (start config) name) front at (ap as_front begins.at ∙ no_front))
+
+-- no node has a stream yet
+first_streams : (config : Config) → (first_master config).streams ≡ []
+unfolding booted
+first_streams config = refl
+
+no_streams_order : (let none : List (List ℕ × Tag) = [] in IsInOrder (slice_cmp nat_cmp) none)
+unfolding IsStrictlySortedBy
+no_streams_order = tt
+
+start_ordered : (config : Config) → AreNodes config.nodes → AreOrdered config (start config)
+start_ordered config are master at =
+    let same : first_master config ≡ master = same_Some (first_master config) master (sym (ap as_master (master_starts config are).at ∙ a_master (first_master config)) ∙ at) in
+    subst (IsInOrder (slice_cmp nat_cmp)) (sym (first_streams config) ∙ ap (λ (m : Master). m.streams) same) no_streams_order
 
 start_stands : (config : Config) → AreNodes config.nodes → Stand config (start config)
 start_stands config are = record {
@@ -656,6 +855,8 @@ start_stands config are = record {
   fronts = λ name front at. (starts_up config are name front (node_named name config.nodes) (starts config are name) at).is;
   all_up = λ whole name server front at among. (starts_up config are name front (node_named name config.nodes) (starts config are name) at).up server among;
   down = λ node server front at broken. absurd (let no : false ≡ true = sym (not_broken server node) ∙ broken in false_true no);
+  over = λ node front master at its broken. absurd (let no : false ≡ true = sym (not_broken node (master_of config)) ∙ broken in false_true no);
+  ordered = start_ordered config are;
 }
   where
     not_broken : (one other : List ℕ) → is_broken (start config).broken one other ≡ false
@@ -666,18 +867,27 @@ start_stands config are = record {
 
 -- ---- a run
 
+-- a frontend has the nodes in order to which its links are up
+pub ups_in_order : (config : Config) (steps : List Event) → AreNodes config.nodes → (node : List ℕ) (front : Front)
+    → front_at (run_steps (start config) steps) node ≡ Some front → IsInOrder (slice_cmp nat_cmp) front.ups
+ups_in_order config steps are node front at =
+    ((run_stands config (start config) steps (start_quiet config are) (start_stands config are)).fronts node front at).order
+
 pub links_stand : (config : Config) (steps : List Event) → AreNodes config.nodes → LinksStand config (run_steps (start config) steps)
 links_stand config steps are =
     let world : World = run_steps (start config) steps in
     let quiet = never_moved config steps are in
     let stand = run_stands config (start config) steps (start_quiet config are) (start_stands config are) in
     record {
-      from_master = λ node. (quiet.whole node).0;
-      to_master = λ node. (quiet.whole node).1;
+      from_master = λ node home. (quiet.whole node home).0;
+      to_master = λ node home. (quiet.whole node home).1;
       both = stand.both;
-      master_up = λ node front at. (stand.fronts node front at).master_up;
       down = stand.down;
+      master_down = stand.over;
       waits_up = λ node server front conn at asked.
-          waits_for_up front conn (connection_at front conn) server (stand.fronts node front at).wait refl asked;
-      all_up = stand.all_up;
+          (let is = stand.fronts node front at in
+          awaited_up front conn (connection_at front conn) server is.wait refl
+          (ap (λ m. awaited m (connection_at front conn) server) is.master_is ∙ asked));
+      all_up = λ whole node server front at among. stand.all_up whole node server front at (inl among);
+      master_up = λ whole node front at. stand.all_up whole node (master_of config) front at (inr refl);
     }

@@ -1,5 +1,5 @@
 -- Which nodes' links may break, by what each is. It stays that whatever comes to a node.
-use Rattle.std.proofs.Common.{◌≡◌, ◌≢◌, ◌&&◌, ℕ, Bool, true, false, not, List, Option, None, Some, refl, sym, ◌∙◌, ap}
+use Rattle.std.proofs.Common.{◌≡◌, ◌≢◌, ◌⊎◌, inl, inr, ◌&&◌, ℕ, Bool, true, false, not, List, Option, None, Some, refl, sym, ◌∙◌, ap}
 use Rattle.std.proofs.Math.Logic.{⊎_elim}
 use Rattle.std.specs.Cmp.Lexicographic.{slice_cmp}
 use Rattle.std.specs.Option.{IsSome}
@@ -11,7 +11,7 @@ use Rattle.mur_base.proofs.MapLaws.{names_apart, same_or_other}
 use Rattle.mur_base.specs.Map.{value_at}
 use Rattle.mur_config.specs.declared.node.Kind.{Kind}
 use Rattle.mur_config.specs.declared.node.Kind.TheVariants.{Master as master_kind, Frontend, Backend}
-use Rattle.node_step.specs.NodeStep.{as_back, back_takes, front_takes, master_takes, takes as node_takes}
+use Rattle.node_step.specs.NodeStep.{as_back, as_master, back_takes, front_takes, master_takes, takes as node_takes}
 use Rattle.node_step.specs.declared.input.NodeInput.{NodeInput}
 use Rattle.node_step.specs.declared.input.NodeInput.TheVariants.{Opened, Piece, Hung, From}
 use Rattle.node_step.specs.declared.node.NodeState.{NodeState}
@@ -36,6 +36,8 @@ kind_of (Some (state.Master master)) = Some master_kind
 are_kinds : Option Kind → Option Kind → Bool
 are_kinds (Some Frontend) (Some Backend) = true
 are_kinds (Some Backend) (Some Frontend) = true
+are_kinds (Some Frontend) (Some master_kind) = true
+are_kinds (Some master_kind) (Some Frontend) = true
 are_kinds (Some Backend) (Some Backend) = true
 are_kinds one other = false
 
@@ -61,9 +63,9 @@ swapped (Some Frontend) (Some Backend) e = refl
 swapped (Some Backend) (Some Frontend) e = refl
 swapped (Some Backend) (Some Backend) e = refl
 swapped (Some Frontend) (Some Frontend) e = cc
-swapped (Some Frontend) (Some master_kind) e = cc
+swapped (Some Frontend) (Some master_kind) e = refl
+swapped (Some master_kind) (Some Frontend) e = refl
 swapped (Some Backend) (Some master_kind) e = cc
-swapped (Some master_kind) (Some Frontend) e = cc
 swapped (Some master_kind) (Some Backend) e = cc
 swapped (Some master_kind) (Some master_kind) e = cc
 swapped (Some Frontend) None e = cc
@@ -91,19 +93,33 @@ unfolding may_part
 one_there world one other parted none =
     (let no : false ≡ true = sym (ap (λ n. may_part n (node_at world other)) none) ∙ parted in cc)
 
--- where the other is a frontend, it is a backend
-is_back : (it : Option NodeState) → are_kinds (kind_of it) (Some Frontend) ≡ true → IsSome (as_back it)
-unfolding are_kinds as_back
-is_back None e = cc
-is_back (Some (state.Front front)) e = cc
-is_back (Some (state.Back home)) e = refl
-is_back (Some (state.Master master)) e = cc
+-- where the other is a frontend, it is a backend or the master
+is_served : (it : Option NodeState) → are_kinds (kind_of it) (Some Frontend) ≡ true → IsSome (as_back it) ⊎ IsSome (as_master it)
+unfolding are_kinds as_back as_master
+is_served None e = cc
+is_served (Some (state.Front front)) e = cc
+is_served (Some (state.Back home)) e = inl refl
+is_served (Some (state.Master master)) e = inr refl
 
-pub front_with_home : (world : World) (one other : List ℕ) → kind_of (node_at world other) ≡ Some Frontend → ArePartedAt world one other
-    → IsSome (as_back (node_at world one))
-front_with_home world one other is parted =
-    is_back (node_at world one)
+pub front_is_served : (world : World) (one other : List ℕ) → kind_of (node_at world other) ≡ Some Frontend → ArePartedAt world one other
+    → IsSome (as_back (node_at world one)) ⊎ IsSome (as_master (node_at world one))
+front_is_served world one other is parted =
+    is_served (node_at world one)
     (ap (are_kinds (kind_of (node_at world one))) (sym is) ∙ sym (part_by (node_at world one) (node_at world other)) ∙ parted)
+
+-- where it is the master, the other is a frontend
+is_front_kind : (kind : Option Kind) → are_kinds (Some master_kind) kind ≡ true → kind ≡ Some Frontend
+unfolding are_kinds
+is_front_kind (Some Frontend) e = refl
+is_front_kind (Some Backend) e = cc
+is_front_kind (Some master_kind) e = cc
+is_front_kind None e = cc
+
+pub masters_front : (world : World) (one other : List ℕ) → kind_of (node_at world one) ≡ Some master_kind → ArePartedAt world one other
+    → kind_of (node_at world other) ≡ Some Frontend
+masters_front world one other is parted =
+    is_front_kind (kind_of (node_at world other))
+    (ap (λ k. are_kinds k (kind_of (node_at world other))) (sym is) ∙ sym (part_by (node_at world one) (node_at world other)) ∙ parted)
 
 -- ---- whatever comes to a node
 

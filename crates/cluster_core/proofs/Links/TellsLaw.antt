@@ -1,4 +1,4 @@
--- WHAT TELLS OF LINKS IN A RUN: Up and End are on their way between a frontend and a backend, or between two backends, alone.
+-- WHAT TELLS OF LINKS IN A RUN: Up and End are on their way between a frontend and a backend or the master, or between two backends, alone.
 use Rattle.std.proofs.Common.{◌≡◌, ℕ, Bool, true, false, List, [], ◌∷◌, ◌++◌, take, Option, None, Some, refl, sym, subst}
 use Rattle.std.specs.List.{AllByRecursion}
 use Rattle.cluster_core.specs.Flow.{run_steps}
@@ -19,7 +19,7 @@ use Rattle.schedule_text.specs.declared.event.Event.TheVariants.{Open, Data, Han
 use Rattle.cluster_core.proofs.Keeps.Always.{HoldsAlways}
 use Rattle.cluster_core.proofs.Keeps.AlwaysRuns.{start_holds, step_holds}
 use Rattle.cluster_core.proofs.Links.Tells.{ArePartedAt, comes_kinds, cut_parted, parted_back, parted_still}
-use Rattle.cluster_core.proofs.Runs.NeverMoved.{AreAllOn, WorldIsQuiet, comes_links, either_queue, kept_quiet, may_join_broken, one_more, start_quiet, step_quiet, taken_all}
+use Rattle.cluster_core.proofs.Runs.NeverMoved.{AreAllOn, WorldIsQuiet, among_homes, comes_links, either_queue, homes_of, kept_quiet, may_join_broken, one_more, start_quiet, step_quiet, taken_all}
 use Rattle.cluster_core.proofs.Runs.QuietNodes.{InputIsQuiet, IsQuiet, IsQuietOn, outs_quiet}
 use Rattle.cluster_core.proofs.Starts.Begins.{start_quiet as begins_quiet}
 
@@ -53,12 +53,12 @@ all_on P Q [] goes all = tt
 all_on P Q (message ∷ queue) goes all = (goes message all.0, all_on P Q queue goes all.1)
 
 module _ (master : List ℕ) where
-  comes_tell : (world : World) (node : List ℕ) (input : NodeInput) → InputIsQuiet master node input → WorldIsQuiet master world → LinksTell world
+  comes_tell : (world : World) (node : List ℕ) (input : NodeInput) → InputIsQuiet master (homes_of world) node input → WorldIsQuiet master world → LinksTell world
       → LinksTell (comes world node input)
   comes_tell world node input is quiet tells =
       let next : World = comes world node input in
       comes_links (TellsParted next) (said_tells next) world node input (node_at world node)
-      (λ it there. outs_quiet master node it input (quiet.nodes node it there) is)
+      (λ it there. outs_quiet master (homes_of world) node it input (quiet.nodes node it there) (among_homes world node it there) is)
       (λ from to. all_on (TellsParted world from to) (TellsParted next from to) (on_link world.links from to)
       (tells_on world next from to (parted_still world next (comes_kinds world node input) from to)) (tells from to))
 
@@ -84,10 +84,10 @@ module _ (master : List ℕ) where
   unfolding deliver_first
   deliver_tell world from to [] first quiet tells = tells
   deliver_tell world from to (message ∷ rest) first quiet tells =
-      comes_tell (taken_from_link world from to) to (From from message) (subst (AllByRecursion (IsQuietOn master from to)) first (quiet.links from to)).0
+      comes_tell (taken_from_link world from to) to (From from message) (subst (AllByRecursion (IsQuietOn master (homes_of world) from to)) first (quiet.links from to)).0
       (record {
         nodes = quiet.nodes;
-        links = taken_all master (IsQuietOn master) world.links from to quiet.links;
+        links = taken_all master (IsQuietOn master (homes_of world)) world.links from to quiet.links;
         whole = quiet.whole;
         calm = λ none. taken_all master (λ a b message. IsQuiet message) world.links from to (quiet.calm none);
       })

@@ -20,7 +20,7 @@ use Rattle.node_step.specs.declared.input.NodeInput.TheVariants.{Opened, Piece, 
 use Rattle.node_step.specs.declared.node.NodeState.{NodeState}
 use Rattle.schedule_text.specs.declared.event.Event.{Event}
 use Rattle.schedule_text.specs.declared.event.Event.TheVariants.{Open, Data, Hang, Deliver, Cut, Join}
-use Rattle.cluster_core.proofs.Links.Thinned.{IsPart, IsPart, IsThinned, all_of, behind_same, same_thinned}
+use Rattle.cluster_core.proofs.Links.Thinned.{IsShort, IsThinned, all_there, kept_first, same_thinned}
 use Rattle.cluster_core.proofs.Nodes.AllCome.{all_come, all_come_to, all_first, all_of_client, all_open, all_takes}
 use Rattle.cluster_core.proofs.Nodes.Carried.{IsCarried, all_carried, given_all, given_out, made, mark_made, marks_made}
 
@@ -56,20 +56,6 @@ module _ (broken : Broken) (node : List ℕ) where
 
   -- of the messages to another node
   module _ (other : List ℕ) where
-    without : (before part whole : List LinkMsg) → IsPart part whole → IsPart part (before ++ whole)
-    without [] part whole is = is
-    without (x ∷ before) part whole is = IsPart.lacks_it x (without before part whole is)
-
-    pub rest_sent : (outs : List Out) → IsPart (messages_to other (not_lost broken node outs)) (messages_to other outs)
-    unfolding not_lost
-    rest_sent [] = IsPart.is_none
-    rest_sent (out ∷ outs) = by (rest_sent outs) (is_lost broken node out)
-      where
-        by : IsPart (messages_to other (not_lost broken node outs)) (messages_to other outs) → (gone : Bool)
-            → IsPart (messages_to other (if gone then not_lost broken node outs else out ∷ not_lost broken node outs)) (messages_to other (out ∷ outs))
-        by rest true = without (message_to other out) (messages_to other (not_lost broken node outs)) (messages_to other outs) rest
-        by rest false = behind_same (message_to other out) rest
-
     -- on a link that isn't broken
     not_there : (whole : is_broken broken node other ≡ false) (out : Out) → is_lost broken node out ≡ true → message_to other out ≡ []
     unfolding is_lost
@@ -146,18 +132,6 @@ module _ (world : World) (node : List ℕ) (acted : Acted) where
   abbrev all : World
   all = made (with_written world node acted.entry) node acted.state acted.outs
 
-  own_part : (b : List ℕ) → IsPart (on_link (acts world node acted).links node b) (on_link all.links node b)
-  own_part b =
-      subst (λ (l : List LinkMsg). IsPart l (on_link all.links node b)) (sym (real_own b))
-      (subst (λ (l : List LinkMsg). IsPart (on_link world.links node b ++ messages_to b outs) l) (sym (full_own b))
-      (behind_same (on_link world.links node b) (rest_sent world.broken node b acted.outs)))
-
-  part_at : (a b : List ℕ) → IsPart (on_link (acts world node acted).links a b) (on_link all.links a b)
-  part_at a b = ⊎_elim
-      (λ (e : a ≡ node). subst (λ x. IsPart (on_link (acts world node acted).links x b) (on_link all.links x b)) (sym e) (own_part b))
-      (λ (ne : a ≢ node). subst (λ (l : List LinkMsg). IsPart l (on_link all.links a b)) (full_else a b ne ∙ sym (real_else a b ne)) (all_of (on_link all.links a b)))
-      (same_or_other (slice_cmp nat_cmp) names_apart a node)
-
   -- on a broken link from the node nothing more is
   pub acts_cut : (b : List ℕ) → is_broken world.broken node b ≡ true → on_link (acts world node acted).links node b ≡ on_link world.links node b
   acts_cut b cut =
@@ -173,6 +147,18 @@ module _ (world : World) (node : List ℕ) (acted : Acted) where
       (λ (ne : a ≢ node). (λ whole. real_else a b ne ∙ sym (full_else a b ne)))
       (same_or_other (slice_cmp nat_cmp) names_apart a node)
 
+  own_short : (b : List ℕ) (cut : Bool) → is_broken world.broken node b ≡ cut → IsShort (on_link (acts world node acted).links node b) (on_link all.links node b)
+  own_short b true e =
+      subst (λ l. IsShort l (on_link all.links node b)) (sym (acts_cut b e))
+      (subst (IsShort (on_link world.links node b)) (sym (full_own b)) (kept_first (on_link world.links node b) (messages_to b acted.outs)))
+  own_short b false e = subst (λ l. IsShort l (on_link all.links node b)) (sym (own_whole b e)) (all_there (on_link all.links node b))
+
+  short_at : (a b : List ℕ) → IsShort (on_link (acts world node acted).links a b) (on_link all.links a b)
+  short_at a b = ⊎_elim
+      (λ (e : a ≡ node). subst (λ x. IsShort (on_link (acts world node acted).links x b) (on_link all.links x b)) (sym e) (own_short b (is_broken world.broken node b) refl))
+      (λ (ne : a ≢ node). subst (λ l. IsShort l (on_link all.links a b)) (full_else a b ne ∙ sym (real_else a b ne)) (all_there (on_link all.links a b)))
+      (same_or_other (slice_cmp nat_cmp) names_apart a node)
+
   pub acts_thinned : IsThinned all (acts world node acted)
   acts_thinned = record {
     nodes = real.nodes ∙ sym full.nodes;
@@ -181,7 +167,7 @@ module _ (world : World) (node : List ℕ) (acted : Acted) where
     broken = real.broken ∙ sym full.broken;
     marks = real.marks ∙ ap (λ m. put.marks ++ m) (rest_marked world.broken node put.steps acted.outs) ∙ sym full.marks;
     steps = real.steps ∙ sym full.steps;
-    parts = part_at;
+    short = short_at;
     whole = λ a b e. whole_at a b (ap (λ (broken : Broken). is_broken broken a b) (sym full.broken) ∙ e);
   }
 

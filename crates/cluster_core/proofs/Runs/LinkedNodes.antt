@@ -69,11 +69,14 @@ the_first config are = let first = first_backend config.nodes are in home_among 
 
 -- ---- who is linked with whom
 
+pub front_with_any : (config : Config) (front master : List ℕ) → AreNodes config.nodes → HasNode config.nodes Frontend front
+    → HasNode config.nodes Master master → Joined (links_of config.nodes) front master
+unfolding are_kinds_linked
+front_with_any config front master are has also = joined_kinds config Frontend Master front master are has also (λ e. cc) refl refl
+
 pub front_with_master : (config : Config) (front : List ℕ) → AreNodes config.nodes → HasNode config.nodes Frontend front
     → Joined (links_of config.nodes) front (master_of config)
-unfolding are_kinds_linked
-front_with_master config front are has =
-    joined_kinds config Frontend Master front (master_of config) are has (the_master config are) (λ e. cc) refl refl
+front_with_master config front are has = front_with_any config front (master_of config) are has (the_master config are)
 
 pub front_with_backend : (config : Config) (front server : List ℕ) → AreNodes config.nodes → HasNode config.nodes Frontend front
     → HasNode config.nodes Backend server → Joined (links_of config.nodes) front server

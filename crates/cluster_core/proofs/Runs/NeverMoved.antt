@@ -1,5 +1,5 @@
 -- In no run an answer is on its way that tells of a server to which a mailbox has moved: no mailbox moves.
-use Rattle.std.proofs.Common.{◌≡◌, ◌≢◌, ℕ, zero, suc, ◌&&◌, ◌||◌, Bool, true, false, not, cond, List, [], ◌∷◌, ◌++◌, drop, take, Option, None, Some, refl, sym, ◌∙◌, ap, subst, All, Contains}
+use Rattle.std.proofs.Common.{◌≡◌, ◌≢◌, ℕ, zero, suc, ◌&&◌, ◌||◌, Bool, true, false, not, cond, is_some, List, [], ◌∷◌, ◌++◌, drop, take, Option, None, Some, refl, sym, ◌∙◌, ap, subst, All, Contains}
 use Rattle.std.specs.List.{AllByRecursion}
 use Rattle.std.specs.Ordering.{nat_cmp, is_eq}
 use Rattle.std.specs.Cmp.Lexicographic.{slice_cmp}
@@ -31,26 +31,36 @@ use Rattle.node_step.specs.declared.input.NodeInput.{NodeInput}
 use Rattle.node_step.specs.declared.input.NodeInput.TheVariants.{Opened, Piece, Hung, From}
 use Rattle.node_step.specs.declared.node.NodeState.{NodeState}
 use Rattle.node_step.specs.declared.node.NodeState.TheVariants as state
-use Rattle.node_step.specs.NodeStep.{takes as node_takes}
+use Rattle.node_step.specs.NodeStep.{as_back, takes as node_takes}
 use Rattle.node_step.proofs.OwnOuts.{MayMark}
 use Rattle.schedule_text.specs.declared.event.Event.{Event}
 use Rattle.schedule_text.specs.declared.event.Event.TheVariants.{Open, Data, Hang, Deliver, Cut, Join}
 use Rattle.cluster_core.specs.declared.world.World.{World}
 use Rattle.cluster_core.specs.Flow.{run_steps}
-use Rattle.cluster_core.specs.World.{are_parted, carry, carry_all, client_at, client_does, comes_to, cuts_if, deliver_first, first_state, is_nothing, joins_if, master_of, may_cut, may_join, may_part, no_world, node_at, not_lost, opens, start, stepped, steps_by, taken_from_link, takes, told_up, with_client, with_node, with_nodes, with_ups, with_acted}
+use Rattle.cluster_core.specs.World.{are_parted, carry, carry_all, client_at, client_does, comes, comes_to, cuts_if, deliver_first, first_state, home_at, is_nothing, joins_if, master_of, may_cut, may_join, may_part, no_world, node_at, not_lost, opens, start, stepped, steps_by, taken_from_link, takes, told_up, with_client, with_node, with_nodes, with_ups, with_acted}
+use Rattle.cluster_core.proofs.Links.Tells.{comes_kinds, kind_of}
 use Rattle.cluster_core.proofs.Runs.LinkedNodes.{apart_kinds, the_master}
 use Rattle.cluster_core.proofs.Runs.NotLost.{let_left}
 use Rattle.cluster_core.proofs.Runs.OneNodeLaw.{comes_broken, given_links}
 use Rattle.cluster_core.proofs.Runs.OwnNodes.{OfEachNode, comes_of_each}
 use Rattle.cluster_core.proofs.Runs.QuietFlows.{LooksForNone}
-use Rattle.cluster_core.proofs.Runs.QuietNodes.{AnyClient, AreQuietOuts, InputIsQuiet, IsQuiet, IsQuietOn, NodeIsFresh, NodeIsQuiet, QuietTo, fresh_is_quiet, outs_quiet, quiet_on, stays_quiet, ups_fresh, ups_outs}
+use Rattle.cluster_core.proofs.Runs.QuietNodes.{AnyClient, AreQuietOuts, InputIsQuiet, IsAmongHomes, IsQuiet, IsQuietOn, NodeIsFresh, NodeIsQuiet, NotMasters, QuietTo, fresh_is_quiet, outs_quiet, quiet_on, same_quiet, stays_quiet, ups_fresh, ups_outs}
 
 -- all that is on its way is so, from where and wherever to
 abbrev pub AreAllOn : (List ℕ → List ℕ → LinkMsg → Type 0) → Links LinkMsg → Type 0
 AreAllOn P links = (from to : List ℕ) → AllByRecursion (P from to) (on_link links from to)
 
-abbrev pub AreQuietOn : List ℕ → Links LinkMsg → Type 0
-AreQuietOn master links = AreAllOn (IsQuietOn master) links
+abbrev pub AreQuietOn : List ℕ → (List ℕ → Bool) → Links LinkMsg → Type 0
+AreQuietOn master homes links = AreAllOn (IsQuietOn master homes) links
+
+-- what holds of all that is on its way, by what holds of each
+pub all_so : (P Q : List ℕ → List ℕ → LinkMsg → Type 0) (links : Links LinkMsg) → ((from to : List ℕ) (message : LinkMsg) → P from to message → Q from to message)
+    → AreAllOn P links → AreAllOn Q links
+all_so P Q links goes on = λ from to. by from to (on_link links from to) (on from to)
+  where
+    by : (from to : List ℕ) (queue : List LinkMsg) → AllByRecursion (P from to) queue → AllByRecursion (Q from to) queue
+    by from to [] all = tt
+    by from to (message ∷ queue) all = (goes from to message all.0, by from to queue all.1)
 
 -- and what nodes say alone
 abbrev pub Said : List ℕ → List ℕ → LinkMsg → Type 0
@@ -93,14 +103,18 @@ module _ (P : List ℕ → List ℕ → LinkMsg → Type 0) (said : (from to : L
 
 -- ---- a world
 
--- no link of this node is broken
-abbrev pub AreWhole : List ℕ → Broken → Type 0
-AreWhole master broken = (node : List ℕ) → (is_broken broken master node ≡ false) × (is_broken broken node master ≡ false)
+-- which nodes are backends
+abbrev pub homes_of : World → List ℕ → Bool
+homes_of world node = is_some (home_at world node)
+
+-- no link of the master with a backend is broken
+abbrev pub AreWhole : List ℕ → (List ℕ → Bool) → Broken → Type 0
+AreWhole master homes broken = (node : List ℕ) → homes node ≡ true → (is_broken broken master node ≡ false) × (is_broken broken node master ≡ false)
 
 pub record WorldIsQuiet (master : List ℕ) (world : World) : Type 0 where
   pub nodes : OfEachNode (NodeIsQuiet master) world
-  pub links : AreQuietOn master world.links
-  pub whole : AreWhole master world.broken
+  pub links : AreQuietOn master (homes_of world) world.links
+  pub whole : AreWhole master (homes_of world) world.broken
   -- before any link breaks nothing tells of one
   pub calm : world.broken ≡ [] → AreAllOn Said world.links
 
@@ -118,26 +132,33 @@ pub some_mend : (broken : Broken) (one other : List ℕ) → mending broken one 
 unfolding mending
 some_mend broken one other = some_entry broken one _
 
--- a link that breaks isn't the master's
-parted_apart : (master one other : List ℕ) (it another : NodeState) → NodeIsQuiet master one it → NodeIsQuiet master other another
-    → are_parted it another ≡ true → (one ≢ master) × (other ≢ master)
-unfolding are_parted
-parted_apart master one other (state.Front front) (state.Back home) is also may = (is, also.apart)
-parted_apart master one other (state.Back home) (state.Front front) is also may = (is.apart, also)
-parted_apart master one other (state.Back home) (state.Back another) is also may = (is.apart, also.apart)
-parted_apart master one other (state.Front front) (state.Front another) is also may = cc
-parted_apart master one other (state.Front front) (state.Master it) is also may = cc
-parted_apart master one other (state.Back home) (state.Master it) is also may = cc
-parted_apart master one other (state.Master it) (state.Front front) is also may = cc
-parted_apart master one other (state.Master it) (state.Back home) is also may = cc
-parted_apart master one other (state.Master it) (state.Master another) is also may = cc
+-- a link that breaks doesn't join the master with a backend
+parted_apart : (master : List ℕ) (homes : List ℕ → Bool) (one other : List ℕ) (it another : NodeState) → NodeIsQuiet master one it → NodeIsQuiet master other another
+    → homes one ≡ is_some (as_back (Some it)) → homes other ≡ is_some (as_back (Some another)) → are_parted it another ≡ true → NotMasters master homes one other
+unfolding are_parted as_back
+parted_apart master homes one other (state.Front front) (state.Back home) is also e f may =
+    record { from_apart = λ _. is; to_apart = λ _. also.apart }
+parted_apart master homes one other (state.Back home) (state.Front front) is also e f may =
+    record { from_apart = λ _. is.apart; to_apart = λ _. also }
+parted_apart master homes one other (state.Back home) (state.Back another) is also e f may =
+    record { from_apart = λ _. is.apart; to_apart = λ _. also.apart }
+parted_apart master homes one other (state.Front front) (state.Master it) is also e f may =
+    record { from_apart = λ _. is; to_apart = λ at. absurd (let no : false ≡ true = sym e ∙ at in cc) }
+parted_apart master homes one other (state.Master it) (state.Front front) is also e f may =
+    record { from_apart = λ at. absurd (let no : false ≡ true = sym f ∙ at in cc); to_apart = λ _. also }
+parted_apart master homes one other (state.Front front) (state.Front another) is also e f may = cc
+parted_apart master homes one other (state.Back home) (state.Master it) is also e f may = cc
+parted_apart master homes one other (state.Master it) (state.Back home) is also e f may = cc
+parted_apart master homes one other (state.Master it) (state.Master another) is also e f may = cc
 
-may_part_apart : (master one other : List ℕ) (it another : Option NodeState) → ((s : NodeState) → it ≡ Some s → NodeIsQuiet master one s)
-    → ((s : NodeState) → another ≡ Some s → NodeIsQuiet master other s) → may_part it another ≡ true → (one ≢ master) × (other ≢ master)
+may_part_apart : (master : List ℕ) (homes : List ℕ → Bool) (one other : List ℕ) (it another : Option NodeState)
+    → ((s : NodeState) → it ≡ Some s → NodeIsQuiet master one s) → ((s : NodeState) → another ≡ Some s → NodeIsQuiet master other s)
+    → homes one ≡ is_some (as_back it) → homes other ≡ is_some (as_back another) → may_part it another ≡ true → NotMasters master homes one other
 unfolding may_part
-may_part_apart master one other (Some it) (Some another) is also may = parted_apart master one other it another (is it refl) (also another refl) may
-may_part_apart master one other (Some it) None is also may = cc
-may_part_apart master one other None another is also may = cc
+may_part_apart master homes one other (Some it) (Some another) is also e f may =
+    parted_apart master homes one other it another (is it refl) (also another refl) e f may
+may_part_apart master homes one other (Some it) None is also e f may = cc
+may_part_apart master homes one other None another is also e f may = cc
 
 first_true : (one two : Bool) → one && two ≡ true → one ≡ true
 first_true true two e = refl
@@ -157,24 +178,57 @@ may_join_broken world one other may =
     (first_true (is_broken world.broken one other && is_nothing (on_link world.links one other)) (is_nothing (on_link world.links other one)) may)
 
 pub cut_apart : (master : List ℕ) (world : World) (one other : List ℕ) → OfEachNode (NodeIsQuiet master) world → may_cut world one other ≡ true
-    → (one ≢ master) × (other ≢ master)
+    → NotMasters master (homes_of world) one other
 cut_apart master world one other each may =
-    may_part_apart master one other (node_at world one) (node_at world other) (each one) (each other)
+    may_part_apart master (homes_of world) one other (node_at world one) (node_at world other) (each one) (each other) refl refl
     (may_cut_parts world one other may)
 
+-- in the other direction
+pub not_back : (master : List ℕ) (homes : List ℕ → Bool) (one other : List ℕ) → NotMasters master homes one other → NotMasters master homes other one
+not_back master homes one other not = record { from_apart = not.to_apart; to_apart = not.from_apart }
+
+-- a backend is one of them
+pub among_homes : (world : World) (node : List ℕ) (it : NodeState) → node_at world node ≡ Some it → IsAmongHomes (homes_of world) node it
+unfolding as_back
+among_homes world node (state.Front front) there = tt
+among_homes world node (state.Back home) there = ap (λ found. is_some (as_back found)) there
+among_homes world node (state.Master it) there = tt
+
+-- each node stays what it is
+pub is_home_kind : Option Kind → Bool
+is_home_kind (Some backend_kind) = true
+is_home_kind other = false
+
+pub home_by_kind : (it : Option NodeState) → is_some (as_back it) ≡ is_home_kind (kind_of it)
+unfolding as_back is_home_kind
+home_by_kind None = refl
+home_by_kind (Some (state.Front front)) = refl
+home_by_kind (Some (state.Back home)) = refl
+home_by_kind (Some (state.Master master)) = refl
+
+pub homes_stay : (world : World) (node : List ℕ) (input : NodeInput) (name : List ℕ) → homes_of (comes world node input) name ≡ homes_of world name
+homes_stay world node input name =
+    home_by_kind (node_at (comes world node input) name) ∙ ap is_home_kind (comes_kinds world node input name) ∙ sym (home_by_kind (node_at world name))
+
 module _ (master : List ℕ) where
-  comes_quiet : (world : World) (node : List ℕ) (input : NodeInput) → InputIsQuiet master node input → WorldIsQuiet master world
-      → WorldIsQuiet master (comes_to world node input (node_at world node))
-  comes_quiet world node input is quiet = record {
-    nodes = comes_of_each (NodeIsQuiet master) world node input (node_at world node) refl quiet.nodes
-        (λ it there. stays_quiet master node it input (quiet.nodes node it there) is);
-    links = comes_links (IsQuietOn master) (quiet_on master) world node input (node_at world node)
-        (λ it there. outs_quiet master node it input (quiet.nodes node it there) is) quiet.links;
-    calm = λ none. comes_links Said (λ from to message said. said) world node input (node_at world node)
-        (λ it there. outs_quiet master node it input (quiet.nodes node it there) is)
-        (quiet.calm (sym (comes_broken world node input (node_at world node)) ∙ none));
-    whole = subst (AreWhole master) (sym (comes_broken world node input (node_at world node))) quiet.whole;
-  }
+  comes_quiet : (world : World) (node : List ℕ) (input : NodeInput) → InputIsQuiet master (homes_of world) node input → WorldIsQuiet master world
+      → WorldIsQuiet master (comes world node input)
+  comes_quiet world node input is quiet =
+      let next : World = comes world node input in
+      let outs : (it : NodeState) → node_at world node ≡ Some it → AreQuietOuts (MayMark it) (node_takes it input).outs =
+      λ it there. outs_quiet master (homes_of world) node it input (quiet.nodes node it there) (among_homes world node it there) is in
+      record {
+        nodes = comes_of_each (NodeIsQuiet master) world node input (node_at world node) refl quiet.nodes
+            (λ it there. stays_quiet master (homes_of world) node it input (quiet.nodes node it there) (among_homes world node it there) is);
+        links = all_so (IsQuietOn master (homes_of world)) (IsQuietOn master (homes_of next)) next.links
+            (same_quiet master (homes_of world) (homes_of next) (homes_stay world node input))
+            (comes_links (IsQuietOn master (homes_of world)) (quiet_on master (homes_of world)) world node input (node_at world node) outs quiet.links);
+        calm = λ none. comes_links Said (λ from to message said. said) world node input (node_at world node) outs
+            (quiet.calm (sym (comes_broken world node input (node_at world node)) ∙ none));
+        whole = λ name home.
+            subst (λ b. (is_broken b master name ≡ false) × (is_broken b name master ≡ false)) (sym (comes_broken world node input (node_at world node)))
+            (quiet.whole name (sym (homes_stay world node input name) ∙ home));
+      }
 
   opens_quiet : (world : World) (node : List ℕ) (conn : ℕ) (found : Option Client) → WorldIsQuiet master world
       → WorldIsQuiet master (opens world node conn found)
@@ -213,7 +267,7 @@ module _ (master : List ℕ) where
   pub taken_quiet : (world : World) (from to : List ℕ) → WorldIsQuiet master world → WorldIsQuiet master (taken_from_link world from to)
   taken_quiet world from to quiet = record {
     nodes = quiet.nodes;
-    links = taken_all (IsQuietOn master) world.links from to quiet.links;
+    links = taken_all (IsQuietOn master (homes_of world)) world.links from to quiet.links;
     whole = quiet.whole;
     calm = λ none. taken_all Said world.links from to (quiet.calm none);
   }
@@ -223,7 +277,7 @@ module _ (master : List ℕ) where
   unfolding deliver_first
   deliver_quiet world from to [] first quiet = quiet
   deliver_quiet world from to (message ∷ rest) first quiet =
-      comes_quiet (taken_from_link world from to) to (From from message) (subst (AllByRecursion (IsQuietOn master from to)) first (quiet.links from to)).0
+      comes_quiet (taken_from_link world from to) to (From from message) (subst (AllByRecursion (IsQuietOn master (homes_of world) from to)) first (quiet.links from to)).0
       (taken_quiet world from to quiet)
 
   -- a link breaks
@@ -233,35 +287,44 @@ module _ (master : List ℕ) where
   kept_quiet P (suc k) [] all = tt
   kept_quiet P (suc k) (message ∷ queue) all = (all.0, kept_quiet P k queue all.1)
 
-  short_quiet : (links : Links LinkMsg) (one other : List ℕ) (k : ℕ) → one ≢ master → other ≢ master → AreQuietOn master links
-      → AreQuietOn master (cut_short links one other k End)
-  short_quiet links one other k ne me on = λ a b.
-      subst (AllByRecursion (IsQuietOn master a b)) (sym (on_link-cut links one other a b k End))
-      (either_queue (IsQuietOn master a b) (take k (on_link links a b) ++ End ∷ []) (on_link links a b) (same_link a b one other)
-      (λ h. (let is = same_names a b one other h in
-      both (IsQuietOn master a b) (take k (on_link links a b)) (End ∷ []) (kept_quiet (IsQuietOn master a b) k (on_link links a b) (on a b))
-      ((λ e. ne (sym is.0 ∙ e), λ e. me (sym is.1 ∙ e)), tt))) (on a b))
+  -- what a link tells of itself may be on its way on it
+  on_it : (homes : List ℕ → Bool) (one other a b : List ℕ) → NotMasters master homes one other → same_link a b one other ≡ true → NotMasters master homes a b
+  on_it homes one other a b not same =
+      let is = same_names a b one other same in
+      subst (λ x. NotMasters master homes x b) (sym is.0) (subst (NotMasters master homes one) (sym is.1) not)
 
-  -- a link that isn't the master's
-  not_its : (one other node : List ℕ) → one ≢ master → other ≢ master → (same_link master node one other ≡ false) × (same_link node master one other ≡ false)
-  not_its one other node ne me =
-      (no_link (λ is. ne (sym is.0)) (same_link master node one other) refl, no_link (λ is. me (sym is.1)) (same_link node master one other) refl)
+  short_quiet : (homes : List ℕ → Bool) (links : Links LinkMsg) (one other : List ℕ) (k : ℕ) → NotMasters master homes one other → AreQuietOn master homes links
+      → AreQuietOn master homes (cut_short links one other k End)
+  short_quiet homes links one other k not on = λ a b.
+      subst (AllByRecursion (IsQuietOn master homes a b)) (sym (on_link-cut links one other a b k End))
+      (either_queue (IsQuietOn master homes a b) (take k (on_link links a b) ++ End ∷ []) (on_link links a b) (same_link a b one other)
+      (λ h. both (IsQuietOn master homes a b) (take k (on_link links a b)) (End ∷ []) (kept_quiet (IsQuietOn master homes a b) k (on_link links a b) (on a b))
+      (on_it homes one other a b not h, tt)) (on a b))
+
+  -- a link that isn't the master's with this backend
+  not_its : (homes : List ℕ → Bool) (one other node : List ℕ) → NotMasters master homes one other → homes node ≡ true
+      → (same_link master node one other ≡ false) × (same_link node master one other ≡ false)
+  not_its homes one other node not home = (
+    no_link (λ is. not.from_apart (ap homes (sym is.1) ∙ home) (sym is.0)) (same_link master node one other) refl,
+    no_link (λ is. not.to_apart (ap homes (sym is.0) ∙ home) (sym is.1)) (same_link node master one other) refl,
+  )
     where
       no_link : {a b : List ℕ} → ((a ≡ one) × (b ≡ other) → ⊥) → (same : Bool) → same_link a b one other ≡ same → same_link a b one other ≡ false
       no_link none true e = absurd (none (same_names _ _ one other e))
       no_link none false e = e
 
-  breaks_whole : (broken : Broken) (one other : List ℕ) → one ≢ master → other ≢ master → AreWhole master broken → AreWhole master (breaking broken one other)
-  breaks_whole broken one other ne me whole node =
-      let not = not_its one other node ne me in (
-        is_broken-breaking broken one other master node ∙ ap (λ t. t || is_broken broken master node) not.0 ∙ (whole node).0,
-        is_broken-breaking broken one other node master ∙ ap (λ t. t || is_broken broken node master) not.1 ∙ (whole node).1,
+  breaks_whole : (homes : List ℕ → Bool) (broken : Broken) (one other : List ℕ) → NotMasters master homes one other → AreWhole master homes broken
+      → AreWhole master homes (breaking broken one other)
+  breaks_whole homes broken one other apart whole node home =
+      let not = not_its homes one other node apart home in (
+        is_broken-breaking broken one other master node ∙ ap (λ t. t || is_broken broken master node) not.0 ∙ (whole node home).0,
+        is_broken-breaking broken one other node master ∙ ap (λ t. t || is_broken broken node master) not.1 ∙ (whole node home).1,
       )
 
-  mends_whole : (broken : Broken) (one other : List ℕ) → AreWhole master broken → AreWhole master (mending broken one other)
-  mends_whole broken one other whole node = (
-    is_broken-mending broken one other master node ∙ still_whole (same_link master node one other) (is_broken broken master node) (whole node).0,
-    is_broken-mending broken one other node master ∙ still_whole (same_link node master one other) (is_broken broken node master) (whole node).1,
+  mends_whole : (homes : List ℕ → Bool) (broken : Broken) (one other : List ℕ) → AreWhole master homes broken → AreWhole master homes (mending broken one other)
+  mends_whole homes broken one other whole node home = (
+    is_broken-mending broken one other master node ∙ still_whole (same_link master node one other) (is_broken broken master node) (whole node home).0,
+    is_broken-mending broken one other node master ∙ still_whole (same_link node master one other) (is_broken broken node master) (whole node home).1,
   )
     where
       still_whole : (same was : Bool) → was ≡ false → cond same false was ≡ false
@@ -272,40 +335,43 @@ module _ (master : List ℕ) where
       → WorldIsQuiet master (cuts_if may world one other k l)
   unfolding cuts_if
   cut_quiet world one other k l true e quiet =
+      let homes : List ℕ → Bool = homes_of world in
       let apart = cut_apart master world one other quiet.nodes e in
+      let back = not_back master homes one other apart in
       record {
         nodes = quiet.nodes;
-        links = short_quiet (cut_short world.links one other k End) other one l apart.1 apart.0 (short_quiet world.links one other k apart.0 apart.1 quiet.links);
-        whole = breaks_whole (breaking world.broken one other) other one apart.1 apart.0 (breaks_whole world.broken one other apart.0 apart.1 quiet.whole);
+        links = short_quiet homes (cut_short world.links one other k End) other one l back (short_quiet homes world.links one other k apart quiet.links);
+        whole = breaks_whole homes (breaking world.broken one other) other one back (breaks_whole homes world.broken one other apart quiet.whole);
         calm = λ none. absurd (some_break (breaking world.broken one other) other one none);
       }
   cut_quiet world one other k l false e quiet = quiet
 
   -- and comes up
 
-  sent_quiet : (links : Links LinkMsg) (one other : List ℕ) → one ≢ master → other ≢ master → AreQuietOn master links
-      → AreQuietOn master (sent links one other Up)
-  sent_quiet links one other ne me on = λ a b.
-      subst (AllByRecursion (IsQuietOn master a b)) (sym (on_link-sent links one other a b Up))
-      (one_more (IsQuietOn master a b) (on_link links a b) Up (same_link a b one other)
-      (λ h. (let is = same_names a b one other h in (λ e. ne (sym is.0 ∙ e), λ e. me (sym is.1 ∙ e)))) (on a b))
+  sent_quiet : (homes : List ℕ → Bool) (links : Links LinkMsg) (one other : List ℕ) → NotMasters master homes one other → AreQuietOn master homes links
+      → AreQuietOn master homes (sent links one other Up)
+  sent_quiet homes links one other not on = λ a b.
+      subst (AllByRecursion (IsQuietOn master homes a b)) (sym (on_link-sent links one other a b Up))
+      (one_more (IsQuietOn master homes a b) (on_link links a b) Up (same_link a b one other) (on_it homes one other a b not) (on a b))
 
-  join_apart : (world : World) (one other : List ℕ) → may_join world one other ≡ true → AreWhole master world.broken → (one ≢ master) × (other ≢ master)
-  join_apart world one other may whole =
-      let broken = may_join_broken world one other may in (
-        λ e. (let no : true ≡ false = sym broken ∙ ap (λ n. is_broken world.broken n other) e ∙ (whole other).0 in cc),
-        λ e. (let no : true ≡ false = sym broken ∙ ap (is_broken world.broken one) e ∙ (whole one).1 in cc),
-      )
+  pub join_apart : (world : World) (one other : List ℕ) → is_broken world.broken one other ≡ true → AreWhole master (homes_of world) world.broken
+      → NotMasters master (homes_of world) one other
+  join_apart world one other broken whole = record {
+    from_apart = λ home e. (let no : true ≡ false = sym broken ∙ ap (λ n. is_broken world.broken n other) e ∙ (whole other home).0 in cc);
+    to_apart = λ home e. (let no : true ≡ false = sym broken ∙ ap (is_broken world.broken one) e ∙ (whole one home).1 in cc);
+  }
 
   join_quiet : (world : World) (one other : List ℕ) (may : Bool) → may_join world one other ≡ may → WorldIsQuiet master world
       → WorldIsQuiet master (joins_if may world one other)
   unfolding joins_if
   join_quiet world one other true e quiet =
-      let apart = join_apart world one other e quiet.whole in
+      let homes : List ℕ → Bool = homes_of world in
+      let apart = join_apart world one other (may_join_broken world one other e) quiet.whole in
       record {
         nodes = quiet.nodes;
-        links = sent_quiet (sent world.links one other Up) other one apart.1 apart.0 (sent_quiet world.links one other apart.0 apart.1 quiet.links);
-        whole = mends_whole (mending world.broken one other) other one (mends_whole world.broken one other quiet.whole);
+        links = sent_quiet homes (sent world.links one other Up) other one (not_back master homes one other apart)
+            (sent_quiet homes world.links one other apart quiet.links);
+        whole = mends_whole homes (mending world.broken one other) other one (mends_whole homes world.broken one other quiet.whole);
         calm = λ none. absurd (some_mend (mending world.broken one other) other one none);
       }
   join_quiet world one other false e quiet = quiet
@@ -332,11 +398,6 @@ module _ (master : List ℕ) where
   run_quiet world (event ∷ steps) quiet = run_quiet (steps_by world event) steps (step_quiet world event quiet)
 
 -- ---- the start
-
-each_said : (P : LinkMsg → Type 0) → ((message : LinkMsg) → IsQuiet message → P message) → (queue : List LinkMsg) → AllByRecursion IsQuiet queue
-    → AllByRecursion P queue
-each_said P said [] all = tt
-each_said P said (message ∷ queue) all = (said message all.0, each_said P said queue all.1)
 
 record WorldIsFresh (master : List ℕ) (world : World) : Type 0 where
   nodes : OfEachNode (NodeIsFresh master) world
@@ -410,9 +471,9 @@ module _ (config : Config) (are : AreNodes config.nodes) where
       (nodes_fresh no_world config.nodes (All-contains_itself config.nodes) nothing_yet) in
       record {
         nodes = λ node it there. fresh_is_quiet master node it (fresh.nodes node it there);
-        links = λ from to. each_said (IsQuietOn master from to) (quiet_on master from to) (on_link (start config).links from to) (fresh.links from to);
+        links = all_so Said (IsQuietOn master (homes_of (start config))) (start config).links (quiet_on master (homes_of (start config))) fresh.links;
         calm = λ _. fresh.links;
-        whole = subst (AreWhole master) (sym fresh.broken) (λ node. (none_broken master node, none_broken node master));
+        whole = subst (AreWhole master (homes_of (start config))) (sym fresh.broken) (λ node home. (none_broken master node, none_broken node master));
       }
 
 -- ---- a run
@@ -421,14 +482,15 @@ module _ (config : Config) (are : AreNodes config.nodes) where
 pub never_moved : (config : Config) (steps : List Event) → AreNodes config.nodes → WorldIsQuiet (master_of config) (run_steps (start config) steps)
 never_moved config steps are = run_quiet (master_of config) (start config) steps (start_quiet config are)
 
-moved_is_loud : (master from to : List ℕ) (answer : BackAnswer) (server : List ℕ) → answer.body ≡ Moved server → IsQuietOn master from to (Answer answer) → ⊥
-moved_is_loud master from to answer server moved is = subst (λ body. IsQuietOn master from to (Answer (record answer { body = body }))) moved is
+moved_is_loud : (master : List ℕ) (homes : List ℕ → Bool) (from to : List ℕ) (answer : BackAnswer) (server : List ℕ) → answer.body ≡ Moved server
+    → IsQuietOn master homes from to (Answer answer) → ⊥
+moved_is_loud master homes from to answer server moved is = subst (λ body. IsQuietOn master homes from to (Answer (record answer { body = body }))) moved is
 
 -- the first message of a link is no answer that tells so
 pub quiet_moves_none : (master : List ℕ) (world : World) (from to : List ℕ) (answer : BackAnswer) (rest : List LinkMsg) (server : List ℕ)
     → WorldIsQuiet master world → on_link world.links from to ≡ Answer answer ∷ rest → answer.body ≢ Moved server
 quiet_moves_none master world from to answer rest server quiet first moved =
-    moved_is_loud master from to answer server moved (subst (AllByRecursion (IsQuietOn master from to)) first (quiet.links from to)).0
+    moved_is_loud master (homes_of world) from to answer server moved (subst (AllByRecursion (IsQuietOn master (homes_of world) from to)) first (quiet.links from to)).0
 
 pub none_moved : (config : Config) (steps : List Event) → AreNodes config.nodes → (from to : List ℕ) (answer : BackAnswer) (rest : List LinkMsg)
     (server : List ℕ) → on_link (run_steps (start config) steps).links from to ≡ Answer answer ∷ rest → answer.body ≢ Moved server

@@ -54,7 +54,7 @@ use Rattle.cluster_core.proofs.Runs.QuietNodes.{AnyClient}
 use Rattle.cluster_core.proofs.Connections.AsksFirst.{home_is_so}
 use Rattle.cluster_core.proofs.Connections.KeepsLaw.{KeepsLaw, NamesBackends}
 use Rattle.cluster_core.proofs.Starts.Kinds.{HasNode}
-use Rattle.cluster_core.proofs.Runs.LinkedNodes.{Joined, backends_joined, backend_with_master, front_with_backend, front_with_master, the_first}
+use Rattle.cluster_core.proofs.Runs.LinkedNodes.{Joined, backends_joined, backend_with_master, front_with_any, front_with_backend, front_with_master, the_first}
 use Rattle.cluster_core.proofs.Runs.NeverMoved.{may_cut_parts, may_join_broken, none_moved}
 use Rattle.cluster_core.proofs.Runs.NotLost.{let_left}
 use Rattle.cluster_core.proofs.Runs.OneNodeLaw.{comes_broken, given_links, may_cut_apart}
@@ -331,9 +331,10 @@ module _ (config : Config) (are : AreNodes config.nodes) where
       let joined = front_with_backend config other one are also.is_of.0 is.is_of.0 in (joined.1, joined.0)
   parted_joined one other (state.Back home) (state.Back another) ne is also may = backends_joined config one other is.is_of.0 also.is_of.0 ne
   parted_joined one other (state.Front front) (state.Front another) ne is also may = cc
-  parted_joined one other (state.Front front) (state.Master it) ne is also may = cc
+  parted_joined one other (state.Front front) (state.Master it) ne is also may = front_with_any config one other are is.is_of.0 also.is_of
+  parted_joined one other (state.Master it) (state.Front front) ne is also may =
+      let joined = front_with_any config other one are also.is_of.0 is.is_of in (joined.1, joined.0)
   parted_joined one other (state.Back home) (state.Master it) ne is also may = cc
-  parted_joined one other (state.Master it) (state.Front front) ne is also may = cc
   parted_joined one other (state.Master it) (state.Back home) ne is also may = cc
   parted_joined one other (state.Master it) (state.Master another) ne is also may = cc
 

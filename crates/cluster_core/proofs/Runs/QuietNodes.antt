@@ -78,21 +78,37 @@ IsQuiet (Line bytes) = Unit {0}
 IsQuiet (Ask ask) = Unit {0}
 IsQuiet (Answer answer) = TellsNoServer answer.body
 
--- so is what is on its way from one node to another; but any link may go up or down that isn't one of the master
-abbrev pub IsQuietOn : List ℕ → List ℕ → List ℕ → LinkMsg → Type 0
-IsQuietOn master from to Up = (from ≢ master) × (to ≢ master)
-IsQuietOn master from to End = (from ≢ master) × (to ≢ master)
-IsQuietOn master from to (Line bytes) = Unit {0}
-IsQuietOn master from to (Ask ask) = Unit {0}
-IsQuietOn master from to (Answer answer) = TellsNoServer answer.body
+-- a link that doesn't join the master with a backend, by which nodes are backends
+pub record NotMasters (master : List ℕ) (homes : List ℕ → Bool) (from to : List ℕ) : Type 0 where
+  pub from_apart : homes to ≡ true → from ≢ master
+  pub to_apart : homes from ≡ true → to ≢ master
+
+-- so is what is on its way from one node to another; but any link may go up or down that doesn't join the master with a backend
+abbrev pub IsQuietOn : List ℕ → (List ℕ → Bool) → List ℕ → List ℕ → LinkMsg → Type 0
+IsQuietOn master homes from to Up = NotMasters master homes from to
+IsQuietOn master homes from to End = NotMasters master homes from to
+IsQuietOn master homes from to (Line bytes) = Unit {0}
+IsQuietOn master homes from to (Ask ask) = Unit {0}
+IsQuietOn master homes from to (Answer answer) = TellsNoServer answer.body
 
 -- what a node says may be on its way anywhere
-pub quiet_on : (master from to : List ℕ) (message : LinkMsg) → IsQuiet message → IsQuietOn master from to message
-quiet_on master from to Up is = absurd is
-quiet_on master from to End is = absurd is
-quiet_on master from to (Line bytes) is = tt
-quiet_on master from to (Ask ask) is = tt
-quiet_on master from to (Answer answer) is = is
+pub quiet_on : (master : List ℕ) (homes : List ℕ → Bool) (from to : List ℕ) (message : LinkMsg) → IsQuiet message → IsQuietOn master homes from to message
+quiet_on master homes from to Up is = absurd is
+quiet_on master homes from to End is = absurd is
+quiet_on master homes from to (Line bytes) is = tt
+quiet_on master homes from to (Ask ask) is = tt
+quiet_on master homes from to (Answer answer) is = is
+
+-- where the same nodes are backends
+pub same_quiet : (master : List ℕ) (homes others : List ℕ → Bool) → ((name : List ℕ) → others name ≡ homes name) → (from to : List ℕ) (message : LinkMsg)
+    → IsQuietOn master homes from to message → IsQuietOn master others from to message
+same_quiet master homes others same from to Up is =
+    record { from_apart = λ at. is.from_apart (sym (same to) ∙ at); to_apart = λ at. is.to_apart (sym (same from) ∙ at) }
+same_quiet master homes others same from to End is =
+    record { from_apart = λ at. is.from_apart (sym (same to) ∙ at); to_apart = λ at. is.to_apart (sym (same from) ∙ at) }
+same_quiet master homes others same from to (Line bytes) is = tt
+same_quiet master homes others same from to (Ask ask) is = tt
+same_quiet master homes others same from to (Answer answer) is = is
 
 abbrev pub AnyClient : ℕ → Type 0
 AnyClient conn = ⊤
@@ -309,16 +325,22 @@ other_quiet : (node : BackNode) (from : List ℕ) (it : UpToEntry) → from ≢ 
 other_quiet node from it ne quiet =
     subst (λ test. BackIsQuiet (done_by (cond test it (passed_over node)))) (sym (other_name from node.flows.master ne)) (passed_quiet node quiet)
 
-home_quiet : (node : BackNode) (from to : List ℕ) (message : LinkMsg) → IsQuietOn node.flows.master from to message
+-- no link of the master goes up or down
+abbrev TellsOfOthers : List ℕ → List ℕ → LinkMsg → Type 0
+TellsOfOthers master from Up = from ≢ master
+TellsOfOthers master from End = from ≢ master
+TellsOfOthers master from message = Unit {0}
+
+home_quiet : (node : BackNode) (from : List ℕ) (message : LinkMsg) → TellsOfOthers node.flows.master from message
     → IsQuietTalk node.home.held node.flows → BackIsQuiet (node_takes node from message)
 unfolding taken_up
-home_quiet node from to Up is quiet = other_quiet node from (talks node (up_step node.flows)) is.0 quiet
-home_quiet node from to End is quiet = other_quiet node from _ is.0 quiet
-home_quiet node from to (Line line) is quiet =
+home_quiet node from Up is quiet = other_quiet node from (talks node (up_step node.flows)) is quiet
+home_quiet node from End is quiet = other_quiet node from _ is quiet
+home_quiet node from (Line line) is quiet =
     either_quiet (is_my_master node from) (line_by node (response_in line)) (passed_over node) (line_quiet node (response_in line) quiet)
     (passed_quiet node quiet)
-home_quiet node from to (Ask ask) is quiet = asks_quiet node from ask (name_kind ask.op) refl quiet
-home_quiet node from to (Answer answer) is quiet = passed_quiet node quiet
+home_quiet node from (Ask ask) is quiet = asks_quiet node from ask (name_kind ask.op) refl quiet
+home_quiet node from (Answer answer) is quiet = passed_quiet node quiet
 
 -- ---- whatever comes to a node
 
@@ -333,9 +355,24 @@ NodeIsQuiet master node (state.Front front) = node ≢ master
 NodeIsQuiet master node (state.Back home) = HomeIsQuiet master node home
 NodeIsQuiet master node (state.Master it) = Unit {0}
 
-abbrev pub InputIsQuiet : List ℕ → List ℕ → NodeInput → Type 0
-InputIsQuiet master node (From name message) = IsQuietOn master name node message
-InputIsQuiet master node input = Unit {0}
+abbrev pub InputIsQuiet : List ℕ → (List ℕ → Bool) → List ℕ → NodeInput → Type 0
+InputIsQuiet master homes node (From name message) = IsQuietOn master homes name node message
+InputIsQuiet master homes node input = Unit {0}
+
+-- to a backend no link of the master goes up or down
+tells_others : (master : List ℕ) (homes : List ℕ → Bool) (from node : List ℕ) (message : LinkMsg) → homes node ≡ true → IsQuietOn master homes from node message
+    → TellsOfOthers master from message
+tells_others master homes from node Up home is = is.from_apart home
+tells_others master homes from node End home is = is.from_apart home
+tells_others master homes from node (Line bytes) home is = tt
+tells_others master homes from node (Ask ask) home is = tt
+tells_others master homes from node (Answer answer) home is = tt
+
+-- a backend is among them
+abbrev pub IsAmongHomes : (List ℕ → Bool) → List ℕ → NodeState → Type 0
+IsAmongHomes homes node (state.Front front) = Unit {0}
+IsAmongHomes homes node (state.Back home) = homes node ≡ true
+IsAmongHomes homes node (state.Master it) = Unit {0}
 
 asks_any : (front : Front) → MayAsk QuietTo (ways_of front)
 asks_any front = record { master = λ bytes. tt; named = λ ask server e. tt; made = λ ask e. tt }
@@ -388,41 +425,41 @@ its_master : (home : BackNode) (from : List ℕ) (message : LinkMsg) → (node_t
 its_master home from message =
     (step_says AnyNode home from message (record { running = λ k d h. tt; waiting = λ k d h. tt }) (anyone_asks from message)).master
 
-module _ (master node : List ℕ) where
-  home_so : (home : BackNode) (from : List ℕ) (message : LinkMsg) → HomeIsQuiet master node home → IsQuietOn master from node message
-      → BackIsQuiet (node_takes home from message)
-  home_so home from message quiet is =
-      home_quiet home from node message (subst (λ m. IsQuietOn m from node message) (sym quiet.master_is) is) quiet.talk
+module _ (master : List ℕ) (homes : List ℕ → Bool) (node : List ℕ) where
+  home_so : (home : BackNode) (from : List ℕ) (message : LinkMsg) → HomeIsQuiet master node home → homes node ≡ true
+      → IsQuietOn master homes from node message → BackIsQuiet (node_takes home from message)
+  home_so home from message quiet among is =
+      home_quiet home from message (subst (λ m. TellsOfOthers m from message) (sym quiet.master_is) (tells_others master homes from node message among is)) quiet.talk
 
-  pub outs_quiet : (it : NodeState) (input : NodeInput) → NodeIsQuiet master node it → InputIsQuiet master node input
+  pub outs_quiet : (it : NodeState) (input : NodeInput) → NodeIsQuiet master node it → IsAmongHomes homes node it → InputIsQuiet master homes node input
       → AreQuietOuts (MayMark it) (node_step it input).outs
   unfolding node_step back_takes
-  outs_quiet (state.Front front) input quiet is = front_quiet front input
-  outs_quiet (state.Back home) (Opened conn) quiet is = tt
-  outs_quiet (state.Back home) (Piece conn bytes) quiet is = tt
-  outs_quiet (state.Back home) (Hung conn) quiet is = tt
-  outs_quiet (state.Back home) (From name message) quiet is = (home_so home name message quiet is).outs
-  outs_quiet (state.Master it) input quiet is = master_quiet it input
+  outs_quiet (state.Front front) input quiet among is = front_quiet front input
+  outs_quiet (state.Back home) (Opened conn) quiet among is = tt
+  outs_quiet (state.Back home) (Piece conn bytes) quiet among is = tt
+  outs_quiet (state.Back home) (Hung conn) quiet among is = tt
+  outs_quiet (state.Back home) (From name message) quiet among is = (home_so home name message quiet among is).outs
+  outs_quiet (state.Master it) input quiet among is = master_quiet it input
 
-  pub stays_quiet : (it : NodeState) (input : NodeInput) → NodeIsQuiet master node it → InputIsQuiet master node input
+  pub stays_quiet : (it : NodeState) (input : NodeInput) → NodeIsQuiet master node it → IsAmongHomes homes node it → InputIsQuiet master homes node input
       → NodeIsQuiet master node (node_step it input).state
   unfolding node_step front_takes back_takes master_takes
-  stays_quiet (state.Front front) (Opened conn) quiet is = quiet
-  stays_quiet (state.Front front) (Piece conn bytes) quiet is = quiet
-  stays_quiet (state.Front front) (Hung conn) quiet is = quiet
-  stays_quiet (state.Front front) (From name message) quiet is = quiet
-  stays_quiet (state.Back home) (Opened conn) quiet is = quiet
-  stays_quiet (state.Back home) (Piece conn bytes) quiet is = quiet
-  stays_quiet (state.Back home) (Hung conn) quiet is = quiet
-  stays_quiet (state.Back home) (From name message) quiet is = record {
+  stays_quiet (state.Front front) (Opened conn) quiet among is = quiet
+  stays_quiet (state.Front front) (Piece conn bytes) quiet among is = quiet
+  stays_quiet (state.Front front) (Hung conn) quiet among is = quiet
+  stays_quiet (state.Front front) (From name message) quiet among is = quiet
+  stays_quiet (state.Back home) (Opened conn) quiet among is = quiet
+  stays_quiet (state.Back home) (Piece conn bytes) quiet among is = quiet
+  stays_quiet (state.Back home) (Hung conn) quiet among is = quiet
+  stays_quiet (state.Back home) (From name message) quiet among is = record {
     apart = quiet.apart;
     master_is = its_master home name message ∙ quiet.master_is;
-    talk = (home_so home name message quiet is).talk;
+    talk = (home_so home name message quiet among is).talk;
   }
-  stays_quiet (state.Master it) (Opened conn) quiet is = tt
-  stays_quiet (state.Master it) (Piece conn bytes) quiet is = tt
-  stays_quiet (state.Master it) (Hung conn) quiet is = tt
-  stays_quiet (state.Master it) (From name message) quiet is = tt
+  stays_quiet (state.Master it) (Opened conn) quiet among is = tt
+  stays_quiet (state.Master it) (Piece conn bytes) quiet among is = tt
+  stays_quiet (state.Master it) (Hung conn) quiet among is = tt
+  stays_quiet (state.Master it) (From name message) quiet among is = tt
 
 -- ---- a node that is told that a link to it is up, before anything else came to it
 
