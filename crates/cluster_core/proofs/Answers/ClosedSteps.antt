@@ -34,7 +34,7 @@ use Rattle.cluster_core.specs.declared.world.World.{World}
 use Rattle.cluster_core.specs.World.{carry_all, home_at, taken_from_link}
 use Rattle.cluster_core.proofs.Commands.Knows.{Knows, KnowsNames, listed_by}
 use Rattle.cluster_core.proofs.Commands.Knows.Knows.{is_decided, undecided}
-use Rattle.cluster_core.proofs.Commands.Knows.KnowsNames.{is_listed, not_yet}
+use Rattle.cluster_core.proofs.Commands.Knows.KnowsNames.{is_gone, is_listed, not_yet}
 use Rattle.cluster_core.proofs.Commands.Place.{Place, Place as place}
 use Rattle.cluster_core.proofs.Commands.Released.{released_count}
 use Rattle.cluster_core.proofs.Commands.Standing.{Fixed, IsLeft, next_id}
@@ -72,6 +72,7 @@ left_by fixed front conn requests told said session c tag here (is_decided turn 
 listing_left : (fixed : Fixed) (front : List ℕ) (conn : ℕ) (requests : List Request) (told said : List AnswerOf) (session : Sess) (tag : Tag) (it : Listing)
     (was : Sess) (here : Place) → KnowsNames tag it was told said session here → IsLeft fixed front conn requests told said session place.nowhere
 listing_left fixed front conn requests told said session tag it was here (not_yet same stays at) = nothing [] (same ∙ sym (append-nil told)) (omega arith) refl
+listing_left fixed front conn requests told said session tag it was here (is_gone same stays at) = nothing [] (same ∙ sym (append-nil told)) (omega arith) refl
 listing_left fixed front conn requests told said session tag it was here (is_listed table more stays at) =
     nothing (listed_by tag it table ∷ []) more (few_more (listed_by tag it table)) refl
 

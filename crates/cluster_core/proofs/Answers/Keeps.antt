@@ -99,7 +99,7 @@ module _ (config : Config) (heard : ℕ → Heard) (world : World) (law : KeepsL
         let it = step.step in
         subst (λ w. KeepsOn config law.story law.stops heard w) (sym it.is)
         (front_keeps config heard heard world law (without_first world.links from node) conn node front connection step.connection step.outs law.story
-        step.later law.stops (λ other ne. refl) it.others at.at at.has (same_talk (talk_told law.story)) refl refl refl law.requests (λ other ne. refl)
+        step.later law.stops (λ other ne. refl) it.others at.at at.has (same_talk (talk_told law.story)) refl refl refl refl law.requests (λ other ne. refl)
         (λ shut. absurd (is_not_closed (heard conn) bytes e shut)) it.made
         (subst (λ w. ManyHold (murder_of w law.master) law.given law.story.course.store) it.is many)
         (subst (λ w. FeedsHold config w law.master) it.is feeds)
@@ -119,7 +119,7 @@ module _ (config : Config) (heard : ℕ → Heard) (world : World) (law : KeepsL
         let it = step.step in
         subst (λ w. KeepsOn config law.story law.stops heard w) (sym it.is)
         (front_keeps config heard heard world law (without_first world.links from node) conn node front connection step.connection [] law.story law.story
-        law.stops (λ other ne. refl) it.others at.at at.has (same_talk (talk_told law.story)) refl refl refl law.requests (λ other ne. refl)
+        law.stops (λ other ne. refl) it.others at.at at.has (same_talk (talk_told law.story)) refl refl refl refl law.requests (λ other ne. refl)
         (λ shut. (refl, refl)) it.made
         (subst (λ w. ManyHold (murder_of w law.master) law.given law.story.course.store) it.is many)
         (subst (λ w. FeedsHold config w law.master) it.is feeds)

@@ -90,6 +90,7 @@ module _ (config : Config) (heard : ℕ → Heard) (world : World) (law : KeepsL
                 told = refl;
                 said = refl;
                 session = refl;
+                before = refl;
                 moving = refl;
                 broken = refl;
               })
