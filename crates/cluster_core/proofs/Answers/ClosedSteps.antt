@@ -1,10 +1,11 @@
 -- A frontend takes the answer, or the master's OK, of a command whose connection has ended, as its client closed it or its server was lost: nobody is told, and
 -- nothing more is on its way.
-use Rattle.std.proofs.Common.{◌≡◌, ◌≢◌, ℕ, ◌≤◌, Bool, true, false, List, [], ◌∷◌, length, Some, refl, sym, ◌∙◌, ap, subst, append-nil, arith}
+use Rattle.std.proofs.Common.{◌≡◌, ◌≢◌, ℕ, ◌+◌, ◌≤◌, Bool, true, false, List, [], ◌∷◌, length, Some, refl, sym, ◌∙◌, ap, subst, append-nil, arith}
 use Rattle.std.specs.BTreeMap.{is_at}
 use Rattle.std.specs.Ordering.{nat_cmp}
 use Rattle.std.proofs.lemmas.Map.Steps.{set_value_same}
 use Rattle.ask_routes.specs.Barrier.{barrier_answered}
+use Rattle.front_core.proofs.OneConnection.Places.{is_over}
 use Rattle.front_core.specs.declared.connection.Connection.{Connection}
 use Rattle.front_core.specs.declared.connection.Stage.TheVariants.{Ended}
 use Rattle.front_core.specs.declared.front.Front.{Front}
@@ -34,7 +35,7 @@ use Rattle.cluster_core.specs.declared.world.World.{World}
 use Rattle.cluster_core.specs.World.{carry_all, home_at, taken_from_link}
 use Rattle.cluster_core.proofs.Commands.Knows.{Knows, KnowsNames, listed_by}
 use Rattle.cluster_core.proofs.Commands.Knows.Knows.{is_decided, undecided}
-use Rattle.cluster_core.proofs.Commands.Knows.KnowsNames.{is_listed, not_yet}
+use Rattle.cluster_core.proofs.Commands.Knows.KnowsNames.{is_gone, is_listed, not_yet}
 use Rattle.cluster_core.proofs.Commands.Place.{Place, Place as place}
 use Rattle.cluster_core.proofs.Commands.Released.{released_count}
 use Rattle.cluster_core.proofs.Commands.Standing.{Fixed, IsLeft, next_id}
@@ -72,6 +73,7 @@ left_by fixed front conn requests told said session c tag here (is_decided turn 
 listing_left : (fixed : Fixed) (front : List ℕ) (conn : ℕ) (requests : List Request) (told said : List AnswerOf) (session : Sess) (tag : Tag) (it : Listing)
     (was : Sess) (here : Place) → KnowsNames tag it was told said session here → IsLeft fixed front conn requests told said session place.nowhere
 listing_left fixed front conn requests told said session tag it was here (not_yet same stays at) = nothing [] (same ∙ sym (append-nil told)) (omega arith) refl
+listing_left fixed front conn requests told said session tag it was here (is_gone same stays at) = nothing [] (same ∙ sym (append-nil told)) (omega arith) refl
 listing_left fixed front conn requests told said session tag it was here (is_listed table more stays at) =
     nothing (listed_by tag it table ∷ []) more (few_more (listed_by tag it table)) refl
 
@@ -160,12 +162,12 @@ module _ (fixed : Fixed) (world : World) (story : Tale) (node : List ℕ) (front
     (connection : Connection) (before : IsBefore fixed world story node front conn inputs connection) (stop : Stop)
     (gone : IsGone fixed node front.replica conn inputs stop connection world story) where
   pub closed_ok : (bytes : List ℕ) (id : AskId) (rest : List LinkMsg) → on_link world.links fixed.master node ≡ Line bytes ∷ rest
-      → barrier_answered bytes ≡ Some id → id.conn ≡ conn
+      → barrier_answered bytes ≡ Some id → id.conn ≡ conn → is_over (length (story.told conn) + 1) (Line bytes) ≡ false
       → ClosedStep fixed world story fixed.master node front conn inputs stop
       (all_come (taken_from_link world fixed.master node) node (From fixed.master (Line bytes)))
-  closed_ok bytes id rest first reads_so own =
+  closed_ok bytes id rest first reads_so own on =
       let next : AskId = next_id conn (story.told conn) in
-      let is = takes_ok fixed.master (home_at world) world.links node bytes id rest node front.replica next gone.here (before.may).frontend first reads_so own
+      let is = takes_ok fixed.master (home_at world) world.links node bytes id rest node front.replica next gone.here (before.may).frontend first reads_so own on
       gone.placed in
       subst (λ w. ClosedStep fixed world story fixed.master node front conn inputs stop w)
       (sym (front_all_come (taken_from_link world fixed.master node) node (From fixed.master (Line bytes)) front (before.at).at

@@ -294,7 +294,7 @@ module _ (config : Config) (heard : ℕ → Heard) (world : World) (law : KeepsL
       (record { passed = waiting.passed; request = waiting.request; more = connection.waiting; parts = waiting.parts; answered = waiting.answered }) in
       front_keeps config heard heard world law world.links conn to front connection later turned.outs story story (stops_then law.stops conn)
       (λ other ne. stops_else law.stops conn other ne) (λ other ne. record { in_place = λ f r c h i. i; in_none = λ i. i })
-      there has (same_talk (talk_told story)) refl refl refl law.requests (λ other ne. refl) (λ shut. absurd (is_not_closed (heard conn) bytes e shut)) made
+      there has (same_talk (talk_told story)) refl refl refl refl law.requests (λ other ne. refl) (λ shut. absurd (is_not_closed (heard conn) bytes e shut)) made
       (front_keeps_many config world law.master law.given story.course.store law.nodes law.many to front (turned_so front conn later turned.outs) there)
       (feeds_alike config world next law.master moved.homes links (fronts_were world next to front (with_connection front conn later) there moved refl) law.feeds)
       (subst (λ t. ConnectionIs fixed conn next story t (heard conn)) (sym (stops_here law.stops conn))

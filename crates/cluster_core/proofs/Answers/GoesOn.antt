@@ -77,7 +77,7 @@ sent_cut : (ups : Ups) (nodes : Nodes) (broken : Broken) (master : List ℕ) (id
 sent_cut ups nodes broken master id session it message (Home server) reaches fits backend down =
     reaches.cut message.to down (ap is_some (ap nodes fits.0 ∙ (backend server refl).1))
 sent_cut ups nodes broken master id session it message (at_master cause) reaches fits backend down =
-    absurd (let no : true ≡ false = sym reaches.up ∙ (ap (is_up ups) (sym fits.0) ∙ down) in cc)
+    reaches.master_cut (ap (is_up ups) (sym fits.0) ∙ down)
 
 module _ (fixed : Fixed) (front : List ℕ) (ups : Ups) (replica : Replica) (conn : ℕ) (inputs : List Input) (held : Option (List ℕ)) (connection : Connection)
     (world : World) (story : Tale) (here : Place) (heard : IsHeard fixed front replica conn inputs held connection world story here) where

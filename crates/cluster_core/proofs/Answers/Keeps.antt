@@ -1,7 +1,8 @@
 -- A frontend that takes the answer of a backend, or the master's OK, keeps the law, where the names and the feeds are kept.
-use Rattle.std.proofs.Common.{◌≡◌, ℕ, ◌<◌, ◌^◌, Bool, true, false, List, [], ◌∷◌, length, Some, refl, sym, ◌∙◌, ap, subst, arith}
+use Rattle.std.proofs.Common.{◌≡◌, ℕ, ◌+◌, ◌<◌, ◌^◌, Bool, true, false, List, [], ◌∷◌, length, Some, refl, sym, ◌∙◌, ap, subst, arith}
 use Rattle.ask_routes.specs.Barrier.{barrier_answered}
 use Rattle.cluster_core.specs.World.{master_of, setting_of, front_at, home_at, taken_from_link}
+use Rattle.front_core.proofs.OneConnection.Places.{is_over}
 use Rattle.front_core.proofs.OneConnection.Readings.{inputs_in, reading_of}
 use Rattle.front_core.specs.declared.connection.Connection.{Connection}
 use Rattle.front_core.specs.declared.front.Front.{Front}
@@ -23,6 +24,7 @@ use Rattle.mur_model.proofs.HistoryGrows.{same_talk}
 use Rattle.node_step.specs.declared.input.NodeInput.TheVariants.{From}
 use Rattle.cluster_core.specs.declared.world.World.{World}
 use Rattle.cluster_core.proofs.Commands.Standing.{Fixed, HasBegunSo, next_id}
+use Rattle.cluster_core.proofs.Connections.AsksFirst.{Reaches}
 use Rattle.cluster_core.proofs.Connections.BytesCome.{bytes_many}
 use Rattle.cluster_core.proofs.Connections.FrameLaw.{HasNumbersOf}
 use Rattle.cluster_core.proofs.Connections.KeepsFront.{front_keeps, with_connection}
@@ -61,7 +63,7 @@ module _ (config : Config) (heard : ℕ → Heard) (world : World) (law : KeepsL
   frontend_of node front at = (may_ask config heard world node front law at).frontend
 
   -- the commands of a client have numbers of 64 bits
-  numbers_of : (conn : ℕ) (bytes : List ℕ) (closed : Bool) → heard conn ≡ client bytes closed → NumbersFit heard → HasNumbersOf conn law.story
+  pub numbers_of : (conn : ℕ) (bytes : List ℕ) (closed : Bool) → heard conn ≡ client bytes closed → NumbersFit heard → HasNumbersOf conn law.story
   unfolding frames_heard
   numbers_of conn bytes closed e fits =
       let its : (conn < 2 ^ 64) × (length bytes < 2 ^ 32) = subst (HeardFits conn) e (fits conn) in
@@ -71,11 +73,11 @@ module _ (config : Config) (heard : ℕ → Heard) (world : World) (law : KeepsL
       (its.0, few)
 
   -- a connection of it, before it takes a message
-  before_so : LinksStand config world → (conn : ℕ) (bytes node : List ℕ) (closed : Bool) (front : Front) (connection : Connection) → heard conn ≡ client bytes closed
-      → IsAt world conn node front connection → HasNumbersOf conn law.story
+  pub before_by : (conn : ℕ) (bytes node : List ℕ) (closed : Bool) (front : Front) (connection : Connection) → heard conn ≡ client bytes closed
+      → IsAt world conn node front connection → HasNumbersOf conn law.story → Reaches (master_of config) (home_at world) world.broken front.ups
       → IsBefore fixed world law.story node front conn (inputs_in (setting_of config) bytes) connection
   unfolding frames_heard
-  before_so links conn bytes node closed front connection e at numbers =
+  before_by conn bytes node closed front connection e at numbers reaches_so =
       let is = (law.nodes).fronts node front at.at in
       record {
         at = at;
@@ -83,11 +85,17 @@ module _ (config : Config) (heard : ℕ → Heard) (world : World) (law : KeepsL
         master_is = is.master_is;
         ways_is = ways_same_by config world law.master node front is;
         may = may_ask config heard world node front law at.at;
-        reaches = reaches config heard world node front law links at.at;
+        reaches = reaches_so;
         numbers = numbers;
         is_told = law.is_told;
         requests = law.requests conn ∙ ap (λ h. requests_of (setting_of config) (frames_heard h)) e;
       }
+
+  before_so : LinksStand config world → (conn : ℕ) (bytes node : List ℕ) (closed : Bool) (front : Front) (connection : Connection) → heard conn ≡ client bytes closed
+      → IsAt world conn node front connection → HasNumbersOf conn law.story
+      → IsBefore fixed world law.story node front conn (inputs_in (setting_of config) bytes) connection
+  before_so links conn bytes node closed front connection e at numbers =
+      before_by conn bytes node closed front connection e at numbers (reaches config heard world node front law links at.at)
 
   module _ (from : List ℕ) (conn : ℕ) (bytes node : List ℕ) (front : Front) (connection : Connection) (at : IsAt world conn node front connection)
       (next : World) (many : ManyHold (murder_of next law.master) law.given law.story.course.store) (feeds : FeedsHold config next law.master) where
@@ -99,7 +107,7 @@ module _ (config : Config) (heard : ℕ → Heard) (world : World) (law : KeepsL
         let it = step.step in
         subst (λ w. KeepsOn config law.story law.stops heard w) (sym it.is)
         (front_keeps config heard heard world law (without_first world.links from node) conn node front connection step.connection step.outs law.story
-        step.later law.stops (λ other ne. refl) it.others at.at at.has (same_talk (talk_told law.story)) refl refl refl law.requests (λ other ne. refl)
+        step.later law.stops (λ other ne. refl) it.others at.at at.has (same_talk (talk_told law.story)) refl refl refl refl law.requests (λ other ne. refl)
         (λ shut. absurd (is_not_closed (heard conn) bytes e shut)) it.made
         (subst (λ w. ManyHold (murder_of w law.master) law.given law.story.course.store) it.is many)
         (subst (λ w. FeedsHold config w law.master) it.is feeds)
@@ -119,7 +127,7 @@ module _ (config : Config) (heard : ℕ → Heard) (world : World) (law : KeepsL
         let it = step.step in
         subst (λ w. KeepsOn config law.story law.stops heard w) (sym it.is)
         (front_keeps config heard heard world law (without_first world.links from node) conn node front connection step.connection [] law.story law.story
-        law.stops (λ other ne. refl) it.others at.at at.has (same_talk (talk_told law.story)) refl refl refl law.requests (λ other ne. refl)
+        law.stops (λ other ne. refl) it.others at.at at.has (same_talk (talk_told law.story)) refl refl refl refl law.requests (λ other ne. refl)
         (λ shut. (refl, refl)) it.made
         (subst (λ w. ManyHold (murder_of w law.master) law.given law.story.course.store) it.is many)
         (subst (λ w. FeedsHold config w law.master) it.is feeds)
@@ -193,45 +201,46 @@ module _ (config : Config) (heard : ℕ → Heard) (world : World) (law : KeepsL
 
   ok_by : LinksStand config world → (to : List ℕ) (front : Front) (bytes : List ℕ) (id : AskId) (stop : Stop) (was : Heard) → law.stops id.conn ≡ stop
       → front_at world to ≡ Some front
-      → IsTakenBy (master_of config) (Line bytes) to → barrier_answered bytes ≡ Some id → NumbersFit heard
+      → IsTakenBy (master_of config) (Line bytes) to → barrier_answered bytes ≡ Some id → is_over (length (law.story.told id.conn) + 1) (Line bytes) ≡ false
+      → NumbersFit heard
       → heard id.conn ≡ was → ConnectionIs fixed id.conn world law.story stop was
       → KeepsOn config law.story law.stops heard (taken_by (master_of config) (Line bytes) to)
-  ok_by links to front bytes id stop was s there taken reads_so numbers e (is_nobody none fronts untold) =
+  ok_by links to front bytes id stop was s there taken reads_so on numbers e (is_nobody none fronts untold) =
       absurd (none_comes fixed.master (home_at world) world.links fixed.master to (Line bytes) taken.rest id.conn taken.first untold.nothing
       (about_ok bytes id reads_so))
-  ok_by links to front bytes id stop was s there taken reads_so numbers e (is_elsewhere node given at none untold) =
+  ok_by links to front bytes id stop was s there taken reads_so on numbers e (is_elsewhere node given at none untold) =
       absurd (none_comes fixed.master (home_at world) world.links fixed.master to (Line bytes) taken.rest id.conn taken.first untold.nothing
       (about_ok bytes id reads_so))
-  ok_by links to front bytes id stop was s there taken reads_so numbers e (is_open text node its connection at reader standing) =
+  ok_by links to front bytes id stop was s there taken reads_so on numbers e (is_open text node its connection at reader standing) =
       let tells = ok_tells fixed.master (home_at world) world.links to bytes id taken.rest node its.replica (next_id id.conn (law.story.told id.conn))
-      standing.here (frontend_of to front there) taken.first reads_so refl standing.placed in
+      standing.here (frontend_of to front there) taken.first reads_so refl on standing.placed in
       let here = subst (IsTakenBy fixed.master (Line bytes)) (sym tells.at) taken in
       subst (λ n. KeepsOn config law.story law.stops heard (taken_by fixed.master (Line bytes) n)) tells.at
       (open_keeps fixed.master id.conn text node its connection at (taken_by fixed.master (Line bytes) node) here.many here.feeds s e reader
       (ok_step fixed world law.story node its id.conn (inputs_in (setting_of config) text) (begun text) connection
-      (before_so links id.conn text node false its connection e at (numbers_of id.conn text false e numbers)) standing bytes id here.rest here.first reads_so refl))
-  ok_by links to front bytes id stop was s there taken reads_so numbers e (is_cut_off text node its connection at gone next) =
+      (before_so links id.conn text node false its connection e at (numbers_of id.conn text false e numbers)) standing bytes id here.rest here.first reads_so refl on))
+  ok_by links to front bytes id stop was s there taken reads_so on numbers e (is_cut_off text node its connection at gone next) =
       let tells = ok_tells fixed.master (home_at world) world.links to bytes id taken.rest node its.replica (next_id id.conn (law.story.told id.conn))
-      gone.here (frontend_of to front there) taken.first reads_so refl gone.placed in
+      gone.here (frontend_of to front there) taken.first reads_so refl on gone.placed in
       let here = subst (IsTakenBy fixed.master (Line bytes)) (sym tells.at) taken in
       subst (λ n. KeepsOn config law.story law.stops heard (taken_by fixed.master (Line bytes) n)) tells.at
       (cut_off_keeps fixed.master id.conn text node its connection at (taken_by fixed.master (Line bytes) node) here.many here.feeds s e next
       (closed_ok fixed world law.story node its id.conn (inputs_in (setting_of config) text) connection
       (before_so links id.conn text node false its connection e at (numbers_of id.conn text false e numbers)) is_lost gone bytes id here.rest here.first
-      reads_so refl))
-  ok_by links to front bytes id stop was s there taken reads_so numbers e (is_closed shut text node its connection at gone) =
+      reads_so refl on))
+  ok_by links to front bytes id stop was s there taken reads_so on numbers e (is_closed shut text node its connection at gone) =
       let tells = ok_tells fixed.master (home_at world) world.links to bytes id taken.rest node its.replica (next_id id.conn (law.story.told id.conn))
-      gone.here (frontend_of to front there) taken.first reads_so refl gone.placed in
+      gone.here (frontend_of to front there) taken.first reads_so refl on gone.placed in
       let here = subst (IsTakenBy fixed.master (Line bytes)) (sym tells.at) taken in
       subst (λ n. KeepsOn config law.story law.stops heard (taken_by fixed.master (Line bytes) n)) tells.at
       (closed_keeps fixed.master id.conn text node its connection at (taken_by fixed.master (Line bytes) node) here.many here.feeds shut s e
       (closed_ok fixed world law.story node its id.conn (inputs_in (setting_of config) text) connection
       (before_so links id.conn text node true its connection e at (numbers_of id.conn text true e numbers)) shut gone bytes id here.rest here.first
-      reads_so refl))
+      reads_so refl on))
 
-  -- THE MASTER'S OK KEEPS THE LAW
+  -- THE MASTER'S OK TO A COMMAND THAT ISN'T OVER KEEPS THE LAW
   pub ok_stands : LinksStand config world → (to : List ℕ) (front : Front) (bytes : List ℕ) (id : AskId) → front_at world to ≡ Some front
-      → IsTakenBy (master_of config) (Line bytes) to → barrier_answered bytes ≡ Some id → NumbersFit heard
-      → KeepsOn config law.story law.stops heard (taken_by (master_of config) (Line bytes) to)
-  ok_stands links to front bytes id there taken reads_so numbers =
-      ok_by links to front bytes id (law.stops id.conn) (heard id.conn) refl there taken reads_so numbers refl (law.connections id.conn)
+      → IsTakenBy (master_of config) (Line bytes) to → barrier_answered bytes ≡ Some id → is_over (length (law.story.told id.conn) + 1) (Line bytes) ≡ false
+      → NumbersFit heard → KeepsOn config law.story law.stops heard (taken_by (master_of config) (Line bytes) to)
+  ok_stands links to front bytes id there taken reads_so on numbers =
+      ok_by links to front bytes id (law.stops id.conn) (heard id.conn) refl there taken reads_so on numbers refl (law.connections id.conn)

@@ -25,7 +25,7 @@ use Rattle.route_links.specs.Barriers.{Place as barrier}
 use Rattle.front_core.specs.Ups.{Ups}
 use Rattle.cluster_core.specs.declared.world.World.{World}
 use Rattle.cluster_core.proofs.Commands.Knows.{KnowsNames, listed_by}
-use Rattle.cluster_core.proofs.Commands.Knows.KnowsNames.{is_listed, not_yet}
+use Rattle.cluster_core.proofs.Commands.Knows.KnowsNames.{is_gone, is_listed, not_yet}
 use Rattle.cluster_core.proofs.Commands.Place.{Place as place}
 use Rattle.cluster_core.proofs.Commands.Standing.{Fixed, Lists, next_id}
 use Rattle.cluster_core.proofs.Connections.FrameLaw.{ways_for}
@@ -55,6 +55,9 @@ same_barrier one other e = cc
 not_asked : (table : MailboxTable) → place.is_barred (barrier.answered table) ≡ place.is_barred barrier.asked → ⊥
 not_asked table e = cc
 
+not_gone : (table : MailboxTable) → place.is_barred (barrier.answered table) ≡ place.is_barred barrier.nowhere → ⊥
+not_gone table e = cc
+
 record IsSaid (tag : Tag) (it : Listing) (was : Sess) (told said : List Answer) (session : Sess) (table : MailboxTable) : Type 0 where
   said_is : said ≡ told ++ listed_by tag it table ∷ []
   stays : was ≡ session
@@ -62,6 +65,7 @@ record IsSaid (tag : Tag) (it : Listing) (was : Sess) (told said : List Answer) 
 said_so : (tag : Tag) (it : Listing) (was : Sess) (told said : List Answer) (session : Sess) (table : MailboxTable)
     → KnowsNames tag it was told said session (place.is_barred (barrier.answered table)) → IsSaid tag it was told said session table
 said_so tag it was told said session table (not_yet same stays at) = absurd (not_asked table at)
+said_so tag it was told said session table (is_gone same stays at) = absurd (not_gone table at)
 said_so tag it was told said session table (is_listed other more stays at) =
     record { said_is = more ∙ ap (λ t. told ++ listed_by tag it t ∷ []) (sym (same_barrier table other at)); stays = stays }
 

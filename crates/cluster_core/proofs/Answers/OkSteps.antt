@@ -1,9 +1,10 @@
 -- A frontend takes the master's OK for which a command of an open connection waits.
-use Rattle.std.proofs.Common.{◌≡◌, ◌≢◌, ℕ, nat_eq, true, List, ◌∷◌, Option, Some, sym, ◌∙◌, ap, subst}
+use Rattle.std.proofs.Common.{◌≡◌, ◌≢◌, ℕ, ◌+◌, nat_eq, true, false, List, ◌∷◌, length, Option, Some, sym, ◌∙◌, ap, subst}
 use Rattle.std.specs.Cmp.Lexicographic.{pointwise}
 use Rattle.std.proofs.lemmas.Cmp.{nat_list_eq_equiv}
 use Rattle.ask_routes.specs.Barrier.{barrier_answered}
 use Rattle.feed_links.specs.Replicas.{replica_of}
+use Rattle.front_core.proofs.OneConnection.Places.{is_over}
 use Rattle.front_core.specs.declared.connection.Connection.{Connection}
 use Rattle.front_core.specs.declared.front.Front.{Front}
 use Rattle.front_core.specs.Answered.{ok_comes}
@@ -117,14 +118,14 @@ module _ (fixed : Fixed) (world : World) (story : Tale) (node : List ℕ) (front
       (λ other ne. ok_stays fixed world node bytes id rest other (before.may).frontend first reads_so (λ e. ne (e ∙ own)))
 
   pub ok_step : (bytes : List ℕ) (id : AskId) (rest : List LinkMsg) → on_link world.links fixed.master node ≡ Line bytes ∷ rest
-      → barrier_answered bytes ≡ Some id → id.conn ≡ conn
+      → barrier_answered bytes ≡ Some id → id.conn ≡ conn → is_over (length (story.told conn) + 1) (Line bytes) ≡ false
       → OpenStep fixed world story fixed.master node front conn inputs held connection
       (all_come (taken_from_link world fixed.master node) node (From fixed.master (Line bytes)))
-  ok_step bytes id rest first reads_so own =
+  ok_step bytes id rest first reads_so own on =
       let next : AskId = next_id conn (story.told conn) in
       let frontend = (before.may).frontend in
       let is = takes_ok fixed.master (home_at world) world.links node bytes id rest node front.replica next standing.here frontend first reads_so own
-      standing.placed in
+      on standing.placed in
       let here : Place = place.is_barred (barrier.answered is.table) in
       let turned : Turned = ok_comes fixed.setting (ways_for fixed front.ups front.replica) conn connection id in
       subst (λ w. OpenStep fixed world story fixed.master node front conn inputs held connection w)

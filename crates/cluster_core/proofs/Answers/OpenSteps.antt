@@ -29,14 +29,15 @@ use Rattle.mur_model.specs.declared.setting.Setting.{Setting}
 use Rattle.node_step.specs.declared.input.NodeInput.TheVariants.{From}
 use Rattle.route_links.specs.Barriers.{Place as Barrier, Place as barrier}
 use Rattle.cluster_core.specs.declared.world.World.{World}
-use Rattle.cluster_core.specs.World.{home_at, taken_from_link}
+use Rattle.cluster_core.specs.World.{carry_all, home_at, taken_from_link}
 use Rattle.cluster_core.proofs.Commands.Knows.{KnowsNames}
-use Rattle.cluster_core.proofs.Commands.Knows.KnowsNames.{is_listed, not_yet}
+use Rattle.cluster_core.proofs.Commands.Knows.KnowsNames.{is_gone, is_listed, not_yet}
 use Rattle.cluster_core.proofs.Commands.Place.{Place, Place as place}
-use Rattle.cluster_core.proofs.Commands.Released.{begun_released, released_count, stands_released}
+use Rattle.cluster_core.proofs.Commands.Released.{begun_released}
 use Rattle.cluster_core.proofs.Commands.Standing.{Fixed, HasBegunSo, Lists, Stands, Waiting, next_id}
 use Rattle.cluster_core.proofs.Commands.Standing.Stands.{reads, waits, lists, faulted, finished}
 use Rattle.cluster_core.proofs.Connections.ConnectionLaw.{IsInPlaceOf, IsStanding, PlacesStay}
+use Rattle.cluster_core.proofs.Connections.KeepsData.{standing_released}
 use Rattle.cluster_core.proofs.Connections.KeepsFront.{standing_after, world_after}
 use Rattle.cluster_core.proofs.Nodes.AllCome.{all_come, front_all_come}
 use Rattle.cluster_core.proofs.Nodes.Comes.{with_front}
@@ -84,6 +85,7 @@ not_answered server answer at e = cc
 not_listed : (server : List ℕ) (answer : BackAnswer) (tag : Tag) (it : Listing) (was : Sess) (told said : List AnswerOf) (session : Sess)
     → KnowsNames tag it was told said session (place.is_answered server answer) → ⊥
 not_listed server answer tag it was told said session (not_yet same stays at) = not_answered server answer barrier.asked at
+not_listed server answer tag it was told said session (is_gone same stays at) = not_answered server answer barrier.nowhere at
 not_listed server answer tag it was told said session (is_listed table more stays at) = not_answered server answer (barrier.answered table) at
 
 answer_of : (fixed : Fixed) (front : List ℕ) (conn : ℕ) (inputs : List Input) (held : Option (List ℕ)) (connection : Connection)
@@ -130,16 +132,8 @@ module _ (fixed : Fixed) (world : World) (story : Tale) (from node : List ℕ) (
     step = step_is fixed world story from node front conn connection (released turned.connection) before.at turned.outs stands.story stands.made others;
     standing = standing_after fixed (taken_from_link world from node) node front conn (released turned.connection) turned.outs inputs held front.replica
         stands.story (before.at).at ((stands.made).others).nodes
-        (record {
-          count = released_count turned.connection ∙ stands.standing.count;
-          client = stands.standing.client;
-          here = stands.standing.here;
-          placed = stands.standing.placed;
-          marked = stands.standing.marked;
-          dropped = stands.standing.dropped;
-          stands = stands_released fixed node conn inputs held turned.connection (stands.story.told conn) (stands.story.talk.answers conn)
-              (stands.story.course.sessions conn) stands.standing.here stands.standing.stands;
-        });
+        (standing_released fixed node front.replica conn inputs held turned.connection (carry_all node (taken_from_link world from node) turned.outs)
+        stands.story stands.standing);
     begun = λ reading so. begun_released turned.connection reading
         (⊎_elim (λ ended. absurd (lives ended)) (λ is. inr (reader ∙ is)) so);
   }

@@ -1,10 +1,11 @@
 -- A frontend takes any other message than an answer or the OK to a command: a line of the master that tells of its table, or one that changes nothing.
 use Rattle.std.proofs.Common.{◌≡◌, ◌≢◌, inl, inr, ℕ, nat_eq, Bool, true, false, List, None, Some, refl, sym, ◌∙◌, ap, subst}
 use Rattle.std.specs.Cmp.Lexicographic.{pointwise}
+use Rattle.std.specs.Ordering.{nat_cmp}
 use Rattle.std.proofs.Math.Logic.{⊎_elim}
 use Rattle.std.proofs.lemmas.Cmp.{nat_list_eq_equiv}
 use Rattle.ask_routes.specs.Barrier.{barrier_answered}
-use Rattle.cluster_core.specs.World.{master_of, carry_all, front_at, home_at, taken_from_link}
+use Rattle.cluster_core.specs.World.{master_of, carry_all, front_at, home_at, setting_of, taken_from_link}
 use Rattle.feed_core.specs.declared.replica.Replica.{Replica}
 use Rattle.feed_links.proofs.Names.{other_name}
 use Rattle.feed_links.specs.Replicas.{hears}
@@ -14,16 +15,19 @@ use Rattle.front_core.specs.Ups.{Ups}
 use Rattle.imap_talk.specs.Heard.{Heard}
 use Rattle.link_msg.specs.declared.message.LinkMsg.{LinkMsg}
 use Rattle.link_msg.specs.declared.message.LinkMsg.TheVariants.{Up, End, Line, Ask, Answer}
+use Rattle.link_queue.specs.Broken.{Broken}
 use Rattle.many_links.specs.ManyHold.{ManyHold}
 use Rattle.mark_history.specs.Marked.{talk_told}
+use Rattle.mur_base.specs.Map.{value_at}
 use Rattle.mur_base.specs.declared.point.AskId.{AskId}
 use Rattle.mur_config.specs.declared.config.Config.{Config}
 use Rattle.mur_model.proofs.HistoryGrows.{same_talk}
 use Rattle.node_step.specs.declared.input.NodeInput.TheVariants.{From}
 use Rattle.cluster_core.specs.declared.world.World.{World}
+use Rattle.cluster_core.proofs.Commands.AllReached.{AreMarkedSo}
 use Rattle.cluster_core.proofs.Commands.Place.{Place}
 use Rattle.cluster_core.proofs.Commands.Standing.{Fixed}
-use Rattle.cluster_core.proofs.Connections.ConnectionLaw.{IsInPlaceOf, says_same}
+use Rattle.cluster_core.proofs.Connections.ConnectionLaw.{IsInNoneOf, IsInPlaceOf, MarksStay, says_same}
 use Rattle.cluster_core.proofs.Connections.KeepsFront.{fronts_at_other}
 use Rattle.cluster_core.proofs.Connections.KeepsLaw.{AreNodesOf, FeedsHold, KeepsLaw, KeepsOn, fixed_of, murder_of}
 use Rattle.cluster_core.proofs.Connections.Stays.{StaysInPlace, connection_stays}
@@ -43,6 +47,51 @@ use Rattle.cluster_core.proofs.Answers.Keeps.{IsTakenBy, frontend_of, taken_by}
 
 just_front : {one other : Front} → Some one ≡ Some other → one ≡ other
 just_front e = cc
+
+-- A frontend has another replica or other links, and what it let out is no connection's: each is as it was, if its command is where it was.
+module _ (config : Config) (heard : ℕ → Heard) (world next : World) (law : KeepsLaw config heard world) (to : List ℕ) (front : Front) (replica : Replica)
+    (ups : Ups) (there : front_at world to ≡ Some front) (moved : FrontMoved world to (record front { replica = replica; ups = ups }) next) where
+  abbrev moved_front : Front
+  moved_front = record front { replica = replica; ups = ups }
+
+  pub moved_keeps : next.clients ≡ world.clients → next.marks ≡ world.marks → next.steps ≡ world.steps → next.broken ≡ world.broken
+      → ((conn : ℕ) → StaysInPlace (fixed_of config) conn world next)
+      → ((conn : ℕ) → IsInNoneOf (fixed_of config) world conn → IsInNoneOf (fixed_of config) next conn)
+      → ManyHold (murder_of next law.master) law.given law.story.course.store → FeedsHold config next law.master
+      → KeepsOn config law.story law.stops heard next
+  moved_keeps clients marks steps broken stays none many feeds = record {
+    law = record {
+      master = law.master;
+      nodes = front_cores config world next law.master law.nodes to front moved_front there (record { me = refl; master = refl; first = refl; setting = refl }) moved;
+      story = law.story;
+      stops = law.stops;
+      given = law.given;
+      many = many;
+      feeds = feeds;
+      is_told = subst (λ (b : Broken). AreMarkedSo (setting_of config) b next.steps next.marks law.story) (sym broken)
+          (subst (λ n. AreMarkedSo (setting_of config) world.broken n next.marks law.story) (sym steps)
+          (subst (λ m. AreMarkedSo (setting_of config) world.broken world.steps m law.story) (sym marks) law.is_told));
+      requests = law.requests;
+      connections = λ conn. connection_stays (fixed_of config) conn world next law.story law.story (law.stops conn) (heard conn)
+          (record {
+            fronts = fronts_at_other world next to front moved_front conn there moved refl;
+            client = ap (λ c. value_at nat_cmp c conn) clients;
+            in_place = stays conn;
+            in_none = none conn;
+            marks = subst (MarksStay conn world.marks) (sym marks) (λ command. refl);
+            told = refl;
+            said = refl;
+            session = refl;
+            before = refl;
+            moving = refl;
+            broken = broken;
+          })
+          (law.connections conn);
+    };
+    more = same_talk (talk_told law.story);
+    grows = says_same law.story;
+    closed = λ conn shut. (refl, refl);
+  }
 
 module _ (config : Config) (heard : ℕ → Heard) (world : World) (law : KeepsLaw config heard world) (from to : List ℕ) (front : Front) (message : LinkMsg)
     (there : front_at world to ≡ Some front) (taken : IsTakenBy config heard world law from message to) where
@@ -64,41 +113,11 @@ module _ (config : Config) (heard : ℕ → Heard) (world : World) (law : KeepsL
       → KeepsOn config law.story law.stops heard (with_replica replica ups)
   unfolding carry_all
   replica_keeps replica ups stays many feeds =
-      let later : Front = record front { replica = replica; ups = ups } in
-      let next : World = with_replica replica ups in
-      record {
-        law = record {
-          master = law.master;
-          nodes = front_cores config world next law.master law.nodes to front later there (record { me = refl; master = refl; first = refl; setting = refl })
-              (moved_so replica ups);
-          story = law.story;
-          stops = law.stops;
-          given = law.given;
-          many = many;
-          feeds = feeds;
-          is_told = law.is_told;
-          requests = law.requests;
-          connections = λ conn. connection_stays fixed conn world next law.story law.story (law.stops conn) (heard conn)
-              (record {
-                fronts = fronts_at_other world next to front later conn there (moved_so replica ups) refl;
-                client = refl;
-                in_place = stays conn;
-                in_none = λ is. in_none_alike (home_at world) (home_at next) (moved_so replica ups).homes fixed.master next.links conn
-                    (none_stays fixed.master (home_at world) world.links from to message taken.rest conn (frontend_of config heard world law to front there)
-                    taken.first is);
-                marks = λ command. refl;
-                told = refl;
-                said = refl;
-                session = refl;
-                moving = refl;
-                broken = refl;
-              })
-              (law.connections conn);
-        };
-        more = same_talk (talk_told law.story);
-        grows = says_same law.story;
-        closed = λ conn shut. (refl, refl);
-      }
+      moved_keeps config heard world (with_replica replica ups) law to front replica ups there (moved_so replica ups) refl refl refl refl stays
+      (λ conn is. in_none_alike (home_at world) (home_at (with_replica replica ups)) (moved_so replica ups).homes fixed.master
+      (with_replica replica ups).links conn
+      (none_stays fixed.master (home_at world) world.links from to message taken.rest conn (frontend_of config heard world law to front there) taken.first is))
+      many feeds
 
   -- its own connections with the new replica, those of others with theirs
   stays_by : (replica : Replica) (ups : Ups) (conn : ℕ)

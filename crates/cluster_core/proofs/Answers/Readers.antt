@@ -1,4 +1,4 @@
--- What comes of an answer, or of the master's OK, leaves the reader of its connection as it was.
+-- What comes of an answer, of the master's OK, or of the end of a link, leaves the reader of its connection as it was.
 use Rattle.std.proofs.Common.{◌≡◌, ℕ, Bool, true, false, List, [], refl, ◌∙◌}
 use Rattle.asking_core.specs.Begins.{Begun, first_sent}
 use Rattle.asking_core.specs.declared.then.Then.{Then}
@@ -10,9 +10,9 @@ use Rattle.asking_core.specs.declared.waiting.Waiting.{Waiting}
 use Rattle.front_core.specs.declared.connection.Connection.{Connection}
 use Rattle.front_core.specs.declared.connection.Stage.{Stage}
 use Rattle.front_core.specs.declared.connection.Stage.TheVariants.{Reading, Waits, Lists, Ended}
-use Rattle.front_core.specs.Answered.{answer_by, answer_comes, by_then, clears_at, need_behind, ok_by, ok_comes, reading_again, refused_behind, sends_if}
+use Rattle.front_core.specs.Answered.{answer_by, answer_comes, by_then, clears_at, end_by, end_comes, ends_at, need_behind, ok_by, ok_comes, reading_again, refused_behind, sends_if}
 use Rattle.front_core.specs.Answered.{waiting_come}
-use Rattle.front_core.specs.Taken.{Turned, Ways, asks, begins_if, lists, lists_if, next_of, to_begin, told_now}
+use Rattle.front_core.specs.Taken.{Turned, Ways, asks, begins_if, list_refused, lists, lists_if, next_of, to_begin, told_now}
 use Rattle.front_core.specs.Ups.{is_up}
 use Rattle.imap_types.specs.declared.command.Tag.{Tag}
 use Rattle.link_msg.specs.declared.answer.BackAnswer.{BackAnswer}
@@ -105,3 +105,18 @@ module _ (setting : Setting) (ways : Ways) (conn : ℕ) where
   pub ok_reader : (connection : Connection) (id : AskId) → KeepsReader connection (ok_comes setting ways conn connection id)
   unfolding ok_comes
   ok_reader connection id = ok_reader_by connection _ connection.stage
+
+  ends_reader : (connection : Connection) (tag : Tag) (it : Waiting) (at : At) → KeepsReader connection (ends_at setting ways conn connection tag it at)
+  ends_reader connection tag it (Home server) = refl
+  ends_reader connection tag it (Barrier why) =
+      refused_reader connection tag (relocated connection.session it.asking.awaited (unreached ways.master)) ways.master
+
+  end_reader_by : (connection : Connection) (stage : Stage) → KeepsReader connection (end_by setting ways conn connection stage)
+  unfolding end_by
+  end_reader_by connection (Waits tag it) = ends_reader connection tag it it.at
+  end_reader_by connection (Lists tag it) = refused_reader connection tag (list_refused connection.session) ways.master
+  end_reader_by connection Reading = refl
+  end_reader_by connection Ended = refl
+
+  pub end_reader : (connection : Connection) → KeepsReader connection (end_comes setting ways conn connection)
+  end_reader connection = end_reader_by connection connection.stage

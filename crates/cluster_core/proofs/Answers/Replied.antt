@@ -1,5 +1,5 @@
 -- The client of a command that waited is given its reply: behind it the inputs that waited come, or the connection has ended.
-use Rattle.std.proofs.Common.{◌≡◌, ℕ, ◌+◌, true, false, List, [], ◌∷◌, ◌++◌, length, Option, Some, refl, sym, ◌∙◌, ap, subst, append_assoc, length-append}
+use Rattle.std.proofs.Common.{◌≡◌, ℕ, ◌+◌, true, false, List, [], ◌∷◌, ◌++◌, length, Option, Some, refl, sym, ◌∙◌, ap, subst, append_assoc, arith, length-append}
 use Rattle.std.specs.Ordering.{nat_cmp}
 use Rattle.cluster_core.specs.declared.world.Client.{Client}
 use Rattle.feed_core.specs.declared.replica.Replica.{Replica}
@@ -23,6 +23,7 @@ use Rattle.imap_types.specs.declared.request.Answer.{Answer}
 use Rattle.link_msg.specs.declared.how.How.{How}
 use Rattle.mark_history.specs.Marked.{Tale}
 use Rattle.mark_history.specs.declared.mark.MarkKind.TheVariants.{Told}
+use Rattle.mur_base.specs.declared.point.AskId.{AskId}
 use Rattle.mur_base.proofs.MapLaws.{numbers_apart, value_at-with_value}
 use Rattle.mur_model.specs.declared.session.Sess.{Sess}
 use Rattle.front_core.specs.Ups.{Ups}
@@ -38,6 +39,10 @@ use Rattle.cluster_core.proofs.Connections.Nowhere.{nowhere_too}
 use Rattle.cluster_core.proofs.Connections.Said.{answer_carried, carry_all-append, last_carried}
 use Rattle.cluster_core.proofs.Answers.Given.{told_keeps, told_world}
 use Rattle.cluster_core.proofs.Answers.Tells.{IsTold}
+
+-- the command behind the next one of a connection whose client was told so much
+abbrev pub id_behind : ℕ → List Answer → AskId
+id_behind conn told = record { conn = conn; command = length told + 1 + 1 }
 
 -- the inputs that waited come to a connection that reads, and it stands behind them (see FrameLaw)
 abbrev pub InputsCome : Fixed → List ℕ → Ups → Replica → ℕ → List Input → Option (List ℕ) → World → Tale → Type 0
@@ -55,12 +60,12 @@ pub record IsHeard (fixed : Fixed) (front : List ℕ) (replica : Replica) (conn 
   pub is_told : AreMarkedSo fixed.setting world.broken world.steps world.marks story
   pub waiting : Waiting fixed front conn inputs held connection (story.told conn) (story.talk.answers conn) (story.course.sessions conn) here
 
--- whatever request it was that waited for it
+-- Whatever request it was that waited, for that or for a message that comes no more: the next command is nowhere. What is left of this one may be on its way.
 pub record IsHeardFor (fixed : Fixed) (front : List ℕ) (replica : Replica) (conn : ℕ) (inputs : List Input) (held : Option (List ℕ))
     (connection : Connection) (world : World) (story : Tale) (tag : Tag) (it : Command) : Type 0 where
   pub count : connection.answered ≡ length (story.told conn)
   pub client : client_at world conn ≡ Some (client_with front inputs (story.told conn))
-  pub nothing : IsInPlaceOf fixed world front replica (next_id conn (story.told conn)) place.nowhere
+  pub nothing : IsInPlaceOf fixed world front replica (id_behind conn (story.told conn)) place.nowhere
   pub is_told : AreMarkedSo fixed.setting world.broken world.steps world.marks story
   pub next : IsNext inputs held connection (story.told conn) tag it
 
@@ -70,7 +75,8 @@ pub heard_for : (fixed : Fixed) (front : List ℕ) (replica : Replica) (conn : �
 heard_for fixed front replica conn inputs held connection world story here heard = record {
   count = heard.count;
   client = heard.client;
-  nothing = heard.nothing;
+  nothing = nowhere_too fixed.master (home_at world) world.links front replica (next_id conn (story.told conn)) (length (story.told conn) + 1 + 1)
+      (omega arith) heard.nothing;
   is_told = heard.is_told;
   next = record {
     passed = (heard.waiting).passed;
@@ -130,7 +136,8 @@ module _ (fixed : Fixed) (front : List ℕ) (ups : Ups) (replica : Replica) (con
 
   nowhere_then : IsInPlaceOf fixed next front replica (next_id conn (told.later.told conn)) place.nowhere
   nowhere_then =
-      nowhere_too fixed.master (home_at world) world.links front replica (next_id conn (story.told conn)) (length (told.later.told conn) + 1) heard.nothing
+      subst (λ n. IsInPlaceOf fixed next front replica (record { conn = conn; command = n + 1 }) place.nowhere)
+      (sym (ap length told.told ∙ length-append (story.told conn) (answer ∷ []))) heard.nothing
 
   -- ---- it reads again
 
@@ -191,6 +198,7 @@ module _ (fixed : Fixed) (front : List ℕ) (ups : Ups) (replica : Replica) (con
           placed = nowhere_then;
           marked = tt;
           dropped = tt;
+          restores = tt;
           stands = finished (heard.next).passed connection.waiting (heard.next).request (story.told conn) answer refl (heard.next).parts
               (heard.next).answered told.told is_end (told.said ∙ sym told.told) refl;
         };

@@ -14,18 +14,21 @@ use Rattle.link_msg.specs.declared.how.How.TheVariants.{Behind, Reserved, Unreac
 use Rattle.mark_history.specs.Marked.{CanRefuse, CanRefuseNow, IsUnreplied, IsUntold, Tale, mark_now, refusing, telling}
 use Rattle.mark_history.specs.declared.mark.MarkKind.TheVariants.{Told}
 use Rattle.mark_history.proofs.TakenBack.{list_at, list_elsewhere}
+use Rattle.front_core.specs.Taken.{list_refused}
 use Rattle.mur_base.specs.declared.point.What.TheVariants.{Unreached as unreached}
+use Rattle.mur_model.specs.declared.commands.list.Listing.{Listing}
 use Rattle.mur_model.specs.declared.session.Sess.{Sess}
 use Rattle.mur_model.specs.declared.session.Sess.TheVariants.{Selected}
+use Rattle.mur_model.specs.declared.session.Turn.{Turn}
 use Rattle.mur_model.specs.declared.setting.Setting.{Setting}
 use Rattle.mur_model.specs.Act.{need_of, session_after}
 use Rattle.mur_model.specs.Asking.{asked_for}
 use Rattle.mur_model.specs.History.{numbered}
-use Rattle.mur_model.specs.Needed.{Mailbox, Work}
+use Rattle.mur_model.specs.Needed.{Mailbox, Names, Work}
 use Rattle.mur_model.specs.Relocation.{MayBeRefused, cause_text, refused_for}
 use Rattle.mur_model.proofs.HistoryGrows.{same_lists}
 use Rattle.session_core.specs.Relocated.{relocated}
-use Rattle.session_core.proofs.RefusedLaw.{refused_as_told}
+use Rattle.session_core.proofs.RefusedLaw.{refused_as_told, refused_list}
 use Rattle.cluster_core.specs.declared.world.World.{World}
 use Rattle.cluster_core.proofs.Commands.AllReached.{AreMarkedSo, refuses, refuses_at_once, tells}
 use Rattle.cluster_core.proofs.Connections.ConnectionLaw.{GoesOnAt, session_at, session_of_other}
@@ -52,6 +55,7 @@ behind_told setting world story conn answer marked untold = record {
     grows = omega arith;
     told = λ other ne. list_elsewhere story.told conn (story.told conn ++ answer ∷ []) other ne;
     sessions = λ other ne. refl;
+    before = λ other ne. refl;
     more = record {
       requests = same_lists story.talk.requests;
       answers = list_more story.told conn answer;
@@ -108,6 +112,7 @@ refused_told setting world story conn tag it why how unreplied marked =
         );
         told = λ other ne. list_elsewhere story.told conn (story.told conn ++ answer ∷ []) other ne;
         sessions = λ other ne. session_of_other story.course.sessions conn _ other ne;
+        before = λ other ne. session_of_other story.before conn _ other ne;
         more = record {
           requests = same_lists story.talk.requests;
           answers = list_more story.told conn answer;
@@ -129,25 +134,47 @@ pub refusal_told : (setting : Setting) (world : World) (story : Tale) (conn : �
 refusal_told setting world story conn tag it marked can =
     refused_told setting world story conn tag it BeingMoved Reserved can.unreplied (refuses world.steps world.marks story conn tag it 0 can marked)
 
--- since a server isn't reached that has its mailbox, and the link to it has broken
-can_refuse_now : (setting : Setting) (story : Tale) (now conn : ℕ) (tag : Tag) (it : Command) (node name : List ℕ) (work : Work) → IsUnreplied story conn
+-- since a node isn't reached that it needs, and a link has broken
+can_refuse_now : (setting : Setting) (story : Tale) (now conn : ℕ) (tag : Tag) (it : Command) (node : List ℕ) → IsUnreplied story conn
     → numbered (story.talk.requests conn) (length (story.told conn) + 1) ≡ Some (a_command tag it)
-    → need_of setting (story.course.sessions conn) it ≡ Mailbox name work → CanRefuseNow setting story now conn tag it node
-unfolding cause_text MayBeRefused
-can_refuse_now setting story now conn tag it node name work unreplied asked need = record {
+    → MayBeRefused story.talk.moving now (unreached node) (need_of setting (story.course.sessions conn) it) → CanRefuseNow setting story now conn tag it node
+unfolding cause_text
+can_refuse_now setting story now conn tag it node unreplied asked may = record {
   unreplied = unreplied;
-  refused = record { asked = asked; cause = refl; may = subst (MayBeRefused story.talk.moving now (unreached node)) (sym need) tt };
+  refused = record { asked = asked; cause = refl; may = may };
 }
 
+not_reached_told : (setting : Setting) (world : World) (story : Tale) (conn : ℕ) (tag : Tag) (it : Command) (node : List ℕ)
+    → AreMarkedSo setting world.broken world.steps world.marks story → IsUnreplied story conn
+    → numbered (story.talk.requests conn) (length (story.told conn) + 1) ≡ Some (a_command tag it)
+    → MayBeRefused story.talk.moving world.steps (unreached node) (need_of setting (story.course.sessions conn) it) → world.broken ≢ []
+    → IsTold setting world story conn (Unreached node) (refusal_answer story conn tag it NotReached) (refusal_session story conn it NotReached)
+not_reached_told setting world story conn tag it node marked unreplied asked may cut =
+    refused_told setting world story conn tag it NotReached (Unreached node) unreplied
+    (refuses_at_once world.steps world.marks story conn tag it node 0
+    (can_refuse_now setting story world.steps conn tag it node unreplied asked may) cut marked)
+
+-- the server of its mailbox, or the master
 pub unreached_told : (setting : Setting) (world : World) (story : Tale) (conn : ℕ) (tag : Tag) (it : Command) (node name : List ℕ) (work : Work)
     → AreMarkedSo setting world.broken world.steps world.marks story → IsUnreplied story conn
     → numbered (story.talk.requests conn) (length (story.told conn) + 1) ≡ Some (a_command tag it)
     → need_of setting (story.course.sessions conn) it ≡ Mailbox name work → world.broken ≢ []
     → IsTold setting world story conn (Unreached node) (refusal_answer story conn tag it NotReached) (refusal_session story conn it NotReached)
+unfolding MayBeRefused
 unreached_told setting world story conn tag it node name work marked unreplied asked need cut =
-    refused_told setting world story conn tag it NotReached (Unreached node) unreplied
-    (refuses_at_once world.steps world.marks story conn tag it node 0
-    (can_refuse_now setting story world.steps conn tag it node name work unreplied asked need) cut marked)
+    not_reached_told setting world story conn tag it node marked unreplied asked
+    (subst (MayBeRefused story.talk.moving world.steps (unreached node)) (sym need) tt) cut
+
+-- the master, which a LIST needs
+pub list_unreached_told : (setting : Setting) (world : World) (story : Tale) (conn : ℕ) (tag : Tag) (it : Command) (node : List ℕ) (listing : Listing)
+    → AreMarkedSo setting world.broken world.steps world.marks story → IsUnreplied story conn
+    → numbered (story.talk.requests conn) (length (story.told conn) + 1) ≡ Some (a_command tag it)
+    → need_of setting (story.course.sessions conn) it ≡ Names listing → world.broken ≢ []
+    → IsTold setting world story conn (Unreached node) (refusal_answer story conn tag it NotReached) (refusal_session story conn it NotReached)
+unfolding MayBeRefused
+list_unreached_told setting world story conn tag it node listing marked unreplied asked need cut =
+    not_reached_told setting world story conn tag it node marked unreplied asked
+    (subst (MayBeRefused story.talk.moving world.steps (unreached node)) (sym need) tt) cut
 
 -- what its session makes of that
 pub unreached_as_told : (setting : Setting) (session : Sess) (it : Command) (node name : List ℕ) (work : Work)
@@ -156,3 +183,9 @@ pub unreached_as_told : (setting : Setting) (session : Sess) (it : Command) (nod
     ≡ record { session = session_after session (refused_for session it NotReached).session; reply = (refused_for session it NotReached).reply }
 unfolding cause_text
 unreached_as_told setting session it node name work need = refused_as_told setting session it name work (unreached node) NotReached need refl
+
+pub list_unreached_as_told : (setting : Setting) (session : Sess) (it : Command) (listing : Listing) → need_of setting session it ≡ Names listing
+    → list_refused session
+    ≡ record { session = session_after session (refused_for session it NotReached).session; reply = (refused_for session it NotReached).reply }
+list_unreached_as_told setting session it listing need =
+    ap (λ (turn : Turn). record { session = session_after session turn.session; reply = turn.reply }) (sym (refused_list setting session it listing NotReached need))

@@ -33,7 +33,7 @@ use Rattle.cluster_core.proofs.Commands.Knows.Knows.{undecided}
 use Rattle.cluster_core.proofs.Commands.Place.{Place, Place as place}
 use Rattle.cluster_core.proofs.Commands.Standing.{Fixed, WaitsAt, next_id}
 use Rattle.cluster_core.proofs.Commands.Standing.Stands.{waits}
-use Rattle.cluster_core.proofs.Connections.ConnectionLaw.{IsDroppedAt, IsInPlaceOf, IsMarkedAt, KeepsOthers, StandsOn, same_story}
+use Rattle.cluster_core.proofs.Connections.ConnectionLaw.{CanRestore, IsDroppedAt, IsInPlaceOf, IsMarkedAt, KeepsOthers, StandsOn, same_story}
 use Rattle.cluster_core.proofs.Places.FrontSends.{ask_leaves_others, noop_leaves_others, sends_ask, sends_noop}
 use Rattle.cluster_core.proofs.Places.Stays.{IsFrontend}
 use Rattle.cluster_core.proofs.Answers.Replied.{IsHeard}
@@ -70,7 +70,8 @@ record IsSent (fixed : Fixed) (front : List ℕ) (replica : Replica) (conn : ℕ
   at : WaitsAt c.waiting.at here
   is_undecided : Undecided fixed.master fixed.first front c here
   no_mark : (moving : ℕ → List ℕ → Bool) (marks : List Mark) (id : AskId) → IsMarkedAt moving marks id here
-  not_dropped : IsDroppedAt (sent_in world front it) front here
+  not_dropped : IsDroppedAt fixed.master (sent_in world front it) front here
+  restores : (connection : Connection) → CanRestore story conn connection here
 
 module _ (fixed : Fixed) (front : List ℕ) (replica : Replica) (conn : ℕ) (world : World) (frontend : IsFrontend fixed.master (home_at world) front) where
   asked_others : (server : List ℕ) (node : BackNode) (ask : FrontAsk) → home_at world server ≡ Some node → (ask.id).conn ≡ conn
@@ -132,6 +133,7 @@ module _ (fixed : Fixed) (front : List ℕ) (replica : Replica) (conn : ℕ) (wo
         is_undecided = refl;
         no_mark = λ moving marks id. tt;
         not_dropped = tt;
+        restores = λ connection. tt;
       })
   sent_so story c next name asking it (at_master cause) e fits backend its numbered nowhere =
       subst (λ i. IsSent fixed front replica conn world story (waiting_as c next name asking) i)
@@ -147,6 +149,7 @@ module _ (fixed : Fixed) (front : List ℕ) (replica : Replica) (conn : ℕ) (wo
         is_undecided = tt;
         no_mark = λ moving marks id. tt;
         not_dropped = tt;
+        restores = λ connection. tt;
       })
 
 -- ---- the connection waits on
@@ -175,6 +178,7 @@ waits_on_stands fixed front replica conn inputs held connection world story here
         placed = is.placed;
         marked = is.no_mark story.talk.moving world.marks (next_id conn (story.told conn));
         dropped = is.not_dropped;
+        restores = is.restores (waits_with (record connection { session = next.session }) waiting.tag next.waiting on.sent).connection;
         stands = waits (record {
           passed = waiting.passed;
           request = waiting.request;

@@ -1,5 +1,5 @@
 -- Whom a frontend asks first for a command: a backend, by the record of the name or by that of the nearest name above; or the master.
-use Rattle.std.proofs.Common.{◌≡◌, ◌≢◌, ℕ, true, false, List, [], Option, None, Some, refl, sym, ◌∙◌, ap}
+use Rattle.std.proofs.Common.{◌≡◌, ◌≢◌, ℕ, false, List, [], Option, None, Some, refl, sym, ◌∙◌, ap}
 use Rattle.std.specs.Option.{IsSome}
 use Rattle.ask_routes.specs.Ways.{ask_for, first_step, mailbox_first}
 use Rattle.ask_routes.specs.declared.next.Why.{Why}
@@ -51,9 +51,9 @@ pub data FirstWay (nodes : Nodes) (master : List ℕ) (id : AskId) (session : Se
   by_server : (server : List ℕ) → IsSome (nodes server) → FirstWay nodes master id session it (asks_server id session it server)
   by_master : (cause : Why) → FirstWay nodes master id session it (asks_master master id it cause)
 
--- the link to the master is up, and that to a backend isn't only once a link has broken
+-- the link to the master or to a backend isn't up only once a link has broken
 pub record Reaches (master : List ℕ) (nodes : Nodes) (broken : Broken) (ups : Ups) : Type 0 where
-  pub up : is_up ups master ≡ true
+  pub master_cut : is_up ups master ≡ false → broken ≢ []
   pub cut : (server : List ℕ) → is_up ups server ≡ false → IsSome (nodes server) → broken ≢ []
 
 -- what is asked stays what it was
@@ -66,8 +66,7 @@ way_asking nodes master id session it begun (by_master cause) = refl
 way_cut : (nodes : Nodes) (master : List ℕ) (id : AskId) (session : Sess) (it : Waiting) (begun : Begun) (broken : Broken) (ups : Ups)
     → Reaches master nodes broken ups → FirstWay nodes master id session it begun → is_up ups begun.sent.to ≡ false → broken ≢ []
 way_cut nodes master id session it begun broken ups reaches (by_server server there) down = reaches.cut server down there
-way_cut nodes master id session it begun broken ups reaches (by_master cause) down =
-    absurd (let no : true ≡ false = sym reaches.up ∙ down in cc)
+way_cut nodes master id session it begun broken ups reaches (by_master cause) down = reaches.master_cut down
 
 module _ (nodes : Nodes) (recs : Recs) (master first : List ℕ) (id : AskId) (session : Sess) (it : Waiting) where
   mailbox_way : (name : List ℕ) (server : Option (List ℕ)) → server_at recs name ≡ server → NamesBackends nodes recs

@@ -42,7 +42,7 @@ use Rattle.cluster_core.proofs.Commands.AllReached.{AreMarkedSo, asks as asks_mo
 use Rattle.cluster_core.proofs.Commands.Released.{waits_next}
 use Rattle.cluster_core.proofs.Commands.Standing.{Fixed, IsNext, Lists, Stands, Waiting}
 use Rattle.cluster_core.proofs.Commands.Standing.Stands.{lists, waits}
-use Rattle.cluster_core.proofs.Connections.ConnectionLaw.{IsReading, IsStanding, StandsOn, keeps_all, same_story}
+use Rattle.cluster_core.proofs.Connections.ConnectionLaw.{IsReading, IsStanding, StandsOn, keeps_all, restores_as, same_story}
 use Rattle.cluster_core.proofs.Connections.FrameLaw.{HasNumbersOf, inputs_kept, ways_for}
 use Rattle.cluster_core.proofs.Connections.KeepsLaw.{IsAt, KeepsLaw, fixed_of}
 use Rattle.cluster_core.proofs.Links.Stand.{LinksStand}
@@ -342,6 +342,7 @@ module _ (config : Config) (heard : ℕ → Heard) (world : World) (law : KeepsL
           placed = standing.placed;
           marked = standing.marked;
           dropped = standing.dropped;
+          restores = restores_as law.story told conn connection Waits_on.connection standing.here refl refl refl refl standing.restores;
           stands = stands;
         };
       })

@@ -1,6 +1,6 @@
 -- What holds of a connection: what its client was told is a front of what the one store replied, and at most one command waits,
 -- in one place.
-use Rattle.std.proofs.Common.{◌≡◌, ◌≢◌, ◌⊎◌, ℕ, ◌≤◌, Bool, true, false, nat_eq, List, [], ◌++◌, length, Option, Some, refl, sym, ◌∙◌, ap, subst, arith}
+use Rattle.std.proofs.Common.{◌≡◌, ◌≢◌, ◌⊎◌, inl, inr, ℕ, ◌≤◌, Bool, true, false, nat_eq, List, [], ◌++◌, length, Option, Some, refl, sym, ◌∙◌, ap, subst, arith}
 use Rattle.std.proofs.Math.Logic.{⊎_elim}
 use Rattle.std.proofs.lemmas.Bool.{cases_eq}
 use Rattle.std.proofs.lemmas.Bool.Decides.{nat_tests}
@@ -160,6 +160,22 @@ abbrev pub CanRestore : Tale → ℕ → Connection → Place → Type 0
 CanRestore story conn connection (place.is_barred (barrier.answered table)) =
     (story.talk.answers conn ≡ story.told conn) ⊎ (story.before conn ≡ connection.session)
 CanRestore story conn connection other = Unit {0}
+
+-- so it is of a connection with this session, by a tale that says the same of it
+pub restores_as : (story later : Tale) (conn : ℕ) (one other : Connection) (here : Place) → later.talk.answers conn ≡ story.talk.answers conn
+    → later.told conn ≡ story.told conn → later.before conn ≡ story.before conn → other.session ≡ one.session → CanRestore story conn one here
+    → CanRestore later conn other here
+restores_as story later conn one other place.nowhere said told before session is = tt
+restores_as story later conn one other (place.is_asked server ask) said told before session is = tt
+restores_as story later conn one other (place.is_answered server answer) said told before session is = tt
+restores_as story later conn one other (place.is_dropped server) said told before session is = tt
+restores_as story later conn one other (place.is_at me at) said told before session is = tt
+restores_as story later conn one other (place.is_barred barrier.nowhere) said told before session is = tt
+restores_as story later conn one other (place.is_barred barrier.asked) said told before session is = tt
+restores_as story later conn one other (place.is_barred (barrier.answered table)) said told before session is = ⊎_elim
+    (λ (e : story.talk.answers conn ≡ story.told conn). inl (said ∙ e ∙ sym told))
+    (λ (e : story.before conn ≡ one.session). inr (before ∙ e ∙ sym session))
+    is
 
 -- a connection of a frontend with this replica, in the middle of a step, in which it reads
 pub record IsReading (fixed : Fixed) (front : List ℕ) (replica : Replica) (conn : ℕ) (inputs : List Input) (connection : Connection) (world : World)

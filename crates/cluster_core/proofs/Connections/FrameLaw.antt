@@ -13,7 +13,7 @@ use Rattle.front_core.proofs.OneConnection.Readings.{FaultsLast}
 use Rattle.front_core.specs.declared.connection.Connection.{Connection}
 use Rattle.front_core.specs.declared.connection.Stage.{Stage}
 use Rattle.front_core.specs.declared.connection.Stage.TheVariants.{Reading, Waits, Lists, Ended}
-use Rattle.front_core.specs.Taken.{Turned, Ways, answers_now, answers_last, asks, begins_if, comes_at, input_comes, input_in, inputs_come, lists_if, lists_with, refuses_now, request_in, to_begin, told_now, ways_by}
+use Rattle.front_core.specs.Taken.{Turned, Ways, answers_now, answers_last, asks, begins_if, comes_at, input_comes, input_in, inputs_come, list_refused, lists, lists_if, lists_with, refuses_now, request_in, to_begin, told_now, ways_by}
 use Rattle.front_core.specs.Ups.{Ups, is_up}
 use Rattle.front_core.proofs.FramesLaws.{HoldsBack, ended_drops, held_back}
 use Rattle.front_core.proofs.OneConnection.FrontAnswers.{IsTaken, request_taken}
@@ -79,9 +79,9 @@ use Rattle.cluster_core.proofs.Commands.Standing.{Fixed, IsCommandOf, Stands, Wa
 use Rattle.cluster_core.proofs.Commands.Standing.Stands.{reads, waits, lists as waits_listing, faulted, finished}
 use Rattle.cluster_core.proofs.Connections.AsksFirst.{FirstWay, Reaches, first_cut, first_way, way_asking}
 use Rattle.cluster_core.proofs.Connections.AsksFirst.FirstWay.{by_server, by_master}
-use Rattle.cluster_core.proofs.Connections.ConnectionLaw.{IsDroppedAt, IsInPlaceOf, IsMarkedAt, ReadsOn, StandsOn, client_with, keeps_on, session_at, stories_follow}
+use Rattle.cluster_core.proofs.Connections.ConnectionLaw.{CanRestore, IsDroppedAt, IsInPlaceOf, IsMarkedAt, ReadsOn, StandsOn, client_with, keeps_on, session_at, stories_follow}
 use Rattle.cluster_core.proofs.Answers.Given.{told_keeps, told_world}
-use Rattle.cluster_core.proofs.Answers.Tells.{IsTold, refused_ends, refused_lasts, unreached_as_told, unreached_told}
+use Rattle.cluster_core.proofs.Answers.Tells.{IsTold, list_unreached_as_told, list_unreached_told, refused_ends, refused_lasts, unreached_as_told, unreached_told}
 use Rattle.cluster_core.proofs.Commands.AllReached.{AreMarkedSo}
 use Rattle.cluster_core.proofs.Connections.Nowhere.{nowhere_too}
 use Rattle.cluster_core.proofs.Connections.Said.{IsAnsweredSo, answer_carried, carry_all-append, counted_one, end_carried, given_keeps, given_world, last_carried, line_carried, said_made, said_one, said_tale, told_one}
@@ -138,7 +138,7 @@ module _ (fixed : Fixed) (front : List ℕ) (replica : Replica) (conn : ℕ) whe
               (append_assoc greeting (replies_to inputs (story.told conn)) text ∙ ap (λ t. greeting ++ t) (sym grown.text_is)
               ∙ ap (λ a. greeting ++ replies_to next a) (sym one));
           nothing = nowhere_too fixed.master (home_at world) world.links front replica (next_id conn (story.told conn)) (length (now.told conn) + 1)
-              was.reading.nothing;
+              (omega (arith, counted_one fixed.setting story conn request tag reply session is)) was.reading.nothing;
         };
       })
 
@@ -182,7 +182,7 @@ module _ (fixed : Fixed) (front : List ℕ) (replica : Replica) (conn : ℕ) whe
               (append_assoc greeting (replies_to inputs (story.told conn)) text ∙ ap (λ t. greeting ++ t) (sym grown.text_is)
               ∙ ap (λ a. greeting ++ replies_to next a) (sym it.told));
           nothing = nowhere_too fixed.master (home_at world) world.links front replica (next_id conn (story.told conn)) (length (it.later.told conn) + 1)
-              was.reading.nothing;
+              (omega (arith, ap length it.told, length-append (story.told conn) (answer ∷ []))) was.reading.nothing;
         };
       })
 
@@ -218,9 +218,10 @@ module _ (fixed : Fixed) (front : List ℕ) (replica : Replica) (conn : ℕ) whe
               ∙ ap (λ a. greeting ++ replies_to next a) (sym one));
           here = place.nowhere;
           placed = nowhere_too fixed.master (home_at world) world.links front replica (next_id conn (story.told conn)) (length (now.told conn) + 1)
-              was.reading.nothing;
+              (omega (arith, counted_one fixed.setting story conn request tag reply session_ended is)) was.reading.nothing;
           marked = tt;
           dropped = tt;
+          restores = tt;
           stands = finished inputs more request (story.told conn) answer refl refl was.reading.answered one is_end
               (said_one fixed.setting story conn request tag reply session_ended is ∙ sym one) refl;
         };
@@ -291,6 +292,7 @@ module _ (fixed : Fixed) (front : List ℕ) (replica : Replica) (conn : ℕ) whe
           placed = was.reading.nothing;
           marked = tt;
           dropped = tt;
+          restores = tt;
           stands = faulted refl none
               (ap length (requests-append inputs (Faults fault ∷ []) ∙ append-nil (requests_in inputs))
               ∙ answered_lengths inputs (story.told conn) was.reading.answered)
@@ -309,14 +311,15 @@ module _ (fixed : Fixed) (front : List ℕ) (replica : Replica) (conn : ℕ) whe
       (request : Request) (stage : Stage) (to : List ℕ) (message : LinkMsg) (its_place : Place)
       (was : ReadsOn fixed front replica conn inputs connection before told world)
       → IsMarkedAt was.story.talk.moving world.marks (next_id conn (was.story.told conn)) its_place
-      → IsDroppedAt (with_sent world front to message) front its_place
+      → IsDroppedAt fixed.master (with_sent world front to message) front its_place
+      → CanRestore was.story conn (record connection { waiting = waiting; stage = stage }) its_place
       → SendsSo fixed world (with_sent world front to message) front replica (next_at connection) its_place
       → Stands fixed front conn (inputs ++ Asks request ∷ waiting) held (record connection { waiting = waiting; stage = stage })
       (was.story.told conn) (was.story.talk.answers conn) (was.story.course.sessions conn) its_place
       → StandsOn fixed front replica conn (inputs ++ Asks request ∷ waiting) held
       (record connection { waiting = waiting; stage = stage }) before told (carry_all front world (to_node to message ∷ []))
   unfolding carry_all carry
-  sent_here inputs waiting held connection before told world request stage to message its_place was marked dropped sends stands =
+  sent_here inputs waiting held connection before told world request stage to message its_place was marked dropped restores sends stands =
       let story = was.story in
       let next : World = with_sent world front to message in
       record {
@@ -344,6 +347,7 @@ module _ (fixed : Fixed) (front : List ℕ) (replica : Replica) (conn : ℕ) whe
               (sym was.reading.count) was.reading.nothing));
           marked = marked;
           dropped = dropped;
+          restores = restores;
           stands = stands;
         };
       }
@@ -355,12 +359,13 @@ module _ (fixed : Fixed) (front : List ℕ) (replica : Replica) (conn : ℕ) whe
       → IsCommandOf fixed conn (was.story.told conn) connection.session c → WaitsAt c.waiting.at its_place
       → Undecided fixed.master fixed.first front c its_place
       → IsMarkedAt was.story.talk.moving world.marks (next_id conn (was.story.told conn)) its_place
-      → IsDroppedAt (with_sent world front to message) front its_place
+      → IsDroppedAt fixed.master (with_sent world front to message) front its_place
+      → CanRestore was.story conn (record connection { waiting = waiting; stage = Waits tag c.waiting }) its_place
       → SendsSo fixed world (with_sent world front to message) front replica (next_at connection) its_place
       → StandsOn fixed front replica conn (inputs ++ Asks request ∷ waiting) held
       (record connection { waiting = waiting; stage = Waits tag c.waiting }) before told (carry_all front world (to_node to message ∷ []))
-  waits_here inputs waiting held connection before told world request tag to message c its_place was is last of at so marked dropped sends =
-      sent_here inputs waiting held connection before told world request (Waits tag c.waiting) to message its_place was marked dropped sends (waits (record {
+  waits_here inputs waiting held connection before told world request tag to message c its_place was is last of at so marked dropped restores sends =
+      sent_here inputs waiting held connection before told world request (Waits tag c.waiting) to message its_place was marked dropped restores sends (waits (record {
         passed = inputs;
         request = request;
         tag = tag;
@@ -407,12 +412,12 @@ module _ (fixed : Fixed) (front : List ℕ) (replica : Replica) (conn : ℕ) whe
       let c : ClientCommand = begins_at (next_id conn (was.story.told conn)) connection.session it name work need (Home server) in
       waits_here inputs waiting held connection before told world request tag server (Ask ask) c (place.is_asked server ask) was is last
       (record { setting_is = refl; its = refl; was_is = refl }) refl
-      (ap (λ n. ask_of (record { conn = conn; command = n + 1 }) connection.session first) was.reading.count) tt tt
+      (ap (λ n. ask_of (record { conn = conn; command = n + 1 }) connection.session first) was.reading.count) tt tt tt
       (asks_so fixed world front server replica ask may.frontend there)
   asked_by inputs waiting held connection before told world request tag it name work begun was is need last may numbered (by_master cause) =
       let c : ClientCommand = begins_at (next_id conn (was.story.told conn)) connection.session it name work need (Barrier cause) in
       waits_here inputs waiting held connection before told world request tag fixed.master (noop_of (next_at connection)) c (place.is_barred barrier.asked) was
-      is last (record { setting_is = refl; its = refl; was_is = refl }) tt tt tt tt
+      is last (record { setting_is = refl; its = refl; was_is = refl }) tt tt tt tt tt
       (bars_so fixed world front replica (next_at connection) may.frontend numbered)
 
   -- what begins to wait, and what goes out for it
@@ -451,7 +456,7 @@ module _ (fixed : Fixed) (front : List ℕ) (replica : Replica) (conn : ℕ) whe
   listed_kept inputs waiting held connection before told world request tag it listing was is need last may numbered =
       let may_now : MayAsk fixed (home_at world) front replica = may_ask_later fixed before world front replica was.made.others.nodes may in
       sent_here inputs waiting held connection before told world request (Lists tag listing) fixed.master (noop_of (next_at connection))
-      (place.is_barred barrier.asked) was tt tt (bars_so fixed world front replica (next_at connection) may_now.frontend numbered)
+      (place.is_barred barrier.asked) was tt tt tt (bars_so fixed world front replica (next_at connection) may_now.frontend numbered)
       (waits_listing (record {
         tag = tag;
         it = it;
@@ -520,6 +525,7 @@ module _ (fixed : Fixed) (front : List ℕ) (ups : Ups) (replica : Replica) (con
       placed = was.reading.nothing;
       marked = tt;
       dropped = tt;
+      restores = tt;
       stands = reads was.reading.stage_is was.reading.waiting_is was.reading.session_is was.reading.goes_on was.reading.answered was.reading.said refl;
     };
   }
@@ -645,6 +651,43 @@ module _ (fixed : Fixed) (front : List ℕ) (ups : Ups) (replica : Replica) (con
       (refused_lasts session it NotReached was.reading.goes_on)
       (request_answered inputs (story.told conn) request (record { tag = tag; reply = reply }) was.reading.answered (refused_ends session it NotReached)))
 
+  -- a LIST: the NOOP is sent, or the master isn't reached
+  listed_if : (inputs new : List Input) (request : Request) (held : Option (List ℕ)) (connection : Connection) (before : World) (told : Tale) (world : World)
+      (was : ReadsOn fixed front replica conn inputs connection before told world) → MaySend before told → FaultsLast new held
+      → told.talk.requests conn ≡ requests_in (inputs ++ Asks request ∷ new)
+      → Follow new held before told → (tag : Tag) (it : Command) (listing : Listing) → request ≡ a_command tag it
+      → need_of fixed.setting (was.story.course.sessions conn) it ≡ Names listing
+      → ((c : Connection) → c.session ≡ was.story.course.sessions conn
+      → request_in fixed.setting (ways_for fixed ups replica) conn c request ≡ lists (ways_for fixed ups replica) conn c tag listing)
+      → (up : Bool) → is_up ups fixed.master ≡ up
+      → StandsOn fixed front replica conn (inputs ++ Asks request ∷ new) held (come connection (Asks request ∷ new)).connection before told
+      (carry_all front world (come connection (Asks request ∷ new)).outs)
+  unfolding input_in requests_in
+  listed_if inputs new request held connection before told world was sends last all follow tag it listing is need form true up =
+      sent_kept inputs new request held connection before told world (Lists tag listing)
+      (lists_with fixed.master conn connection tag listing).outs was tt
+      (form connection was.reading.session_is ∙ ap (λ b. lists_if b fixed.master conn connection tag listing) up)
+      (listed_kept fixed front replica conn inputs new held connection before told world request tag it listing was is need last sends.may
+      (next_numbered inputs new (Asks request) connection before told world request was all refl sends.numbers))
+  listed_if inputs new request held connection before told world was sends last all follow tag it listing is need form false down =
+      let story = was.story in
+      let session : Sess = story.course.sessions conn in
+      let reply : Reply = (refused_for session it NotReached).reply in
+      let then : Sess = session_after session (refused_for session it NotReached).session in
+      let refusal_is : list_refused connection.session ≡ record { session = then; reply = reply } =
+      ap list_refused was.reading.session_is ∙ list_unreached_as_told fixed.setting session it listing need in
+      let cut : before.broken ≢ [] = sends.reaches.master_cut down in
+      let number = next_of inputs new (Asks request) connection before told world request was all refl in
+      read_on inputs new (Asks request) held connection before told world (told_now (Unreached fixed.master) conn connection then tag reply)
+      (reads_input fixed.setting (ways_for fixed ups replica) conn connection (Asks request) was.reading.stage_is ∙ form connection was.reading.session_is
+      ∙ ap (λ b. lists_if b fixed.master conn connection tag listing) down ∙ ap (λ (r : Refused). refuses_now conn connection tag r fixed.master) refusal_is)
+      all follow
+      (told_here fixed front replica conn inputs (inputs ++ Asks request ∷ []) connection before told world (Unreached fixed.master) tag reply then was
+      (list_unreached_told fixed.setting world story conn tag it fixed.master listing was.made.is_told was.reading.said (number ∙ ap Some is) need
+      (λ none. cut (sym was.made.others.broken ∙ none)))
+      (refused_lasts session it NotReached was.reading.goes_on)
+      (request_answered inputs (story.told conn) request (record { tag = tag; reply = reply }) was.reading.answered (refused_ends session it NotReached)))
+
   request_kept : (inputs new : List Input) (request : Request) (held : Option (List ℕ)) (connection : Connection) (before : World) (told : Tale) (world : World)
       (was : ReadsOn fixed front replica conn inputs connection before told world) → MaySend before told → FaultsLast new held
       → told.talk.requests conn ≡ requests_in (inputs ++ Asks request ∷ new)
@@ -672,11 +715,7 @@ module _ (fixed : Fixed) (front : List ℕ) (ups : Ups) (replica : Replica) (con
       asked_if inputs new request held connection before told world was sends last all follow tag it name work is need form
       (is_up ups (begun_at fixed front replica conn connection name work).sent.to) refl
   request_kept inputs new request held connection before told world was sends last all follow (listed tag it listing is need form) =
-      sent_kept inputs new request held connection before told world (Lists tag listing)
-      (lists_with fixed.master conn connection tag listing).outs was tt
-      (form connection was.reading.session_is ∙ ap (λ up. lists_if up fixed.master conn connection tag listing) sends.reaches.up)
-      (listed_kept fixed front replica conn inputs new held connection before told world request tag it listing was is need last sends.may
-      (next_numbered inputs new (Asks request) connection before told world request was all refl sends.numbers))
+      listed_if inputs new request held connection before told world was sends last all follow tag it listing is need form (is_up ups fixed.master) refl
 
   -- all inputs of a piece, or all that waited
   pub inputs_kept : (new : List Input) (held : Option (List ℕ)) (before : World) (told : Tale) → MaySend before told → FaultsLast new held

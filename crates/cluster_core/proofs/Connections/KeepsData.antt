@@ -51,12 +51,13 @@ use Rattle.cluster_core.proofs.Commands.Released.{begun_released, released_count
 use Rattle.cluster_core.proofs.Commands.Standing.{Fixed, HasBegunSo, IsLeft, Stands, next_id}
 use Rattle.cluster_core.proofs.Commands.Standing.Stands.{reads, waits, lists, faulted, finished}
 use Rattle.cluster_core.proofs.Connections.BytesCome.{Behind, after_data, asked_more, asked_tale, closed_heard, elsewhere_heard, heard_more, held_noops, listing_behind, new, nothing_heard, other_heard, reading_behind, reading_noops, still_heard, turned, waiting_behind, ways_same}
-use Rattle.cluster_core.proofs.Connections.ConnectionLaw.{IsInPlaceOf, IsReading, IsStanding, says_same, says_then}
+use Rattle.cluster_core.proofs.Connections.ConnectionLaw.{IsInPlaceOf, IsReading, IsStanding, restores_as, says_same, says_then}
 use Rattle.cluster_core.proofs.Connections.KeepsFront.{front_keeps, is_at_after, standing_after, turned_so, with_connection, world_after}
 use Rattle.cluster_core.proofs.Connections.MayAskAt.{ways_same_by}
 use Rattle.cluster_core.proofs.Connections.KeepsLaw.{ConnectionIs, FeedsHold, IsAt, IsGone, IsUnanswered, KeepsLaw, KeepsOn, fixed_of}
 use Rattle.cluster_core.proofs.Connections.KeepsLaw.ConnectionIs.{is_nobody, is_elsewhere, is_open, is_cut_off, is_closed}
 use Rattle.cluster_core.proofs.Connections.KeepsStill.{MasterServes, elsewhere_kept, put_kept, same_kept}
+use Rattle.cluster_core.proofs.Connections.Restored.{restores_released}
 use Rattle.cluster_core.proofs.Connections.Stays.{ReplicasStay, fixed_places, is_not_closed, same_front, each_stays}
 use Rattle.cluster_core.proofs.Feeds.Beside.{front_client_feeds}
 use Rattle.cluster_core.proofs.Feeds.Many.{front_keeps_many}
@@ -123,6 +124,8 @@ standing_released fixed front replica conn inputs held connection world story is
   placed = is.placed;
   marked = is.marked;
   dropped = is.dropped;
+  restores = restores_released fixed front conn inputs held connection (story.told conn) (story.talk.answers conn) (story.course.sessions conn) story is.here
+      is.stands is.restores;
   stands = stands_released fixed front conn inputs held connection (story.told conn) (story.talk.answers conn) (story.course.sessions conn) is.here is.stands;
 }
 
@@ -194,7 +197,7 @@ module _ (config : Config) (heard : ℕ → Heard) (world : World) (law : KeepsL
         answers = same_lists law.story.told;
         serials = same_lists law.story.talk.serials;
         moving = refl;
-      }) refl refl refl (λ other. refl) (λ other ne. other_heard config conn other more (heard other) ne)
+      }) refl refl refl refl (λ other. refl) (λ other ne. other_heard config conn other more (heard other) ne)
       (λ shut. absurd (is_not_closed (after conn) (bytes ++ more) (heard_more config conn bytes more (heard conn) e) shut))
       behind.made
       (front_keeps_many config world law.master law.given law.story.course.store law.nodes law.many node front (turned_so front conn kept its_turn.outs) at.at)
@@ -244,6 +247,7 @@ module _ (config : Config) (heard : ℕ → Heard) (world : World) (law : KeepsL
             told = refl;
             said = refl;
             session = refl;
+            before = refl;
             moving = refl;
             broken = refl;
           })
@@ -333,6 +337,7 @@ module _ (config : Config) (heard : ℕ → Heard) (world : World) (law : KeepsL
         placed = standing.placed;
         marked = standing.marked;
         dropped = standing.dropped;
+        restores = restores_as law.story told conn connection connection standing.here refl refl refl refl standing.restores;
         stands = standing.stands;
       }))
 
@@ -359,6 +364,7 @@ module _ (config : Config) (heard : ℕ → Heard) (world : World) (law : KeepsL
         placed = standing.placed;
         marked = standing.marked;
         dropped = standing.dropped;
+        restores = restores_as law.story told conn connection connection standing.here refl refl refl refl standing.restores;
         stands = finished passed (rest ++ behind) asked before final stage now answered is_told is_end said none;
       }
 

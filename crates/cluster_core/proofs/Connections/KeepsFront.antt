@@ -26,6 +26,7 @@ use Rattle.mur_base.specs.Map.{with_value}
 use Rattle.mur_base.proofs.MapLaws.{names_apart, numbers_apart, same_or_other, value_at-with_value, value_at-with_value-other}
 use Rattle.mur_config.specs.declared.config.Config.{Config}
 use Rattle.mur_model.specs.History.{Course, TalkGoesOn}
+use Rattle.mur_model.specs.declared.session.Sess.{Sess}
 use Rattle.mur_model.specs.declared.store.Store.{Store}
 use Rattle.mur_model.proofs.HistoryGrows.{talks_follow}
 use Rattle.node_step.specs.declared.node.NodeState.{NodeState}
@@ -147,7 +148,7 @@ pub front_keeps : (config : Config) (heard after : ℕ → Heard) (origin : Worl
     → ((other : ℕ) → other ≢ conn → PlacesStay (fixed_of config) other origin (record origin { links = links }))
     → front_at origin node ≡ Some front → connection_at front conn ≡ Some was
     → TalkGoesOn (talk_told law.story) (talk_told told) → told.told ≡ law.story.told → told.talk.answers ≡ law.story.talk.answers
-    → told.course ≡ law.story.course
+    → told.course ≡ law.story.course → told.before ≡ law.story.before
     → ((other : ℕ) → told.talk.requests other ≡ requests_of (setting_of config) (frames_heard (after other)))
     → ((other : ℕ) → other ≢ conn → after other ≡ heard other)
     → (has_closed (after conn) ≡ true → (story.told conn ≡ law.story.told conn) × (stops conn ≡ law.stops conn))
@@ -156,7 +157,7 @@ pub front_keeps : (config : Config) (heard after : ℕ → Heard) (origin : Worl
     → FeedsHold config (world_after (record origin { links = links }) node front conn connection outs) law.master
     → ConnectionIs (fixed_of config) conn (world_after (record origin { links = links }) node front conn connection outs) story (stops conn) (after conn)
     → KeepsOn config law.story law.stops after (world_after (record origin { links = links }) node front conn connection outs)
-front_keeps config heard after origin law links conn node front was connection outs told story stops same_stops places at has more same_told same_said same_course
+front_keeps config heard after origin law links conn node front was connection outs told story stops same_stops places at has more same_told same_said same_course same_before
     requests others no_more made many feeds mine =
     let world : World = record origin { links = links } in
     let later : Front = with_connection front conn connection in
@@ -196,6 +197,7 @@ front_keeps config heard after origin law links conn node front was connection o
               told = made.goes_on.told other ne ∙ ap (λ (t : ℕ → List Answer). t other) same_told;
               said = made.goes_on.said other ne ∙ ap (λ (t : ℕ → List Answer). t other) same_said;
               session = made.goes_on.sessions other ne ∙ ap (λ (c : Course). c.sessions other) same_course;
+              before = made.goes_on.before other ne ∙ ap (λ (b : ℕ → Sess). b other) same_before;
               moving = made.goes_on.more.moving ∙ more.moving;
               broken = same_broken world node front conn connection outs ∙ made.others.broken;
             })) refl mine;
@@ -237,7 +239,8 @@ standing_after fixed world node front conn connection outs all held replica stor
           (same_links world node front conn connection outs)).in_place node replica _ is.here is.placed;
       marked = marked_stays story.talk.moving (next_id conn (story.told conn)) carried.marks next.marks
           (ap (λ (m : List Mark). last_mark (next_id conn (story.told conn)) m) (same_marks world node front conn connection outs)) is.here is.marked;
-      dropped = dropped_stays carried next node (same_broken world node front conn connection outs) is.here is.dropped;
+      dropped = dropped_stays fixed.master carried next node (same_broken world node front conn connection outs) is.here is.dropped;
+      restores = is.restores;
       stands = is.stands;
     }
 

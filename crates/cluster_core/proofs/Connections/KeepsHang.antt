@@ -132,7 +132,7 @@ closes config heard world conn law bytes node front connection at asked now gone
     let moved = front_moved world node front (turned_so front conn (hung_up connection) []) at.at in
     front_keeps config heard (after_hang config heard conn) world law world.links conn node front connection (hung_up connection) [] law.story law.story law.stops (λ other ne. refl)
     (λ other ne. record { in_place = λ f r c here is. is; in_none = λ is. is })
-    at.at at.has (same_talk (talk_told law.story)) refl refl refl
+    at.at at.has (same_talk (talk_told law.story)) refl refl refl refl
     (λ other. ⊎_elim
     (λ (same : other ≡ conn). subst (λ c. law.story.talk.requests c ≡ requests_of (setting_of config) (frames_heard (after_hang config heard conn c)))
     (sym same)

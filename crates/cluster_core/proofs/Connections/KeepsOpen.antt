@@ -160,6 +160,7 @@ joined_keeps config heard world node conn law none first =
               told = refl;
               said = refl;
               session = refl;
+              before = refl;
               moving = refl;
               broken = refl;
             })
@@ -274,6 +275,7 @@ front_keeps_open config heard world node conn front law at first =
               told = refl;
               said = refl;
               session = refl;
+              before = refl;
               moving = refl;
               broken = refl;
             })
@@ -292,6 +294,7 @@ front_keeps_open config heard world node conn front law at first =
                   ((stay conn).in_none (first.untold).nothing);
               marked = tt;
               dropped = tt;
+              restores = tt;
               stands = reads refl refl (sym (first.untold).session) (ap has_ended (first.untold).session) (all_answered (setting_of config)
                   (law.story.told conn) (first.untold).told)
                   ((first.untold).said ∙ sym (first.untold).told) refl;

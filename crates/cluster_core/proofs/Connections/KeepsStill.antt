@@ -78,6 +78,7 @@ alike_stays fixed conn world next story stop heard alike (same_client same) is =
       told = refl;
       said = refl;
       session = refl;
+      before = refl;
       moving = refl;
       broken = alike.broken;
     }) is

@@ -38,11 +38,11 @@ may_ask config heard world node front law at =
       first = (law.nodes).homes (home_of config) ∙ (law.nodes).first_there;
     }
 
--- the servers to which its links are up
+-- the nodes to which its links are up
 pub reaches : (config : Config) (heard : ℕ → Heard) (world : World) (node : List ℕ) (front : Front) → KeepsLaw config heard world → LinksStand config world
     → front_at world node ≡ Some front → Reaches (master_of config) (home_at world) world.broken front.ups
 reaches config heard world node front law links at = record {
-  up = links.master_up node front at;
+  master_cut = λ down none. (let no : true ≡ false = sym (links.master_up none node front at) ∙ down in cc);
   cut = λ server down there none.
       absurd (let is : list_any (pointwise nat_eq server) (backends_of config.nodes) ≡ true =
       ap (list_any (pointwise nat_eq server)) (sym (law.nodes).backends) ∙ sym ((law.nodes).homes server) ∙ there in

@@ -114,6 +114,7 @@ said_goes_on setting story conn request unreplied = record {
   );
   told = λ other ne. list_elsewhere story.told conn _ other ne;
   sessions = λ other ne. session_of_other story.course.sessions conn _ other ne;
+  before = λ other ne. session_of_other story.before conn _ other ne;
   more = record {
     requests = same_lists story.talk.requests;
     answers = list_more story.told conn (done setting story conn request 0).answer;
