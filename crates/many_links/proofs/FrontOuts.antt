@@ -131,18 +131,18 @@ noop_taken master from line tag read =
     ap (line_by master from line) read
     ∙ ap (λ b. cond b (bad_step master from tag) (taken master from tag command.Noop)) (never (is_stream master from))
 
--- the OK goes out, and the mark of the command that the tag tells
-abbrev pub noop_outs : List ℕ → Tag → List Out
-noop_outs node tag = Link node (Line (text_of tag (response.Ok done))) ∷ mark_of (ask_id_of tag) (Some IfAnswered)
+-- the OK goes out, and the mark of its command
+abbrev pub noop_outs : List ℕ → Tag → Option AskId → List Out
+noop_outs node tag ask = Link node (Line (text_of tag (response.Ok done))) ∷ mark_of ask (Some IfAnswered)
 
 taken_by : (master : Master) (node : List ℕ) (tag : Tag) (b : Bool)
-    → let_out (taken master (sender_by b node) tag command.Noop) ≡ record { master = master; outs = noop_outs node tag }
+    → let_out (taken master (sender_by b node) tag command.Noop) ≡ record { master = master; outs = noop_outs node tag (ask_id_of tag) }
 unfolding settled replied reply_to noop_reply change_outs
 taken_by master node tag true = refl
 taken_by master node tag false = refl
 
 pub noop_says : (master : Master) (node line : List ℕ) (tag : Tag) → command_in line ≡ Some (tag, command.Noop)
-    → node_says master node (Line line) ≡ record { master = master; outs = noop_outs node tag }
+    → node_says master node (Line line) ≡ record { master = master; outs = noop_outs node tag (ask_id_of tag) }
 unfolding node_says
 noop_says master node line tag read =
     let b : Bool = list_any (pointwise nat_eq node) master.backends in
