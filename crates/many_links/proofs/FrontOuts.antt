@@ -76,6 +76,11 @@ module _ (front : List ℕ) where
   its_settled planned tag stream.Begins are = are
   its_settled planned tag stream.Ends are = All-append Its planned.outs [] are (All-nil Its)
 
+  reply_none : (master : Master) (tag : Tag) (it : MCommand)
+      → (replied master (Frontend front) tag (reply_to master.table (Frontend front) it)).entry ≡ None → (reply_to master.table (Frontend front) it).entry ≡ None
+  unfolding replied
+  reply_none master tag it none = none
+
   its_step : (master : Master) (next : Planned) → StepIs master (Frontend front) next → next.entry ≡ None → AreItsOuts front next.outs
   unfolding bad_step bad_reply
   its_step master _ (is_bad tag tagged) none = its_reply master tag bad_reply refl
@@ -83,11 +88,6 @@ module _ (front : List ℕ) where
       let planned : Planned = replied master (Frontend front) tag (reply_to master.table (Frontend front) it) in
       its_settled planned tag (stream_step it)
       (its_reply master tag (reply_to master.table (Frontend front) it) (reply_none master tag it (sym (settled_entry planned front tag (stream_step it)) ∙ none)))
-    where
-      reply_none : (m : Master) (t : Tag) (c : MCommand) → (replied m (Frontend front) t (reply_to m.table (Frontend front) c)).entry ≡ None
-          → (reply_to m.table (Frontend front) c).entry ≡ None
-      unfolding replied
-      reply_none m t c none = none
 
   its_line : (master : Master) (line : List ℕ) → AreItsOuts front (line_step master (Frontend front) line).outs
   its_line master line =

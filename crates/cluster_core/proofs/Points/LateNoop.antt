@@ -135,7 +135,7 @@ module _ (conn : ℕ) where
       by_either message (let same : b ≡ message = cc in subst IsNoopOrUp same are.0) own
 
   -- what is about a connection is a NOOP
-  pub asks_noop : (master : Master) (node : List ℕ) (broken reached : Bool) (message : LinkMsg) (up down : List LinkMsg) (replica : Replica)
+  asks_noop : (master : Master) (node : List ℕ) (broken reached : Bool) (message : LinkMsg) (up down : List LinkMsg) (replica : Replica)
       → IsFed master node broken reached (message ∷ up) down replica → Own message → IsNoop message
   asks_noop master node broken reached message up down replica (asks whole there before behind is one two lines none empty no_stream) own =
       before_update message up before behind is one own
@@ -143,6 +143,16 @@ module _ (conn : ℕ) where
   asks_noop master node broken reached message up down replica (comes_up whole there are is no_stream) own = absurd (no_up message are.0 own)
   asks_noop master node broken reached message up down replica (breaks_early cut there are ends is all few no_stream) own = absurd (no_link message are.0 own)
   asks_noop master node broken reached message up down replica (is_parted cut are lines few tagged) own = by_own message are.0 own
+
+-- in a world
+pub first_noop : (config : Config) (world : World) (master : Master) → FeedsHold config world master → (from : List ℕ) (front : Front) (message : LinkMsg)
+    (rest : List LinkMsg) → front_at world from ≡ Some front → on_link world.links from (master_of config) ≡ message ∷ rest → (conn : ℕ)
+    → about message ≡ of_connection conn → IsNoop message
+first_noop config world master feeds from front message rest at first conn own =
+    let name : List ℕ = master_of config in
+    asks_noop conn master from (is_broken world.broken name from) (is_up front.ups name) message rest (on_link world.links name from) front.replica
+    (subst (λ (u : List LinkMsg). IsFed master from (is_broken world.broken name from) (is_up front.ups name) u (on_link world.links name from) front.replica) first
+    (feeds.each from front at).fed) own
 
 -- a NOOP tells its command, which the step marks
 pub record TellsNoop (conn now : ℕ) (master : Master) (from : List ℕ) (message : LinkMsg) : Type 0 where
@@ -202,15 +212,14 @@ late_marked conn told now marks id late =
 -- ---- behind the step
 
 -- a client is given nothing
-given_none : (front : List ℕ) (clients : List (ℕ × Client)) (outs : List Out) → AreItsOuts front outs → given_all clients outs ≡ clients
-unfolding given_all
+pub given_none : (front : List ℕ) (clients : List (ℕ × Client)) (outs : List Out) → AreItsOuts front outs → given_all clients outs ≡ clients
+unfolding given_all given_out
 given_none front clients [] are = refl
 given_none front clients (out ∷ outs) are =
     ap (λ (c : List (ℕ × Client)). given_all c outs) (by out (All-head (IsItsOut front) out outs are))
     ∙ given_none front clients outs (All-tail (IsItsOut front) out outs are)
   where
     by : (one : Out) → IsItsOut front one → given_out clients one ≡ clients
-    unfolding given_out
     by (Link to message) its = refl
     by (mark_out id counts) its = refl
     by (to_client conn bytes) its = absurd its
@@ -480,14 +489,8 @@ module _ (config : Config) (heard : ℕ → Heard) (world : World) (law : KeepsL
     abbrev its_id : AskId
     its_id = next_id conn (story.told conn)
 
-    noop : IsNoop message
-    noop =
-        asks_noop conn law.master from (is_broken world.broken name from) (is_up front.ups name) message rest (on_link world.links name from) front.replica
-        (subst (λ (u : List LinkMsg). IsFed law.master from (is_broken world.broken name from) (is_up front.ups name) u (on_link world.links name from) front.replica)
-        first (law.feeds.each from front at).fed) own
-
     tells : TellsNoop conn world.steps law.master from message
-    tells = tells_noop conn world.steps law.master from message noop own
+    tells = tells_noop conn world.steps law.master from message (first_noop config world law.master law.feeds from front message rest at first conn own) own
 
     its_mark : next.marks ≡ world.marks ++ home_mark world.steps tells.id IfAnswered ∷ []
     its_mark = marks_are ∙ ap (λ (m : List Mark). world.marks ++ m) tells.marks

@@ -53,14 +53,13 @@ IsNotAbout first whom out = Unit {0}
 
 puts_over : (first : ℕ) (whom : About) (from : List ℕ) (links : Links LinkMsg) (outs : List Out) (found : Option (Carried LinkMsg)) → All (IsNotAbout first whom) outs
     → IsPlaced first whom links found → IsPlaced first whom (put_all from links outs) found
-unfolding put_all
+unfolding put_all put_out
 puts_over first whom from links [] found are placed = placed
 puts_over first whom from links (out ∷ outs) found are placed =
     puts_over first whom from (put_out from links out) outs found (All-tail (IsNotAbout first whom) out outs are)
     (by out (All-head (IsNotAbout first whom) out outs are))
   where
     by : (one : Out) → IsNotAbout first whom one → IsPlaced first whom (put_out from links one) found
-    unfolding put_out
     by (Link to message) other = another_sent (is_about first whom) links from to message found other placed
     by (Client conn bytes) other = placed
     by (Close conn) other = placed
@@ -130,7 +129,7 @@ module _ (murder : Murder) (given : Given) (store : Store) (from : List ℕ) (me
     others_placed : (first : ℕ) (found : Option (Carried LinkMsg)) → IsPlaced first (of_connection conn) murder.links found
         → IsPlaced first (of_connection conn) (put_all me left next.outs) found
     others_placed first found placed =
-        puts_none first conn me left next.outs found no_outs
+        puts_none conn me left next.outs first found no_outs
         (others_taken murder.links from me message takes.first.rest (of_connection conn) takes.first.first other first found placed)
 
     others_shown : (here : Place) → ShowEach me murder.nodes murder.links conn here → ShowEach me murder.nodes (put_all me left next.outs) conn here

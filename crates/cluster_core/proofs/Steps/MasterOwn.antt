@@ -180,7 +180,7 @@ module _ (murder : Murder) (given : Given) (store : Store) (name : List ℕ) (no
   response_placed =
       subst (λ (to : List ℕ). IsPlaced id.command (of_connection id.conn) (put_all lord links_left says.outs) (carried lord to (answer_message flow step.it)))
       (sym server)
-      (puts_one id.command id.conn lord links_left says.outs name (answer_message flow step.it)
+      (puts_one id.conn lord links_left says.outs id.command name (answer_message flow step.it)
       (mark_of (Some flow.ask) (flow_reply murder.master.table name node.flows.me mailbox flow).counts) step.outs
       (mark_puts lord (sent links_left lord name (answer_message flow step.it)) flow.ask (flow_reply murder.master.table name node.flows.me mailbox flow).counts)
       response_on line_left)
