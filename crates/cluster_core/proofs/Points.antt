@@ -12,6 +12,8 @@ pub mod ListWaits
 pub mod Found
 pub mod Own
 pub mod ListPoint
+pub mod Untouched
+pub mod LateNoop
 pub mod OwnAtHome
 pub mod OwnAtMaster
 pub mod OthersAtHome

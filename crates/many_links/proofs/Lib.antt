@@ -7,6 +7,7 @@ pub mod BegunLaw
 pub mod StartLaw
 pub mod HomeLaw
 pub mod FrontTable
+pub mod FrontOuts
 pub mod MasterLaw
 pub mod Marked
 pub mod Carrying

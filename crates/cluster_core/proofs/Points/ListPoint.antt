@@ -1,6 +1,6 @@
 -- The master takes the NOOP of a LIST that waits for its OK: this is the LIST's point. The store replies by its mailboxes, which are those of the table of this
 -- step, and the OK will tell the reply by that table.
-use Rattle.std.proofs.Common.{◌≡◌, ℕ, ◌+◌, List, [], ◌∷◌, ◌++◌, length, Some, refl, sym, ◌∙◌, ap, subst}
+use Rattle.std.proofs.Common.{◌≡◌, inr, ℕ, ◌+◌, false, List, [], ◌∷◌, ◌++◌, length, None, Some, refl, sym, ◌∙◌, ap, subst}
 use Rattle.feed_core.specs.Listing.{mailbox_names}
 use Rattle.feed_links.specs.Replicas.{recs_of}
 use Rattle.front_core.specs.declared.front.Front.{Front}
@@ -10,7 +10,7 @@ use Rattle.imap_types.specs.declared.command.Tag.{Tag}
 use Rattle.imap_types.specs.declared.request.Request.TheVariants.{Command as a_command}
 use Rattle.link_msg.specs.declared.counts.Counts.TheVariants.{IfAnswered}
 use Rattle.link_msg.specs.declared.message.LinkMsg.{LinkMsg}
-use Rattle.link_queue.specs.Broken.{Broken}
+use Rattle.link_queue.specs.Broken.{Broken, is_broken}
 use Rattle.link_queue.specs.Links.{on_link, without_first}
 use Rattle.many_links.specs.ManyHold.{ManyHold}
 use Rattle.many_links.specs.Murder.{Murder, after_master}
@@ -41,7 +41,7 @@ use Rattle.cluster_core.specs.declared.world.World.{World}
 use Rattle.cluster_core.specs.World.{client_at, front_at, master_of, setting_of, taken_from_link}
 use Rattle.cluster_core.proofs.Commands.AllReached.{AreMarkedSo, carries_out}
 use Rattle.cluster_core.proofs.Commands.Knows.{listed_by}
-use Rattle.cluster_core.proofs.Commands.Knows.KnowsNames.{is_listed, not_yet}
+use Rattle.cluster_core.proofs.Commands.Knows.KnowsNames.{is_gone, is_listed, not_yet}
 use Rattle.cluster_core.proofs.Commands.Moving.{MovesBy}
 use Rattle.cluster_core.proofs.Commands.Place.{Place, its_message, Place as place}
 use Rattle.cluster_core.proofs.Commands.Standing.{Fixed, next_id}
@@ -51,6 +51,7 @@ use Rattle.cluster_core.proofs.Connections.Tales.{others_marked, own_marked}
 use Rattle.cluster_core.proofs.Feeds.Many.{master_murder}
 use Rattle.cluster_core.proofs.Nodes.Carried.{IsMade, is_made, marks_made}
 use Rattle.cluster_core.proofs.Nodes.Comes.{master_moved, with_master}
+use Rattle.cluster_core.proofs.Steps.Heads.{here_at}
 use Rattle.cluster_core.proofs.Steps.MasterOwn.{noop_is_taken}
 use Rattle.cluster_core.proofs.Steps.MasterSteps.{IsInBehind}
 use Rattle.cluster_core.proofs.Steps.Worlds.{in_murder, in_world_behind, is_fed_front, master_takes}
@@ -178,22 +179,22 @@ module _ (config : Config) (heard : ℕ → Heard) (world : World) (law : KeepsL
       master_murder config world law.master law.given store law.nodes law.many (without_first world.links fnode name) says law.given store
       (subst (λ m. ManyHold (after_master murder (without_first world.links fnode m) says) law.given store) law.nodes.me (listed.taken).then_holds)
 
-  placed_then : (rest : List LinkMsg) → here ≡ place.is_barred barrier.asked → on_link world.links fnode name ≡ noop_of id ∷ rest
-      → IsInPlaceOf fixed next fnode front.replica id (cleared_at table)
-  placed_then rest asks first =
+  placed_then : (rest : List LinkMsg) → here ≡ place.is_barred barrier.asked → is_broken world.broken name fnode ≡ false
+      → on_link world.links fnode name ≡ noop_of id ∷ rest → IsInPlaceOf fixed next fnode front.replica id (cleared_at table)
+  placed_then rest asks whole first =
       in_world_behind fixed world law.master law.nodes.me (without_first world.links fnode name) says law.nodes.is_there fnode front.replica id
       (cleared_at table)
       (subst (λ m. IsInBehind murder (without_first world.links fnode m) says fnode front.replica id (cleared_at table)) law.nodes.me
       (noop_is_taken murder law.given store fnode front.replica id
       (master_takes config world law.master law.nodes law.feeds law.given store fnode (noop_of id) rest law.many first)
-      (is_fed_front config world law.master law.nodes law.feeds fnode front id at fits)
+      (is_fed_front config world law.master law.nodes law.feeds fnode front id at fits) whole
       (in_murder fixed world law.master law.nodes.me fnode front.replica id (place.is_barred barrier.asked)
       (subst (λ p. IsInPlaceOf fixed world fnode front.replica id p) asks placed))))
 
   noop_own : (rest : List LinkMsg) → story.talk.answers conn ≡ story.told conn → waits.was ≡ story.course.sessions conn → here ≡ place.is_barred barrier.asked
-      → on_link world.links fnode name ≡ noop_of id ∷ rest → client_at next conn ≡ client_at world conn → MovesBy story.talk.moving world.steps says.master.table
+      → is_broken world.broken name fnode ≡ false → on_link world.links fnode name ≡ noop_of id ∷ rest → client_at next conn ≡ client_at world conn → MovesBy story.talk.moving world.steps says.master.table
       → OwnStep config conn (law.stops conn) (heard conn) world story next says.master law.given
-  noop_own rest said was_is asks first same moves =
+  noop_own rest said was_is asks whole first same moves =
       let done = listed_so fixed conn world.broken world.steps world.marks story waits.tag waits.it waits.listing waits.was table law.is_told said was_is waits.need
       (ap (λ r. numbered r (length (story.told conn) + 1)) (law.requests conn) ∙ waits.asked) listed.names in
       let later : Tale = acting fixed.setting story conn (a_command waits.tag waits.it) 0 in
@@ -211,7 +212,9 @@ module _ (config : Config) (heard : ℕ → Heard) (world : World) (law : KeepsL
           clients = same;
           broken = made.broken;
           told = refl;
-          placed = placed_then rest asks first;
+          placed = placed_then rest asks whole first;
+          dropped = tt;
+          restores = λ connection session_is. inr (session_at story.before conn (story.course.sessions conn) ∙ sym was_is ∙ sym session_is);
           marked = record {
             step = world.steps;
             saw = ap (λ (m : List Mark). last_mark id m) marks_are ∙ own_marked id world.marks mark refl;
@@ -228,6 +231,7 @@ module _ (config : Config) (heard : ℕ → Heard) (world : World) (law : KeepsL
 
   -- of those that the master takes it is the NOOP
   module _ (from : List ℕ) (message : LinkMsg) (rest : List LinkMsg) (first : on_link world.links from name ≡ message ∷ rest)
+      (whole : is_broken world.broken name from ≡ false)
       (same : client_at (with_master (taken_from_link world from name) name (node_says law.master from message)) conn ≡ client_at world conn)
       (moves : MovesBy story.talk.moving world.steps (node_says law.master from message).master.table) where
     abbrev Own : List ℕ → LinkMsg → Type 0
@@ -241,11 +245,12 @@ module _ (config : Config) (heard : ℕ → Heard) (world : World) (law : KeepsL
         let e3 : noop_of id ≡ message = message_is asked in
         subst (λ f. Own f message) e1
         (subst (λ m. Own fnode m) e3
-        (noop_own rest said was_is is (ap (λ f. on_link world.links f name) e1 ∙ first ∙ ap (λ m. m ∷ rest) (sym e3))
+        (noop_own rest said was_is is (ap (λ f. is_broken world.broken name f) e1 ∙ whole) (ap (λ f. on_link world.links f name) e1 ∙ first ∙ ap (λ m. m ∷ rest) (sym e3))
         (ap (λ m. client_at (with_master (taken_from_link world fnode name) name (node_says law.master fnode m)) conn) e3
         ∙ ap (λ f. client_at (with_master (taken_from_link world f name) name (node_says law.master f message)) conn) e1 ∙ same)
         (subst (MovesBy story.talk.moving world.steps)
         (sym (ap (λ m. (node_says law.master fnode m).master.table) e3 ∙ ap (λ f. (node_says law.master f message).master.table) e1)) moves)))
+    by_knows found (is_gone said was_is is) = (let none : None ≡ here_at from name message = subst (IsIn from name message) is found in cc)
     by_knows found (is_listed told said was_is is) =
         absurd ((law.nodes.fronts fnode front at).no_master (to_is (subst (IsIn from name message) is found)))
 
@@ -256,6 +261,7 @@ module _ (config : Config) (heard : ℕ → Heard) (world : World) (law : KeepsL
   module _ (from to : List ℕ) (message : LinkMsg) (no_front : fnode ≡ to → ⊥) (no_master : name ≡ to → ⊥) where
     not_by : IsIn from to message here → NamesOf conn waits.tag waits.listing waits.was story here → ⊥
     not_by found (not_yet said was_is is) = no_master (to_is (subst (IsIn from to message) is found))
+    not_by found (is_gone said was_is is) = (let none : None ≡ here_at from to message = subst (IsIn from to message) is found in cc)
     not_by found (is_listed told said was_is is) = no_front (to_is (subst (IsIn from to message) is found))
 
     pub list_not_at_home : IsIn from to message here → ⊥

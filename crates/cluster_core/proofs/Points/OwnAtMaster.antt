@@ -1,17 +1,18 @@
--- The master takes a message that is about a command: its NOOP, or the line of its flow.
-use Rattle.std.proofs.Common.{◌≡◌, ℕ, ◌+◌, true, List, [], ◌∷◌, ◌++◌, length, Option, None, Some, refl, sym, ◌∙◌, ap, subst}
+-- The master takes a message that is about a command: its NOOP, or the line of its flow. The link is whole, and the message isn't of a command that is over.
+use Rattle.std.proofs.Common.{◌≡◌, ℕ, ◌+◌, true, false, List, [], ◌∷◌, ◌++◌, length, Option, None, Some, refl, sym, ◌∙◌, ap, subst}
 use Rattle.asking_core.specs.declared.waiting.At.{At}
 use Rattle.asking_core.specs.declared.waiting.At.TheVariants.{Home}
 use Rattle.back_links.specs.MasterEvents.{given_in}
 use Rattle.back_node.specs.declared.node.BackNode.{BackNode}
 use Rattle.cluster_core.specs.World.{master_of, client_at, front_at, home_at, taken_from_link}
-use Rattle.front_core.proofs.OneConnection.Places.{about, of_connection}
+use Rattle.front_core.proofs.OneConnection.Places.{about, is_over, of_connection}
 use Rattle.front_core.specs.declared.front.Front.{Front}
 use Rattle.imap_talk.specs.Heard.{Heard}
 use Rattle.imap_types.specs.declared.request.Request.TheVariants.{Command as a_command}
 use Rattle.link_msg.specs.declared.counts.Counts.{Counts}
 use Rattle.link_msg.specs.declared.counts.Counts.TheVariants.{IfAnswered}
 use Rattle.link_msg.specs.declared.message.LinkMsg.{LinkMsg}
+use Rattle.link_queue.specs.Broken.{is_broken}
 use Rattle.link_queue.specs.Links.{on_link, without_first}
 use Rattle.many_links.specs.Murder.{Murder, after_master, master_takes as murder_takes}
 use Rattle.many_links.specs.ManyHold.{ManyHold}
@@ -173,10 +174,10 @@ module _ (config : Config) (heard : ℕ → Heard) (world : World) (law : KeepsL
     decided_so (is_its_point done) = of_carried fixed fnode conn world.broken world.steps world.marks story waits.tag c (cleared_at table) store IfAnswered done
     decided_so (is_only_seen seen) = of_seen fixed fnode conn world.broken world.steps world.marks story waits.tag c (cleared_at table) seen
 
-    noop_own : (rest : List LinkMsg) → here ≡ place.is_barred barrier.asked → on_link world.links fnode name ≡ noop_of id ∷ rest
-        → client_at (then fnode (noop_of id)) conn ≡ client_at world conn
+    noop_own : (rest : List LinkMsg) → here ≡ place.is_barred barrier.asked → is_broken world.broken name fnode ≡ false
+        → on_link world.links fnode name ≡ noop_of id ∷ rest → client_at (then fnode (noop_of id)) conn ≡ client_at world conn
         → MovesBy story.talk.moving world.steps (says fnode (noop_of id)).master.table → OwnWith fnode (noop_of id) law.given
-    noop_own rest asks first same moves =
+    noop_own rest asks whole first same moves =
         let opened = opened_at (subst BringsNothing (sym asks) tt) in
         let clears : ClearsIt fixed fnode conn world.broken world.steps world.marks story waits.tag c murder law.given =
         noop_clears fixed fnode conn world.broken world.steps world.marks story waits.tag c murder law.given opened.is_open noop_comes in
@@ -188,7 +189,7 @@ module _ (config : Config) (heard : ℕ → Heard) (world : World) (law : KeepsL
         (decided_so clears.decides)
         (many fnode (noop_of id) law.given store (subst (λ i. ManyHold (murder_takes murder fnode (noop_of i)) law.given store) waits.its clears.then_holds))
         (behind fnode (noop_of id) (cleared_at table)
-        (noop_is_taken murder law.given store fnode front.replica id (takes fnode (noop_of id) rest first) fed
+        (noop_is_taken murder law.given store fnode front.replica id (takes fnode (noop_of id) rest first) fed whole
         (in_murder fixed world law.master law.nodes.me fnode front.replica id (place.is_barred barrier.asked)
         (subst (λ p. IsInPlaceOf fixed world fnode front.replica id p) asks placed))))
         (subst (λ i. IsMarkedAt story.talk.moving (world.marks ++ home_mark world.steps c.id IfAnswered ∷ []) i (cleared_at table)) waits.its
@@ -198,7 +199,8 @@ module _ (config : Config) (heard : ℕ → Heard) (world : World) (law : KeepsL
     -- ---- the line of its flow
 
     module _ (from : List ℕ) (message : LinkMsg) (rest : List LinkMsg) (first : on_link world.links from name ≡ message ∷ rest)
-        (own : about message ≡ of_connection conn) (same : client_at (then from message) conn ≡ client_at world conn)
+        (own : about message ≡ of_connection conn) (on : is_over id.command message ≡ false)
+        (same : client_at (then from message) conn ≡ client_at world conn)
         (node : BackNode) (there : home_at world from ≡ Some node) (me : Location) (mailbox : List ℕ) (flow : Flow)
         (its_line : flow_message me mailbox flow ≡ message) (sends : here ≡ place.is_at me (name_at.sends mailbox flow)) (server : me.server ≡ from) where
       opened : IsOpenAt fixed fnode conn world.broken world.steps world.marks story waits.tag c here
@@ -236,7 +238,7 @@ module _ (config : Config) (heard : ℕ → Heard) (world : World) (law : KeepsL
       }
 
       its_placed : (me ≡ node.flows.me) × HasAnswered murder from node message (takes from message rest first).first.rest fnode front.replica id mailbox flow
-      its_placed = line_is_taken murder law.given store from node message fnode front.replica id me mailbox flow (takes from message rest first) there fed own server
+      its_placed = line_is_taken murder law.given store from node message fnode front.replica id me mailbox flow (takes from message rest first) there fed own on server
           (in_murder fixed world law.master law.nodes.me fnode front.replica id (place.is_at me (name_at.sends mailbox flow))
           (subst (λ p. IsInPlaceOf fixed world fnode front.replica id p) sends placed))
 
@@ -282,7 +284,8 @@ module _ (config : Config) (heard : ℕ → Heard) (world : World) (law : KeepsL
         own_step config conn fnode front world story (law.stops conn) (heard conn) here waits (then from message) (says from message).master
             (law.given ++ given_in law.master.table from message) store None (heard_at node c.name flow it.it)
             (leaves from message same None it.responds.marks)
-            (of_known fixed fnode conn world.broken world.steps world.marks story waits.tag c (heard_at node c.name flow it.it) law.is_told it.knows)
+            (of_known fixed fnode conn world.broken world.steps world.marks story waits.tag c (heard_at node c.name flow it.it) law.is_told it.knows
+            (λ connection same_session. tt))
             (many from message (law.given ++ given_in law.master.table from message) store it.then_holds)
             (placed_then it.it it.responds.answer) tt tt (whom_then it.it),
       )
@@ -295,7 +298,8 @@ module _ (config : Config) (heard : ℕ → Heard) (world : World) (law : KeepsL
     -- ---- which it is
 
     module _ (from : List ℕ) (message : LinkMsg) (rest : List LinkMsg) (first : on_link world.links from name ≡ message ∷ rest)
-        (own : about message ≡ of_connection conn) (same : client_at (then from message) conn ≡ client_at world conn)
+        (own : about message ≡ of_connection conn) (on : is_over id.command message ≡ false) (whole : is_broken world.broken name from ≡ false)
+        (same : client_at (then from message) conn ≡ client_at world conn)
         (moves : MovesBy story.talk.moving world.steps (says from message).master.table) where
       no_front : fnode ≡ name → ⊥
       no_front e = its_front.no_master (e ∙ sym law.nodes.me)
@@ -308,14 +312,14 @@ module _ (config : Config) (heard : ℕ → Heard) (world : World) (law : KeepsL
           subst (λ f. OwnAtMaster f message) e1
           (subst (λ m. OwnAtMaster fnode m) e3 (
             law.given,
-            noop_own rest is (ap (λ f. on_link world.links f name) e1 ∙ first ∙ ap (λ m. m ∷ rest) (sym e3))
+            noop_own rest is (ap (λ f. is_broken world.broken name f) e1 ∙ whole) (ap (λ f. on_link world.links f name) e1 ∙ first ∙ ap (λ m. m ∷ rest) (sym e3))
                 (ap (λ m. client_at (then fnode m) conn) e3 ∙ ap (λ f. client_at (then f message) conn) e1 ∙ same)
                 (subst (MovesBy story.talk.moving world.steps)
                 (sym (ap (λ m. (says fnode m).master.table) e3 ∙ ap (λ f. (says f message).master.table) e1)) moves),
           ))
       by_found _ is (in_line me mailbox flow e1 e2 e3) =
           let there = subst (λ p. IsThere (home_at world) p) is placed.there in
-          line_own from message rest first own same there.0 (ap (home_at world) (sym e1) ∙ there.1) me mailbox flow e3 is e1
+          line_own from message rest first own on same there.0 (ap (home_at world) (sym e1) ∙ there.1) me mailbox flow e3 is e1
       by_found _ is (in_ask server ask e1 e2 e3) =
           let there = subst (λ p. IsThere (home_at world) p) is placed.there in absurd (no_home server there.0 there.1 e2)
       by_found _ is (in_answer server answer e1 e2 e3) = absurd (no_front e2)
@@ -329,6 +333,7 @@ MasterStepIsOwn = (config : Config) (heard : ℕ → Heard) (world : World) (law
     (message : LinkMsg) (rest : List LinkMsg) → AskedFit world law.story
     → MovesBy law.story.talk.moving world.steps (node_says law.master from message).master.table
     → on_link world.links from (master_of config) ≡ message ∷ rest → about message ≡ of_connection conn
+    → is_over (length (law.story.told conn) + 1) message ≡ false → is_broken world.broken (master_of config) from ≡ false
     → client_at (with_master (taken_from_link world from (master_of config)) (master_of config) (node_says law.master from message)) conn
     ≡ client_at world conn
     → (given : Given) × OwnStep config conn (law.stops conn) (heard conn) world law.story
@@ -336,10 +341,10 @@ MasterStepIsOwn = (config : Config) (heard : ℕ → Heard) (world : World) (law
     (node_says law.master from message).master given
 
 pub master_step_is_own : MasterStepIsOwn
-master_step_is_own config heard world law conn from message rest fit moves first own same = by tells.who
+master_step_is_own config heard world law conn from message rest fit moves first own on whole same = by tells.who
   where
     tells : TellsPlace (fixed_of config) conn world law.story (law.stops conn) (heard conn) from (master_of config) message
-    tells = first_tells (fixed_of config) conn world law.story (law.stops conn) (heard conn) from (master_of config) message rest first own (law.connections conn)
+    tells = first_tells (fixed_of config) conn world law.story (law.stops conn) (heard conn) from (master_of config) message rest first own on (law.connections conn)
 
     fits : IsNumbered (next_id conn (law.story.told conn))
     fits = waits_fit (fixed_of config) conn tells.node tells.front tells.connection world law.story (law.stops conn) (heard conn) tells.here fit tells.at tells.who
@@ -351,11 +356,11 @@ master_step_is_own config heard world law conn from message rest fit moves first
     by (of_command who) =
         let waits = each_command_waits (fixed_of config) conn tells.node tells.front tells.connection world law.story (law.stops conn) (heard conn) tells.here tells.at
         tells.count who in
-        by_found config heard world law conn fits tells.node tells.front tells.here (tells.at).at waits tells.placed from message rest first own same moves
+        by_found config heard world law conn fits tells.node tells.front tells.here (tells.at).at waits tells.placed from message rest first own on whole same moves
         tells.here refl (found_in (master_of config) tells.node (next_id conn (law.story.told conn)) from (master_of config) message tells.here tells.is_found)
     by (of_list who) = (
       law.given,
       list_is_own config heard world law conn fits tells.node tells.front tells.here (tells.at).at
           (each_list_waits (fixed_of config) conn tells.node tells.front tells.connection world law.story (law.stops conn) (heard conn) tells.here tells.at tells.count who)
-          tells.placed from message rest first same moves tells.is_found,
+          tells.placed from message rest first whole same moves tells.is_found,
     )

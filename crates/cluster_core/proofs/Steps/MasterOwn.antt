@@ -1,12 +1,12 @@
 -- The master takes the NOOP of a command, or the line of its flow: where the command is then.
-use Rattle.std.proofs.Common.{◌≡◌, ◌≢◌, ◌⊎◌, inl, inr, ℕ, Bool, cond, List, [], ◌∷◌, ◌++◌, Option, None, Some, refl, sym, ap, subst, ◌∙◌, append-nil}
+use Rattle.std.proofs.Common.{◌≡◌, ◌≢◌, ◌⊎◌, inl, inr, ℕ, Bool, false, cond, List, [], ◌∷◌, ◌++◌, Option, None, Some, refl, sym, ap, subst, ◌∙◌, append-nil, arith}
 use Rattle.std.specs.Ordering.{nat_cmp}
 use Rattle.std.specs.Cmp.Lexicographic.{slice_cmp}
 use Rattle.feed_core.specs.declared.replica.Replica.{Replica}
 use Rattle.feed_links.specs.Lines.{messages_to}
 use Rattle.feed_links.specs.OneFeed.{IsFed}
 use Rattle.feed_links.proofs.Names.{other_name}
-use Rattle.front_core.proofs.OneConnection.Places.{IsPlaced, about, about_command, of_connection, sent_alone}
+use Rattle.front_core.proofs.OneConnection.Places.{IsPlaced, about, about_command, is_below, is_over, line_on, of_connection, sent_alone}
 use Rattle.link_msg.specs.declared.counts.Counts.{Counts}
 use Rattle.link_msg.specs.declared.counts.Counts.TheVariants.{IfAnswered}
 use Rattle.link_msg.specs.declared.message.LinkMsg.{LinkMsg}
@@ -19,8 +19,9 @@ use Rattle.master_core.specs.Outside.{Stepped}
 use Rattle.master_core.specs.Replies.{done}
 use Rattle.master_core.specs.Step.{mark_of}
 use Rattle.mupdate_codec.specs.declared.command.MResponse.TheVariants as response
+use Rattle.mupdate_codec.specs.Asks.{line_ask}
 use Rattle.mupdate_codec.proofs.AsksLaw.{ask_again}
-use Rattle.mupdate_codec.proofs.LineAsks.{own_response}
+use Rattle.mupdate_codec.proofs.LineAsks.{own_command, own_response}
 use Rattle.mur_base.specs.declared.home.Location.{Location}
 use Rattle.mur_base.specs.declared.point.AskId.{AskId}
 use Rattle.mur_base.proofs.MapLaws.{names_apart, same_or_other}
@@ -28,19 +29,19 @@ use Rattle.mur_model.specs.declared.store.Store.{Store}
 use Rattle.back_links.specs.OneTalk.{HasTalk}
 use Rattle.back_node.specs.declared.node.BackNode.{BackNode}
 use Rattle.name_commands.specs.MasterSteps.{IsTaken, flow_reply}
-use Rattle.name_commands.specs.Places.{NamePlace, TalkShows, answer_message, NamePlace as name_at}
+use Rattle.name_commands.specs.Places.{NamePlace, TalkShows, answer_message, flow_message, stage_command, NamePlace as name_at}
 use Rattle.name_commands.specs.Whose.{Whose, is_of_connection}
 use Rattle.name_commands.proofs.MasterLaw.{line_taken, line_taken_alone}
 use Rattle.name_flows.specs.declared.flow.Flow.{Flow}
 use Rattle.name_links.specs.Serials.{Given}
-use Rattle.route_links.specs.Answered.{noop_of, ok_of}
+use Rattle.route_links.specs.Answered.{noop_of, ok_line, ok_of}
 use Rattle.route_links.specs.Barriers.{IsBarrierAt, Place as barrier}
 use Rattle.route_links.proofs.AnsweredLaw.{noop_is_answered}
 use Rattle.route_links.proofs.BarrierLaw.{others_are_taken, takes_noop}
-use Rattle.cluster_core.proofs.Places.FrontSends.{about_noop}
+use Rattle.cluster_core.proofs.Places.FrontSends.{about_noop, noop_on}
 use Rattle.cluster_core.proofs.Commands.InPlace.{ShowEach}
-use Rattle.cluster_core.proofs.Commands.Place.{Place, at_backend, carried, Place as place}
-use Rattle.cluster_core.proofs.Steps.Heads.{its_first}
+use Rattle.cluster_core.proofs.Commands.Place.{Place, at_backend, carried, its_message, Place as place}
+use Rattle.cluster_core.proofs.Steps.Heads.{are_same, here_at, its_first}
 use Rattle.cluster_core.proofs.Steps.MasterLinks.{barrier_behind, downs_taken, shows_behind, up_else, up_first}
 use Rattle.cluster_core.proofs.Steps.MasterSteps.{HasAnswered, IsFedFront, IsInBehind, LineIsTaken, MasterTakes, NoopIsTaken}
 use Rattle.cluster_core.proofs.Steps.Murders.{IsIn, at_other, at_own, its_me, no_front, shows_on}
@@ -49,7 +50,7 @@ use Rattle.cluster_core.proofs.Steps.Outs.{own_it, puts_one}
 -- ---- the NOOP
 
 module _ (murder : Murder) (given : Given) (store : Store) (front : List ℕ) (replica : Replica) (id : AskId)
-    (takes : MasterTakes murder given store front (noop_of id)) (fed : IsFedFront murder front replica id)
+    (takes : MasterTakes murder given store front (noop_of id)) (fed : IsFedFront murder front replica id) (whole : fed.broken ≡ false)
     (is : IsIn murder front replica id (place.is_barred barrier.asked)) where
   abbrev me : List ℕ
   me = murder.master.me
@@ -66,17 +67,20 @@ module _ (murder : Murder) (given : Given) (store : Store) (front : List ℕ) (r
   outs_are : next.outs ≡ answers
   outs_are = ap (λ (s : Stepped). s.outs) (noop_is_answered murder.master front id fed.numbered)
 
-  ok_about : about (ok_of id) ≡ of_connection id.conn
-  ok_about = ap about_command (own_response id (response.Ok done) ∙ ask_again id fed.numbered.0 fed.numbered.1)
+  ok_tells : line_ask (ok_line id) ≡ Some id
+  ok_tells = own_response id (response.Ok done) ∙ ask_again id fed.numbered.0 fed.numbered.1
 
-  none_left : IsPlaced (of_connection id.conn) left None
-  none_left = (its_first murder front replica id (place.is_barred barrier.asked) front me (noop_of id) takes.first (about_noop id fed.numbered) is).1
+  none_left : IsPlaced id.command (of_connection id.conn) left None
+  none_left =
+      (its_first murder front replica id (place.is_barred barrier.asked) front me (noop_of id) takes.first (about_noop id fed.numbered)
+      (noop_on id fed.numbered) is).1
 
-  ok_placed : IsPlaced (of_connection id.conn) (put_all me left next.outs) (carried me front (ok_of id))
+  ok_placed : IsPlaced id.command (of_connection id.conn) (put_all me left next.outs) (carried me front (ok_of id))
   unfolding put_all put_out
   ok_placed =
-      subst (λ (outs : List Out). IsPlaced (of_connection id.conn) (put_all me left outs) (carried me front (ok_of id))) (sym outs_are)
-      (sent_alone left me front (ok_of id) (of_connection id.conn) ok_about none_left)
+      subst (λ (outs : List Out). IsPlaced id.command (of_connection id.conn) (put_all me left outs) (carried me front (ok_of id))) (sym outs_are)
+      (sent_alone id.command left me front (ok_of id) (of_connection id.conn) (ap about_command ok_tells)
+      (line_on id.command (ok_line id) id ok_tells (omega arith)) none_left)
 
   -- no backend is told of it
   nothing_to : (q : List ℕ) → front ≢ q → messages_to q next.outs ≡ []
@@ -96,8 +100,9 @@ module _ (murder : Murder) (given : Given) (store : Store) (front : List ℕ) (r
   answered_barrier =
       subst (λ (up : List LinkMsg). IsBarrierAt id (barrier.answered murder.master.table) up (on_link murder.links me front ++ messages_to front next.outs) replica)
       (sym (up_first murder front (noop_of id) takes.first))
-      (takes_noop id barrier.asked murder.master front takes.first.rest (on_link murder.links me front) replica fed.numbered
-      (subst (λ (up : List LinkMsg). IsFed murder.master front up (on_link murder.links me front) replica) takes.first.first fed.fed)
+      (takes_noop id barrier.asked murder.master front fed.reached takes.first.rest (on_link murder.links me front) replica fed.numbered
+      (subst (λ (b : Bool). IsFed murder.master front b fed.reached (noop_of id ∷ takes.first.rest) (on_link murder.links me front) replica) whole
+      (subst (λ (up : List LinkMsg). IsFed murder.master front fed.broken fed.reached up (on_link murder.links me front) replica) takes.first.first fed.fed))
       (subst (λ (up : List LinkMsg). IsBarrierAt id barrier.asked up (on_link murder.links me front) replica) takes.first.first is.barrier)).1
 
   pub noop_behind : IsInBehind murder left next front replica id (place.is_barred (barrier.answered murder.master.table))
@@ -110,7 +115,7 @@ module _ (murder : Murder) (given : Given) (store : Store) (front : List ℕ) (r
   }
 
 pub noop_is_taken : NoopIsTaken
-noop_is_taken murder given store front replica id takes fed is = noop_behind murder given store front replica id takes fed is
+noop_is_taken murder given store front replica id takes fed whole is = noop_behind murder given store front replica id takes fed whole is
 
 -- ---- the line of a flow
 
@@ -121,7 +126,7 @@ mark_puts from links id (Some counts) = refl
 
 module _ (murder : Murder) (given : Given) (store : Store) (name : List ℕ) (node : BackNode) (message : LinkMsg) (front : List ℕ) (replica : Replica)
     (id : AskId) (at : Location) (mailbox : List ℕ) (flow : Flow) (takes : MasterTakes murder given store name message) (there : murder.nodes name ≡ Some node)
-    (fed : IsFedFront murder front replica id) (own : about message ≡ of_connection id.conn) (server : at.server ≡ name)
+    (fed : IsFedFront murder front replica id) (own : about message ≡ of_connection id.conn) (on : is_over id.command message ≡ false) (server : at.server ≡ name)
     (is : IsIn murder front replica id (place.is_at at (name_at.sends mailbox flow))) where
   abbrev lord : List ℕ
   lord = murder.master.me
@@ -158,16 +163,27 @@ module _ (murder : Murder) (given : Given) (store : Store) (name : List ℕ) (no
   abbrev later : Place
   later = place.is_at at (name_at.hears mailbox flow step.it)
 
-  line_left : IsPlaced (of_connection id.conn) links_left None
-  line_left = (its_first murder front replica id here name lord message takes.first own is).1
+  head : (its_message lord front id here ≡ here_at name lord message) × IsPlaced id.command (of_connection id.conn) links_left None
+  head = its_first murder front replica id here name lord message takes.first own on is
 
-  response_placed : IsPlaced (of_connection id.conn) (put_all lord links_left says.outs) (carried lord at.server (answer_message flow step.it))
+  line_left : IsPlaced id.command (of_connection id.conn) links_left None
+  line_left = head.1
+
+  -- the response is of the same command as the line
+  response_on : is_over id.command (answer_message flow step.it) ≡ false
+  unfolding is_over
+  response_on =
+      ap (is_below id.command) (own_response flow.ask step.it ∙ sym (own_command flow.ask (stage_command at mailbox flow.stage)))
+      ∙ ap (is_over id.command) (are_same at.server lord name lord (flow_message at mailbox flow) message head.0).message_is ∙ on
+
+  response_placed : IsPlaced id.command (of_connection id.conn) (put_all lord links_left says.outs) (carried lord at.server (answer_message flow step.it))
   response_placed =
-      subst (λ (to : List ℕ). IsPlaced (of_connection id.conn) (put_all lord links_left says.outs) (carried lord to (answer_message flow step.it))) (sym server)
-      (puts_one id.conn lord links_left says.outs name (answer_message flow step.it)
+      subst (λ (to : List ℕ). IsPlaced id.command (of_connection id.conn) (put_all lord links_left says.outs) (carried lord to (answer_message flow step.it)))
+      (sym server)
+      (puts_one id.conn lord links_left says.outs id.command name (answer_message flow step.it)
       (mark_of (Some flow.ask) (flow_reply murder.master.table name node.flows.me mailbox flow).counts) step.outs
       (mark_puts lord (sent links_left lord name (answer_message flow step.it)) flow.ask (flow_reply murder.master.table name node.flows.me mailbox flow).counts)
-      line_left)
+      response_on line_left)
 
   -- at its backend it is answered, and no other hears of it
   shown_own : TalkShows its node (on_link links_left name lord) (down ++ messages_to name says.outs) (at_backend name later)
@@ -204,8 +220,8 @@ module _ (murder : Murder) (given : Given) (store : Store) (name : List ℕ) (no
       let ne = no_front murder front name node fed.is_front there in
       subst (λ (up : List LinkMsg). IsBarrierAt id barrier.nowhere up (on_link murder.links lord front ++ messages_to front says.outs) replica)
       (sym (up_else murder name front ne))
-      (others_are_taken id barrier.nowhere murder.master front name (on_link murder.links front lord) (on_link murder.links lord front) message replica
-      fed.streams (λ e. ne (sym e)) fed.fed is.barrier)
+      (others_are_taken id barrier.nowhere murder.master front name fed.broken fed.reached (on_link murder.links front lord) (on_link murder.links lord front)
+      message replica fed.streams (λ e. ne (sym e)) fed.fed is.barrier)
 
   line_behind : IsInBehind murder links_left says front replica id later
   line_behind = record {
@@ -222,7 +238,7 @@ module _ (murder : Murder) (given : Given) (store : Store) (name : List ℕ) (no
   }
 
 pub line_is_taken : LineIsTaken
-line_is_taken murder given store name node message front replica id at mailbox flow takes there fed own server is = (
-  at_is murder given store name node message front replica id at mailbox flow takes there fed own server is,
-  has_answered murder given store name node message front replica id at mailbox flow takes there fed own server is,
+line_is_taken murder given store name node message front replica id at mailbox flow takes there fed own on server is = (
+  at_is murder given store name node message front replica id at mailbox flow takes there fed own on server is,
+  has_answered murder given store name node message front replica id at mailbox flow takes there fed own on server is,
 )
