@@ -49,12 +49,13 @@ use Rattle.cluster_core.proofs.Serials.SerialsLeft.{leaves_serials}
 followed : (master : Master) (table : MailboxTable) (world : World) (name node : List ℕ) (front : Front) → table ≡ master.table
     → IsFed master node (is_broken world.broken name node) (is_up front.ups name) (on_link world.links node name) (on_link world.links name node) front.replica
     → Follows world table name node front
-followed master table world name node front e (asks whole up before behind parts noops later lines news empty none) = follows.asks before behind parts news empty
-followed master table world name node front e (is_told whole up noops lines told stream) =
+followed master table world name node front e (asks whole reached before behind parts noops later lines news empty none) =
+    follows.asks before behind parts news empty
+followed master table world name node front e (is_told whole reached noops lines told stream) =
     follows.is_told (subst (λ (t : MailboxTable). hears_all front.replica (on_link world.links name node) ≡ replica_of t) (sym e) told)
-followed master table world name node front e (comes_up whole down ups is none) = follows.comes_up down is
-followed master table world name node front e (breaks_early cut down ups ends is all few none) = follows.is_parted cut
-followed master table world name node front e (is_parted cut own lines few tag) = follows.is_parted cut
+followed master table world name node front e (comes_up whole down ups up none) = follows.comes_up down up
+followed master table world name node front e (breaks_early broken down ups ends parts are few none) = follows.is_parted broken
+followed master table world name node front e (is_parted broken own lines few tag) = follows.is_parted broken
 
 replicas_follow : (config : Config) (came : ℕ → Heard) (world : World) → KeepsLaw config came world → ReplicasFollow config world
 replicas_follow config came world law node front at =
