@@ -7,5 +7,7 @@ pub mod Asked
 pub mod FrontAsked
 pub mod OnceLaw
 pub mod ServerEnds
+pub mod AskOrder
+pub mod LinkEnds
 pub mod Answers
 pub mod LeftLaw

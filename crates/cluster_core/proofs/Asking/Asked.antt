@@ -15,11 +15,11 @@ use Rattle.asking_core.specs.declared.waiting.At.{At}
 use Rattle.asking_core.specs.declared.waiting.At.TheVariants.{Home, Barrier}
 use Rattle.asking_core.specs.declared.waiting.Sent.{Sent}
 use Rattle.asking_core.specs.declared.waiting.Waiting.{Waiting}
-use Rattle.front_core.specs.Answered.{answer_by, answer_comes, clears_at, ends_with, goes_on_by, how_for, need_behind, ok_by, ok_comes, reading_again, reads_on, sends_if}
+use Rattle.front_core.specs.Answered.{answer_by, answer_comes, clears_at, end_by, end_comes, ends_at, ends_with, goes_on_by, how_for, need_behind, ok_by, ok_comes, reading_again, reads_on, sends_if}
 use Rattle.front_core.specs.Answered.{told_so, unchanged}
 use Rattle.front_core.specs.Front.{hung_up}
 use Rattle.front_core.specs.Stages.{asks_at, has_asked}
-use Rattle.front_core.specs.Taken.{Turned, Ways, answers_last, asks, begins_if, behind_outs, input_in, inputs_come, lists, lists_if, next_of, request_in, says_bye}
+use Rattle.front_core.specs.Taken.{Turned, Ways, answers_last, asks, begins_if, behind_outs, input_in, inputs_come, list_refused, lists, lists_if, next_of, request_in, says_bye}
 use Rattle.front_core.specs.Taken.{to_begin, told_now, turned_by_need, waits_with}
 use Rattle.front_core.specs.Ups.{is_up}
 use Rattle.front_core.specs.declared.connection.Connection.{Connection}
@@ -402,6 +402,26 @@ module _ (ways : Ways) (conn : ℕ) where
         pub ok_goes : (c : Connection) (id : AskId) → GoesOn conn moved c (ok_comes setting ways conn c id)
         unfolding ok_comes
         ok_goes c id = ok_goes_by c (id.command == c.answered + 1) c.stage refl
+
+        -- ---- the link to a node ends
+
+        at_end_goes : (c : Connection) (tag : Tag) (it : Waiting) (at : At) → GoesOn conn moved c (ends_at setting ways conn c tag it at)
+        at_end_goes c tag it (Home server) = bye_goes c c.session
+        at_end_goes c tag it (Barrier why) =
+            let session : Sess = (relocated c.session it.asking.awaited (what.Unreached ways.master)).session in
+            as_before c session _ (reads_on_so (record c { session = session }) (Unreached ways.master) _)
+
+        end_goes_by : (c : Connection) (stage : Stage) → GoesOn conn moved c (end_by setting ways conn c stage)
+        unfolding end_by
+        end_goes_by c (Waits tag it) = at_end_goes c tag it it.at
+        end_goes_by c (Lists tag listing) =
+            let session : Sess = (list_refused c.session).session in
+            as_before c session _ (reads_on_so (record c { session = session }) (Unreached ways.master) _)
+        end_goes_by c Reading = stays_so c c.session (none_told c)
+        end_goes_by c Ended = stays_so c c.session (none_told c)
+
+        pub end_goes : (c : Connection) → GoesOn conn moved c (end_comes setting ways conn c)
+        end_goes c = end_goes_by c c.stage
 
         -- ---- what the client does
 

@@ -1,7 +1,6 @@
 -- In each step of a run an ask is one of a frontend, to the server to which its records send it, and a line of a frontend goes to the master, rightly.
 use Rattle.std.proofs.Common.{◌≡◌, ◌≢◌, ℕ, Bool, true, false, cond, List, [], ◌∷◌, ◌++◌, Option, None, Some, refl, sym, ◌∙◌, ap, subst, All, append_assoc}
 use Rattle.std.specs.Prelude.{slice_get}
-use Rattle.std.specs.List.{AllByRecursion}
 use Rattle.std.specs.Ordering.{nat_cmp}
 use Rattle.std.specs.Cmp.Lexicographic.{slice_cmp}
 use Rattle.std.proofs.lemmas.List.{append-nil, append_cancel_left}
@@ -14,7 +13,7 @@ use Rattle.link_msg.specs.declared.out.Out.{Out}
 use Rattle.link_msg.specs.declared.out.Out.TheVariants.{Client as to_client, Close, Link as to_node, Mark as mark_out, Told as tell}
 use Rattle.link_queue.specs.Links.{on_link, same_link}
 use Rattle.link_queue.proofs.Wires.{on_link-sent, on_link-taken, same_names}
-use Rattle.mur_base.specs.Map.{value_at}
+use Rattle.mur_base.specs.Map.{IsInOrder, value_at}
 use Rattle.mur_base.proofs.MapLaws.{names_apart, value_at-with_value}
 use Rattle.mur_config.specs.declared.config.Config.{Config}
 use Rattle.mur_config.specs.declared.node.Kind.{Kind}
@@ -37,10 +36,11 @@ use Rattle.cluster_core.specs.Headline.Asks.{AsksByRecords, AsksRightly, IsFirst
 use Rattle.cluster_core.specs.Headline.OneNode.{leaves_on, node_of, worker}
 use Rattle.cluster_core.specs.World.{backends_of, carry, carry_all, client_at, client_does, comes_to, deliver_first, front_at, home_of, master_of, node_at, not_lost, opens, or_backend, start, stepped, steps_by, taken_from_link, takes, with_client, with_acted}
 use Rattle.cluster_core.proofs.Asking.NodeAsks.{KnowsFirst, MovesNobody, node_asks, taken_in}
+use Rattle.cluster_core.proofs.Links.StandLaw.{ups_in_order}
 use Rattle.cluster_core.proofs.Runs.NeverMoved.{WorldIsQuiet, never_moved, quiet_moves_none}
 use Rattle.cluster_core.proofs.Runs.NotLost.{let_left}
 use Rattle.cluster_core.proofs.Runs.OneNodeLaw.{carry_all_sends, given_links, nothing_first, one_more_step, same_worker}
-use Rattle.cluster_core.proofs.Runs.QuietNodes.{AnyClient, IsQuietOn}
+use Rattle.cluster_core.proofs.Runs.QuietNodes.{AnyClient}
 use Rattle.cluster_core.proofs.Starts.Kinds.{first_backend}
 
 -- ---- what outputs put on a link
@@ -92,9 +92,9 @@ module _ (may : List ℕ → LinkMsg → Type 0) (marks : Type 0) (node server :
 
 -- ---- what comes to a node
 
--- each frontend knows the first backend and the master
-abbrev KnowFirst : List Node → List ℕ → World → Type 0
-KnowFirst nodes master world = (node : List ℕ) (it : NodeState) → node_at world node ≡ Some it → KnowsFirst nodes master it
+-- each frontend knows the first backend
+abbrev KnowFirst : List Node → World → Type 0
+KnowFirst nodes world = (node : List ℕ) (it : NodeState) → node_at world node ≡ Some it → KnowsFirst nodes it
 
 module _ (nodes : List Node) (master : List ℕ) where
   -- what the node sent to the server, by the message that it took and the frontend that it is then
@@ -111,7 +111,7 @@ module _ (nodes : List Node) (master : List ℕ) where
       ∙ ap as_front (value_at-with_value (slice_cmp nat_cmp) names_apart world.nodes node now was there)
 
   comes_rightly : (world : World) (node server : List ℕ) (input : NodeInput) (found : Option NodeState) → node_at world node ≡ found
-      → KnowFirst nodes master world → MovesNobody master input
+      → KnowFirst nodes world → MovesNobody input
       → SendsRightly (taken_in input) node server (on_link world.links node server) (comes_to world node input found)
   unfolding comes_to
   comes_rightly world node server input None there know none = sends_none _ _ _ refl
@@ -121,11 +121,11 @@ module _ (nodes : List Node) (master : List ℕ) where
       (on_link (comes_to world node input (Some it)).links node server)) (sym (acted_at world node it input there))
       (carry_all_goes may (MayMark it) node server (with_acted world node (node_takes it input))
       (not_lost world.broken node (node_takes it input).outs)
-      (let_left AnyClient may (MayMark it) world.broken node (node_takes it input).outs (node_asks nodes master it input (know node it there) none)))
+      (let_left AnyClient may (MayMark it) world.broken node (node_takes it input).outs (node_asks nodes it input (know node it there) none)))
 
   -- ---- an event
 
-  opens_rightly : (world : World) (node server : List ℕ) (conn : ℕ) (found : Option Client) → KnowFirst nodes master world
+  opens_rightly : (world : World) (node server : List ℕ) (conn : ℕ) (found : Option Client) → KnowFirst nodes world
       → SendsRightly None node server (on_link world.links node server) (opens world node conn found)
   unfolding opens
   opens_rightly world node server conn (Some there) know = sends_none _ _ _ refl
@@ -133,7 +133,7 @@ module _ (nodes : List Node) (master : List ℕ) where
       comes_rightly (with_client world node conn) node server (Opened conn) (node_at world node) refl know tt
 
   client_rightly : (world : World) (node server : List ℕ) (input : NodeInput) (found : Option Client) → node_of found ≡ Some node
-      → KnowFirst nodes master world → MovesNobody master input → SendsRightly (taken_in input) node server (on_link world.links node server) (client_does world input found)
+      → KnowFirst nodes world → MovesNobody input → SendsRightly (taken_in input) node server (on_link world.links node server) (client_does world input found)
   unfolding client_does
   client_rightly world node server input None is know none = cc
   client_rightly world node server input (Some client) is know none =
@@ -142,15 +142,15 @@ module _ (nodes : List Node) (master : List ℕ) where
       (comes_rightly world client.at server input (node_at world client.at) refl know none)
 
   moved_to_none : (world : World) (from to : List ℕ) (message : LinkMsg) (rest : List LinkMsg) → on_link world.links from to ≡ message ∷ rest
-      → WorldIsQuiet master world → MovesNobody master (From from message)
+      → WorldIsQuiet master world → MovesNobody (From from message)
   moved_to_none world from to (Answer answer) rest e quiet = λ server moved. quiet_moves_none master world from to answer rest server quiet e moved
   moved_to_none world from to Up rest e quiet = tt
-  moved_to_none world from to End rest e quiet = (subst (AllByRecursion (IsQuietOn master from to)) e (quiet.links from to)).0.0
+  moved_to_none world from to End rest e quiet = tt
   moved_to_none world from to (Line line) rest e quiet = tt
   moved_to_none world from to (Ask ask) rest e quiet = tt
 
   deliver_rightly : (world : World) (from to server : List ℕ) (queue : List LinkMsg) → on_link world.links from to ≡ queue
-      → KnowFirst nodes master world → WorldIsQuiet master world
+      → KnowFirst nodes world → WorldIsQuiet master world
       → SendsRightly (slice_get queue 0) to server (leaves_on (Deliver from to) to server (on_link world.links to server)) (deliver_first world from to queue)
   unfolding deliver_first
   deliver_rightly world from to server [] e know quiet =
@@ -161,7 +161,7 @@ module _ (nodes : List Node) (master : List ℕ) where
       (on_link-taken world.links from to to server)
       (comes_rightly taken to server (From from message) (node_at taken to) refl know (moved_to_none world from to message rest e quiet))
 
-  takes_rightly : (world : World) (event : Event) (node server : List ℕ) → worker world event ≡ Some node → KnowFirst nodes master world → WorldIsQuiet master world
+  takes_rightly : (world : World) (event : Event) (node server : List ℕ) → worker world event ≡ Some node → KnowFirst nodes world → WorldIsQuiet master world
       → SendsRightly (taken_by event world) node server (leaves_on event node server (on_link world.links node server)) (takes world event)
   unfolding takes
   takes_rightly world (Open at conn) node server is know quiet =
@@ -181,7 +181,7 @@ module _ (nodes : List Node) (master : List ℕ) where
   same_taken world (Deliver from to) = refl
   same_taken world event = refl
 
-  pub step_rightly : (world : World) (event : Event) → KnowFirst nodes master world → WorldIsQuiet master world → AsksRightly nodes event world (steps_by world event)
+  pub step_rightly : (world : World) (event : Event) → KnowFirst nodes world → WorldIsQuiet master world → AsksRightly nodes event world (steps_by world event)
   step_rightly world event know quiet node server sent is behind =
       let its = takes_rightly (stepped world) event node server (same_worker world event ∙ is) know (record { nodes = quiet.nodes; links = quiet.links; whole = quiet.whole; calm = quiet.calm }) in
       subst (λ taken. All (IsRightlySent nodes taken (front_at (steps_by world event) node) server) sent) (same_taken world event)
@@ -221,22 +221,24 @@ is_first config are = let first = first_backend config.nodes are in first_among 
 -- ---- a run
 
 know_first : (config : Config) (world : World) → AreNodes config.nodes
-    → ((node : List ℕ) (front : Front) → front_at world node ≡ Some front → (front.first ≡ home_of config) × (front.master ≡ master_of config))
-    → KnowFirst config.nodes (master_of config) world
+    → ((node : List ℕ) (front : Front) → front_at world node ≡ Some front → (front.first ≡ home_of config) × IsInOrder (slice_cmp nat_cmp) front.ups)
+    → KnowFirst config.nodes world
 know_first config world are is node (state.Front front) there =
     let its = is node front (ap as_front there ∙ a_front front) in
     (subst (IsFirstBackend config.nodes) (sym its.0) (is_first config are), its.1)
 know_first config world are is node (state.Back home) there = tt
 know_first config world are is node (state.Master master) there = tt
 
--- each frontend has the first backend and the master of the configuration, behind each of these steps of a run
+-- each frontend has the first backend of the configuration, behind each of these steps of a run
 abbrev pub HaveFirst : Config → List Event → Type 0
 HaveFirst config steps = (before later : List Event) → steps ≡ before ++ later → (node : List ℕ) (front : Front)
-    → front_at (run_steps (start config) before) node ≡ Some front → (front.first ≡ home_of config) × (front.master ≡ master_of config)
+    → front_at (run_steps (start config) before) node ≡ Some front → front.first ≡ home_of config
 
 pub asks_by_records : (config : Config) (events : List Event) → AreNodes config.nodes → HaveFirst config (steps_of_run config events)
     → AsksByRecords config events
 asks_by_records config events are have before event later parts =
     let world = run_steps (start config) before in
     subst (AsksRightly config.nodes event world) (sym (one_more_step (start config) before event))
-    (step_rightly config.nodes (master_of config) world event (know_first config world are (have before (event ∷ later) parts)) (never_moved config before are))
+    (step_rightly config.nodes (master_of config) world event
+    (know_first config world are (λ node front at. (have before (event ∷ later) parts node front at, ups_in_order config before are node front at)))
+    (never_moved config before are))

@@ -1,8 +1,8 @@
 -- A frontend: in a step an ask goes out for each command that comes to wait for a server's answer, and for no other.
-use Rattle.std.proofs.Common.{◌≡◌, ◌≢◌, ℕ, ◌+◌, nat_eq, cond, Bool, true, false, ◌&&◌, List, [], ◌∷◌, Option, None, Some, refl, sym, ◌∙◌, ap, subst, arith}
-use Rattle.std.specs.List.{AllByRecursion}
+use Rattle.std.proofs.Common.{◌≡◌, ◌≢◌, ℕ, ◌+◌, nat_eq, cond, Bool, true, false, ◌&&◌, List, [], ◌∷◌, ◌++◌, Option, None, Some, refl, sym, ◌∙◌, ap, subst, arith}
+use Rattle.std.specs.Map.{keys_of}
 use Rattle.std.specs.Ordering.{nat_cmp}
-use Rattle.std.specs.Cmp.Lexicographic.{pointwise, same_text}
+use Rattle.std.specs.Cmp.Lexicographic.{pointwise, same_text, slice_cmp}
 use Rattle.std.proofs.Math.Logic.{⊎_elim}
 use Rattle.std.proofs.lemmas.Bool.{and_from, and_left, eq-eqb, ne_eqb}
 use Rattle.ask_routes.specs.Barrier.{barrier_answered}
@@ -10,12 +10,18 @@ use Rattle.asking_core.specs.declared.waiting.At.{At}
 use Rattle.asking_core.specs.declared.waiting.At.TheVariants.{Home, Barrier}
 use Rattle.asking_core.specs.declared.waiting.Waiting.{Waiting}
 use Rattle.feed_links.proofs.Names.{same_name}
+use Rattle.front_core.specs.Answered.{end_comes}
 use Rattle.front_core.specs.Ended.{released, released_at}
-use Rattle.front_core.specs.Front.{Stepped, answer_at, answer_from, bytes_by, bytes_in, connect, connect_at, connection_at, deliver, end_from, front_bytes_at, front_hang_at, hang, having_read, hung_up, line_by, line_from, ok_at, still, up_from, waits_for, ways_of, with_turned, with_up, without_up}
+use Rattle.front_core.specs.Front.{Stepped, all_end, answer_at, answer_from, awaited, behind_them, bytes_by, bytes_in, connect, connect_at, connection_at, deliver, end_at, end_from, end_if}
+use Rattle.front_core.specs.Front.{front_bytes_at, front_hang_at, hang, having_read, hung_up, line_by, line_from, ok_at, one_ends, still, up_from, waits_for, ways_of, with_turned, with_up, without_up}
 use Rattle.front_core.specs.Reading.{inputs_of_more}
 use Rattle.front_core.specs.Slots.{new_connection}
-use Rattle.front_core.specs.Stages.{asks_at, has_asked}
-use Rattle.front_core.specs.Taken.{Turned, inputs_come}
+use Rattle.front_core.specs.Stages.{asks_at, awaits as awaits_node, has_asked}
+use Rattle.front_core.specs.Taken.{Turned, Ways, inputs_come}
+use Rattle.front_core.specs.Ups.{is_up}
+use Rattle.front_core.proofs.OwnOuts.{one_ways}
+use Rattle.front_core.proofs.UpsLaws.{down_goes}
+use Rattle.front_core.proofs.WaitsUp.{end_up}
 use Rattle.front_core.specs.declared.connection.Connection.{Connection}
 use Rattle.front_core.specs.declared.connection.Stage.{Stage}
 use Rattle.front_core.specs.declared.connection.Stage.TheVariants.{Reading, Waits, Lists, Ended}
@@ -26,17 +32,16 @@ use Rattle.link_msg.specs.declared.answer.BackAnswer.{BackAnswer}
 use Rattle.link_msg.specs.declared.message.LinkMsg.{LinkMsg}
 use Rattle.link_msg.specs.declared.message.LinkMsg.TheVariants.{Up, End, Line, Ask, Answer}
 use Rattle.link_msg.specs.declared.out.Out.{Out}
-use Rattle.link_msg.specs.declared.out.Out.TheVariants.{Client, Close, Link, Mark, Told}
-use Rattle.mark_history.proofs.Numbers.{count_cons}
-use Rattle.mur_base.specs.Map.{with_entry}
+use Rattle.mark_history.proofs.Marks.{count_both}
+use Rattle.mur_base.specs.Map.{IsInOrder, with_entry}
 use Rattle.mur_base.specs.declared.point.AskId.{AskId}
 use Rattle.mur_base.proofs.MapLaws.{numbers_apart, same_or_other, value_at-with_entry, value_at-with_entry-other, value_at-with_value, value_at-with_value-other}
 use Rattle.node_step.specs.declared.input.NodeInput.{NodeInput}
 use Rattle.node_step.specs.declared.input.NodeInput.TheVariants.{Opened, Piece, Hung, From}
 use Rattle.cluster_core.specs.Headline.AsksOnce.{Awaits}
-use Rattle.cluster_core.proofs.Asking.Asked.{GoesOn, SaysMoved, answer_goes, asked_in, awaits, bytes_go, due, hangs_go, is_asking, its_number, its_server, ok_goes, same_ask}
+use Rattle.cluster_core.proofs.Asking.AskOrder.{order_count}
+use Rattle.cluster_core.proofs.Asking.Asked.{GoesOn, SaysMoved, answer_goes, asked_in, awaits, bytes_go, due, end_goes, hangs_go, is_asking, its_number, its_server, ok_goes, same_ask}
 use Rattle.cluster_core.proofs.Asking.Asked.GoesOn.{anew, as_it_was}
-use Rattle.cluster_core.proofs.Asking.ServerEnds.{IsForClient, StaysOrEnds, has_ended, server_ends, stays}
 
 -- ---- whether a command waits for a server
 
@@ -240,11 +245,6 @@ unfolding has_asked
 nothing_waits_there c id server is waits =
     (let no : false ≡ true = sym (ap (λ s. has_asked s server) is) ∙ its_server id.conn c id server waits in cc)
 
-ended_waits_not : (c : Connection) (id : AskId) (server : List ℕ) → c.stage ≡ Ended → awaits id.conn c id server ≡ true → ⊥
-unfolding has_asked
-ended_waits_not c id server is waits =
-    (let no : false ≡ true = sym (ap (λ s. has_asked s server) is) ∙ its_server id.conn c id server waits in cc)
-
 module _ (front : Front) where
   none_moved : (input : NodeInput) → ((id : AskId) (server : List ℕ) → IsMoved input id server → ⊥) → TellsNone input front
   none_moved input none id server was moved = none id server moved
@@ -393,44 +393,176 @@ module _ (front : Front) where
     still_so : FrontAsks (From from message) front (still front)
     still_so = still_asking (From from message) front (none_moved (From from message) none)
 
-  -- the link from a server ends
-  module _ (from : List ℕ) (ne : from ≢ front.master) where
-    abbrev behind_end : Stepped
-    behind_end = end_from (without_up front from) from
+-- ---- a link ends
 
-    none_sent : (id : AskId) (server : List ℕ) (outs : List Out) → AllByRecursion IsForClient outs → asked_in id server outs ≡ 0
-    none_sent id server [] are = refl
-    none_sent id server (out ∷ outs) are = omega (arith, count_cons (is_asking id server) out outs, by out are.0, none_sent id server outs are.1)
-      where
-        by : (out : Out) → IsForClient out → ◌≡◌ {A = ℕ} (cond (is_asking id server out) 1 0) 0
-        by (Client conn bytes) is = refl
-        by (Close conn) is = refl
-        by (Link node message) is = absurd is
-        by (Mark ask counts) is = absurd is
-        by (Told ask how) is = absurd is
+-- what holds of a command is so wherever its connection is the same, and as many asks of it go out
+same_awaits : (one other : Front) (id : AskId) (server : List ℕ) → connection_at other id.conn ≡ connection_at one id.conn → Awaits (Some one) id server
+    → Awaits (Some other) id server
+same_awaits one other id server same waits =
+    waits_there other waits.connection id server (same ∙ there_it_is one id server waits) (awaits_it one id server waits)
 
-    -- a command that waits then has waited
-    waited_then : (id : AskId) (server : List ℕ) → Awaits (Some behind_end.front) id server
-        → StaysOrEnds from (connection_at front id.conn) (connection_at behind_end.front id.conn) → Awaits (Some front) id server
-    waited_then id server waits (stays same) =
-        waits_there front waits.connection id server (sym same ∙ there_it_is behind_end.front id server waits) (awaits_it behind_end.front id server waits)
-    waited_then id server waits (has_ended b c was asked is stage) =
-        absurd (ended_waits_not c id server stage (awaits_at behind_end.front id server waits c is))
+same_asked : (input : NodeInput) (was other : Front) (one two : Stepped) (id : AskId) (server : List ℕ) → connection_at other id.conn ≡ connection_at was id.conn
+    → connection_at two.front id.conn ≡ connection_at one.front id.conn → asked_in id server two.outs ≡ asked_in id server one.outs
+    → IsAskedSo input was one id server → IsAskedSo input other two id server
+same_asked input was other one two id server before behind count (is_asked comes one_is) =
+    is_asked
+    (record {
+      waits = same_awaits one.front two.front id server behind comes.waits;
+      is_new = λ waits. comes.is_new (same_awaits other was id server (sym before) waits);
+    })
+    (count ∙ one_is)
+same_asked input was other one two id server before behind count (isnt_asked none zero) =
+    isnt_asked
+    (λ comes. none (record {
+      waits = same_awaits two.front one.front id server (sym behind) comes.waits;
+      is_new = λ waits. comes.is_new (same_awaits was other id server before waits);
+    }))
+    (count ∙ zero)
 
-    end_asks : FrontAsks (From from End) front behind_end
-    end_asks id server =
-        let its = server_ends front from ne in
-        isnt_asked
-        (λ comes.
-        (let no : From from End ≡ From server (Answer (record { id = id; body = Moved server })) =
-        comes.is_new (waited_then id server comes.waits (its.connections id.conn)) in cc))
-        (none_sent id server behind_end.outs its.outs)
+module _ (node : List ℕ) where
+  abbrev ending : NodeInput
+  ending = From node End
 
-  pub message_asks : (from : List ℕ) (message : LinkMsg) → (message ≡ End → from ≢ front.master)
-      → FrontAsks (From from message) front (deliver front from message)
-  unfolding deliver
-  message_asks from (Answer answer) other = answer_asks from answer (waits_for (connection_at front (answer.id).conn) from) refl
-  message_asks from Up other = up_asks from Up (λ id server is. cc) (pointwise nat_eq from front.master)
-  message_asks from End other = end_asks from (other refl)
-  message_asks from (Line line) other = line_asks from (Line line) (λ id server is. cc) line (pointwise nat_eq from front.master)
-  message_asks from (Ask ask) other = still_so from (Ask ask) (λ id server is. cc)
+  none_says : (id : AskId) (server : List ℕ) → IsMoved ending id server → ⊥
+  none_says id server is = cc
+
+  -- a command then waits for nothing from there
+  released_waits : (master : List ℕ) (c : Connection) (stage : Stage) → c.stage ≡ stage → awaits_node master (released_at c stage).stage node ≡ awaits_node master c.stage node
+  unfolding released_at
+  released_waits master c Reading is = refl
+  released_waits master c (Waits tag it) is = refl
+  released_waits master c (Lists tag it) is = refl
+  released_waits master c Ended is = ap (λ s. awaits_node master s node) (sym is)
+
+  not_up : (waits up : Bool) → (waits ≡ true → up ≡ true) → up ≡ false → waits ≡ false
+  not_up true up so down = (let no : true ≡ false = sym (so refl) ∙ down in absurd (true_false no))
+    where
+      true_false : true ≡ false → ⊥
+      true_false e = cc
+  not_up false up so down = refl
+
+  module _ (front : Front) (conn : ℕ) where
+    -- what became of its connection
+    abbrev ends_of : Connection → Turned
+    ends_of c = end_comes front.setting (ways_of front) conn c
+
+    goes_so : (c : Connection) → GoesOn conn Nobody c (ends_of c)
+    goes_so c = end_goes (ways_of front) conn front.setting Nobody (λ id server no. no) c
+
+    found_asks : (found : Option Connection) → connection_at front conn ≡ found → FrontAsks ending front (end_at front conn found)
+    unfolding end_at
+    found_asks None there = still_asking ending front (none_moved front ending none_says)
+    found_asks (Some c) there = turned_alone front ending conn c (ends_of c) there none_says (goes_so c)
+
+    if_asks : (waits : Bool) → FrontAsks ending front (end_if waits front conn)
+    if_asks true = found_asks (connection_at front conn) refl
+    if_asks false = still_asking ending front (none_moved front ending none_says)
+
+    one_asks : FrontAsks ending front (one_ends front node conn)
+    one_asks = if_asks (awaited front.master (connection_at front conn) node)
+
+    found_over : (found : Option Connection) → connection_at front conn ≡ found → is_up front.ups node ≡ false
+        → awaited front.master (connection_at (end_at front conn found).front conn) node ≡ false
+    unfolding end_at awaited
+    found_over None there down = ap (λ f. awaited front.master f node) there
+    found_over (Some c) there down =
+        let then : Connection = (ends_of c).connection in
+        ap (λ f. awaited front.master f node) (value_at-with_value nat_cmp numbers_apart front.connections conn (released then) c there)
+        ∙ released_waits front.master then then.stage refl
+        ∙ not_up (awaits_node front.master then.stage node) (is_up front.ups node) (end_up front.setting (ways_of front) conn c node) down
+
+    if_over : (waits : Bool) → awaited front.master (connection_at front conn) node ≡ waits → is_up front.ups node ≡ false
+        → awaited front.master (connection_at (end_if waits front conn).front conn) node ≡ false
+    if_over true e down = found_over (connection_at front conn) refl down
+    if_over false e down = e
+
+    one_over : is_up front.ups node ≡ false → awaited front.master (connection_at (one_ends front node conn).front conn) node ≡ false
+    one_over down = if_over (awaited front.master (connection_at front conn) node) refl down
+
+    -- another command stays where it is, and isn't asked for
+    module _ (id : AskId) where
+      abbrev IsLeftAlone : Stepped → Type 0
+      IsLeftAlone stepped = (connection_at stepped.front id.conn ≡ connection_at front id.conn) × ((server : List ℕ) → asked_in id server stepped.outs ≡ 0)
+
+      found_else : (found : Option Connection) → connection_at front conn ≡ found → id.conn ≢ conn → IsLeftAlone (end_at front conn found)
+      unfolding end_at
+      found_else None there ne = (refl, λ server. refl)
+      found_else (Some c) there ne = (
+        value_at-with_value-other nat_cmp numbers_apart front.connections conn id.conn (released (ends_of c).connection) ne,
+        λ server.
+            other_count ending front conn c there Nobody (λ i s no. absurd no) none_says (λ i s moved. absurd (none_says i s moved)) (ends_of c) id server ne (goes_so c),
+      )
+
+      if_else : (waits : Bool) → id.conn ≢ conn → IsLeftAlone (end_if waits front conn)
+      if_else true ne = found_else (connection_at front conn) refl ne
+      if_else false ne = (refl, λ server. refl)
+
+      one_else : id.conn ≢ conn → IsLeftAlone (one_ends front node conn)
+      one_else ne = if_else (awaited front.master (connection_at front conn) node) ne
+
+      -- so is one that waits for nothing from there
+      one_alone : awaited front.master (connection_at front id.conn) node ≡ false → IsLeftAlone (one_ends front node conn)
+      one_alone none = ⊎_elim
+          (λ (e : id.conn ≡ conn).
+          subst (λ waits. IsLeftAlone (end_if waits front conn)) (sym (ap (λ n. awaited front.master (connection_at front n) node) (sym e) ∙ none)) (refl, λ server. refl))
+          (λ (ne : id.conn ≢ conn). one_else ne)
+          (same_or_other nat_cmp numbers_apart id.conn conn)
+
+  -- the master and the links that are up stay
+  one_master : (front : Front) (conn : ℕ) → (one_ends front node conn).front.master ≡ front.master
+  one_master front conn = ap (λ (w : Ways). w.master) (one_ways front node conn)
+
+  one_ups : (front : Front) (conn : ℕ) → (one_ends front node conn).front.ups ≡ front.ups
+  one_ups front conn = ap (λ (w : Ways). w.ups) (one_ways front node conn)
+
+  none_more : (id : AskId) (server : List ℕ) (one rest : List Out) → asked_in id server one ≡ 0 → asked_in id server (one ++ rest) ≡ asked_in id server rest
+  none_more id server one rest none = count_both (is_asking id server) one rest ∙ omega (arith, none)
+
+  all_alone : (front : Front) (conns : List ℕ) (id : AskId) → awaited front.master (connection_at front id.conn) node ≡ false
+      → (connection_at (all_end front node conns).front id.conn ≡ connection_at front id.conn) × ((server : List ℕ) → asked_in id server (all_end front node conns).outs ≡ 0)
+  unfolding all_end
+  all_alone front [] id none = (refl, λ server. refl)
+  all_alone front (conn ∷ conns) id none =
+      let one : Stepped = one_ends front node conn in
+      let first = one_alone front conn id none in
+      let rest = all_alone one.front conns id (ap (λ m. awaited m (connection_at one.front id.conn) node) (one_master front conn)
+      ∙ ap (λ f. awaited front.master f node) first.0 ∙ none) in (
+        rest.0 ∙ first.0,
+        λ server. none_more id server one.outs (all_end one.front node conns).outs (first.1 server) ∙ rest.1 server,
+      )
+
+  all_asks : (front : Front) (conns : List ℕ) → is_up front.ups node ≡ false → FrontAsks ending front (all_end front node conns)
+  unfolding all_end
+  all_asks front [] down = still_asking ending front (none_moved front ending none_says)
+  all_asks front (conn ∷ conns) down = λ id server.
+      let one : Stepped = one_ends front node conn in
+      let last : Stepped = all_end one.front node conns in
+      let both : Stepped = behind_them one.outs last in
+      ⊎_elim
+      (λ (e : id.conn ≡ conn).
+      let rest = all_alone one.front conns id
+      (ap (λ m. awaited m (connection_at one.front id.conn) node) (one_master front conn)
+      ∙ ap (λ n. awaited front.master (connection_at one.front n) node) e ∙ one_over front conn down) in
+      same_asked ending front front one both id server refl rest.0
+      (count_both (is_asking id server) one.outs last.outs ∙ omega (arith, rest.1 server)) (one_asks front conn id server))
+      (λ (ne : id.conn ≢ conn).
+      let first = one_else front conn id ne in
+      same_asked ending one.front front last both id server (sym first.0) refl (none_more id server one.outs last.outs (first.1 server))
+      (all_asks one.front conns (ap (λ u. is_up u node) (one_ups front conn) ∙ down) id server))
+      (same_or_other nat_cmp numbers_apart id.conn conn)
+
+  end_asks : (front : Front) → IsInOrder (slice_cmp nat_cmp) front.ups → FrontAsks ending front (end_from (without_up front node) node)
+  end_asks front order = λ id server.
+      let all : Stepped = all_end (without_up front node) node (keys_of front.connections) in
+      same_asked ending (without_up front node) front all (end_from (without_up front node) node) id server refl refl (order_count (is_asking id server) all.outs)
+      (all_asks (without_up front node) (keys_of front.connections) (down_goes front.ups node order) id server)
+
+-- a message that comes; of the links that are up each stands there once
+pub message_asks : (front : Front) (from : List ℕ) (message : LinkMsg) → IsInOrder (slice_cmp nat_cmp) front.ups
+    → FrontAsks (From from message) front (deliver front from message)
+unfolding deliver
+message_asks front from (Answer answer) order = answer_asks front from answer (waits_for (connection_at front (answer.id).conn) from) refl
+message_asks front from Up order = up_asks front from Up (λ id server is. cc) (pointwise nat_eq from front.master)
+message_asks front from End order = end_asks from front order
+message_asks front from (Line line) order = line_asks front from (Line line) (λ id server is. cc) line (pointwise nat_eq from front.master)
+message_asks front from (Ask ask) order = still_so front from (Ask ask) (λ id server is. cc)

@@ -1,4 +1,5 @@
--- A command that waits is left without a reply only as its client closes the connection, or as its frontend takes the End of the link to its server.
+-- A command that waits is left without a reply only as its client closes the connection, or as its frontend takes the End of the link to its server: one that
+-- waits for the master's OK is refused then.
 use Rattle.std.proofs.Common.{◌≡◌, ◌≢◌, ◌⊎◌, inl, inr, ℕ, nat_eq, Bool, true, false, List, [], ◌∷◌, Option, None, Some, refl, sym, ◌∙◌, ap, subst, arith}
 use Rattle.std.specs.Prelude.{⊤, slice_get}
 use Rattle.std.specs.List.{AllByRecursion}
@@ -37,30 +38,28 @@ use Rattle.node_step.proofs.NodeKinds.{a_front}
 use Rattle.schedule_text.specs.declared.event.Event.{Event}
 use Rattle.schedule_text.specs.declared.event.Event.TheVariants.{Hang, Deliver}
 use Rattle.cluster_core.specs.declared.world.World.{World}
-use Rattle.cluster_core.specs.Flow.{run_steps, steps_of_run}
+use Rattle.cluster_core.specs.Flow.{run_steps}
 use Rattle.cluster_core.specs.Headline.Asks.{taken_by}
 use Rattle.cluster_core.specs.Headline.AsksOnce.{Awaits}
 use Rattle.cluster_core.specs.Headline.Lost.{IsLeft, LeavesRightly, LeavesRightlyEach, TakesItsEnd, WaitsOn}
 use Rattle.cluster_core.specs.Headline.OneNode.{WorksBy, relinks, worker}
 use Rattle.cluster_core.specs.World.{front_at, master_of, node_at, start, steps_by}
 use Rattle.cluster_core.proofs.Asking.Answers.{EndsAnswered, answer_answers, bytes_wait, ok_answers}
+use Rattle.cluster_core.proofs.Asking.LinkEnds.{EndsOrGoes, goes_on, has_ended, link_ends, stays}
 use Rattle.cluster_core.proofs.Asking.NodeAsks.{back_other, master_other, taken_in}
-use Rattle.cluster_core.proofs.Asking.OnceLaw.{HaveMaster}
-use Rattle.cluster_core.proofs.Asking.ServerEnds.{StaysOrEnds, has_ended, server_ends, stays}
 use Rattle.cluster_core.proofs.Asking.StepSends.{IsBrought, StepSends, step_sends}
 use Rattle.cluster_core.proofs.Asking.StepSends.StepSends.{is_away, rests, sends}
 use Rattle.cluster_core.proofs.Lines.AtNode.{no_node_changes}
-use Rattle.cluster_core.proofs.Runs.NeverMoved.{WorldIsQuiet, never_moved}
+use Rattle.cluster_core.proofs.Runs.NeverMoved.{WorldIsQuiet, homes_of, never_moved}
 use Rattle.cluster_core.proofs.Runs.OneNodeLaw.{one_more_step, one_node_works}
 use Rattle.cluster_core.proofs.Runs.QuietNodes.{IsQuietOn}
 
 -- ---- a frontend
 
--- what comes tells of no lost command, and ends no link with this node
-abbrev IsPlain : List ℕ → NodeInput → Type 0
-IsPlain master (From name (Answer answer)) = answer.body ≢ Lost
-IsPlain master (From name End) = name ≢ master
-IsPlain master input = ⊤
+-- what comes tells of no lost command
+abbrev IsPlain : NodeInput → Type 0
+IsPlain (From name (Answer answer)) = answer.body ≢ Lost
+IsPlain input = ⊤
 
 -- why a connection, whose command waits so, is left
 data LeftBy (input : NodeInput) (conn : ℕ) (c : Connection) : Type 0 where
@@ -216,23 +215,27 @@ module _ (front : Front) (conn : ℕ) (c : Connection) (there : connection_at fr
   line_so bytes true left = line_by_so bytes (barrier_answered bytes) left
   line_so bytes false left = kept front refl left
 
-  -- the link from a server ends
-  end_so : (from : List ℕ) → StaysOrEnds from (connection_at front conn) (connection_at (end_from (without_up front from) from).front conn)
+  -- a link ends
+  end_so : (from : List ℕ) → EndsOrGoes from (connection_at front conn) (connection_at (end_from (without_up front from) from).front conn)
       → Left (end_from (without_up front from) from).front conn c → has_asked c.stage from ≡ true
   end_so from (stays same) left = absurd (kept (end_from (without_up front from) from).front same left)
-  end_so from (has_ended b later was asked is stage) left =
+  end_so from (has_ended b later was asked is stage count) left =
       subst (λ (d : Connection). has_asked d.stage from ≡ true) (same_connection (sym was ∙ there)) asked
+  end_so from (goes_on b later was open is more) left =
+      let old : b ≡ c = same_connection (sym was ∙ there) in
+      let its : left.then ≡ later = same_connection (sym left.there ∙ is) in
+      absurd (omega (arith, more, left.same, ap (λ (d : Connection). d.answered) old, ap (λ (d : Connection). d.answered) its))
 
-  message_so : (from : List ℕ) (message : LinkMsg) → IsPlain front.master (From from message) → Left (deliver front from message).front conn c
+  message_so : (from : List ℕ) (message : LinkMsg) → IsPlain (From from message) → Left (deliver front from message).front conn c
       → LeftBy (From from message) conn c
   unfolding deliver
   message_so from (Answer answer) plain left = absurd (answer_so answer (waits_for (connection_at front (answer.id).conn) from) plain left)
   message_so from Up plain left = absurd (up_so from (pointwise nat_eq from front.master) left)
-  message_so from End plain left = by_end from refl (end_so from ((server_ends front from plain).connections conn) left)
+  message_so from End plain left = by_end from refl (end_so from (link_ends front from conn) left)
   message_so from (Line line) plain left = absurd (line_so line (pointwise nat_eq from front.master) left)
   message_so from (Ask ask) plain left = absurd (kept front refl left)
 
-  front_leaves : (input : NodeInput) (now : Front) → IsPlain front.master input → as_front (Some (front_takes front input).state) ≡ Some now
+  front_leaves : (input : NodeInput) (now : Front) → IsPlain input → as_front (Some (front_takes front input).state) ≡ Some now
       → Left now conn c → LeftBy input conn c
   unfolding front_takes as_front connect bytes_in hang
   front_leaves (Opened other) now plain is left =
@@ -248,7 +251,7 @@ module _ (front : Front) (conn : ℕ) (c : Connection) (there : connection_at fr
 -- what the frontends take in the step is plain
 abbrev TakesPlain : World → Event → Type 0
 TakesPlain world event = (node : List ℕ) (front : Front) (input : NodeInput) → front_at world node ≡ Some front → IsBrought event node input
-    → taken_by event world ≡ taken_in input → IsPlain front.master input
+    → taken_by event world ≡ taken_in input → IsPlain input
 
 has_asked_home : (at : At) (server : List ℕ) → asks_at at server ≡ true → at ≡ Home server
 has_asked_home (Home asked) server is = ap Home (same_text asked server (sym is))
@@ -335,37 +338,36 @@ step_leaves world event plain node id waits left = by (worker world event) refl
 
 -- ---- a run
 
-first_quiet : (master from to : List ℕ) (queue : List LinkMsg) (message : LinkMsg) → AllByRecursion (IsQuietOn master from to) queue
-    → slice_get queue 0 ≡ Some message → IsQuietOn master from to message
-first_quiet master from to [] message all e = cc
-first_quiet master from to (first ∷ queue) message all e = (let same : first ≡ message = cc in subst (IsQuietOn master from to) same all.0)
+first_quiet : (master : List ℕ) (homes : List ℕ → Bool) (from to : List ℕ) (queue : List LinkMsg) (message : LinkMsg)
+    → AllByRecursion (IsQuietOn master homes from to) queue → slice_get queue 0 ≡ Some message → IsQuietOn master homes from to message
+first_quiet master homes from to [] message all e = cc
+first_quiet master homes from to (first ∷ queue) message all e =
+    (let same : first ≡ message = cc in subst (IsQuietOn master homes from to) same all.0)
 
-takes_plain : (config : Config) (world : World) (event : Event) → WorldIsQuiet (master_of config) world
-    → ((node : List ℕ) (front : Front) → front_at world node ≡ Some front → front.master ≡ master_of config) → TakesPlain world event
-takes_plain config world event quiet masters node front input there brought taken = by input brought taken
+takes_plain : (master : List ℕ) (world : World) (event : Event) → WorldIsQuiet master world → TakesPlain world event
+takes_plain master world event quiet node front input there brought taken = by input brought taken
   where
     first_of : (name : List ℕ) (message : LinkMsg) → event ≡ Deliver name node → taken_by event world ≡ Some message
-        → IsQuietOn (master_of config) name node message
+        → IsQuietOn master (homes_of world) name node message
     first_of name message is some =
-        first_quiet (master_of config) name node (on_link world.links name node) message (quiet.links name node)
+        first_quiet master (homes_of world) name node (on_link world.links name node) message (quiet.links name node)
         (sym (ap (λ (e : Event). taken_by e world) is) ∙ some)
 
-    plain : (name : List ℕ) (message : LinkMsg) → IsQuietOn (master_of config) name node message → IsPlain front.master (From name message)
-    plain name (Answer answer) is = λ lost. subst (λ body. IsQuietOn (master_of config) name node (Answer (record answer { body = body }))) lost is
-    plain name End is = λ e. is.0 (e ∙ masters node front there)
+    plain : (name : List ℕ) (message : LinkMsg) → IsQuietOn master (homes_of world) name node message → IsPlain (From name message)
+    plain name (Answer answer) is = λ lost. subst (λ body. IsQuietOn master (homes_of world) name node (Answer (record answer { body = body }))) lost is
+    plain name End is = tt
     plain name Up is = tt
     plain name (Line line) is = tt
     plain name (Ask ask) is = tt
 
-    by : (input : NodeInput) → IsBrought event node input → taken_by event world ≡ taken_in input → IsPlain front.master input
+    by : (input : NodeInput) → IsBrought event node input → taken_by event world ≡ taken_in input → IsPlain input
     by (From name message) brought taken = plain name message (first_of name message brought taken)
     by (Opened conn) brought taken = tt
     by (Piece conn bytes) brought taken = tt
     by (Hung conn) brought taken = tt
 
-pub leaves_rightly_each : (config : Config) (events : List Event) → AreNodes config.nodes → HaveMaster config (steps_of_run config events)
-    → LeavesRightlyEach config events
-leaves_rightly_each config events are have before event later parts =
+pub leaves_rightly_each : (config : Config) (events : List Event) → AreNodes config.nodes → LeavesRightlyEach config events
+leaves_rightly_each config events are before event later parts =
     let world = run_steps (start config) before in
     subst (LeavesRightly event world) (sym (one_more_step (start config) before event))
-    (step_leaves world event (takes_plain config world event (never_moved config before are) (have before (event ∷ later) parts)))
+    (step_leaves world event (takes_plain (master_of config) world event (never_moved config before are)))

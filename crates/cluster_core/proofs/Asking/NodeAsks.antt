@@ -1,9 +1,10 @@
 -- What a node lets out in a step: an ask is one of a frontend, to the server to which its records send it, and a line of a frontend goes to the master,
 -- rightly.
-use Rattle.std.proofs.Common.{◌≡◌, ◌≢◌, ◌⊎◌, inl, inr, ℕ, nat_eq, Bool, true, false, List, [], ◌∷◌, Option, None, Some, refl, sym, subst, ◌∙◌}
+use Rattle.std.proofs.Common.{◌≡◌, ◌⊎◌, inl, inr, ℕ, nat_eq, Bool, true, false, List, [], ◌∷◌, Option, None, Some, refl, sym, subst, ◌∙◌}
 use Rattle.std.specs.Prelude.{⊤}
 use Rattle.std.specs.List.{AllByRecursion}
-use Rattle.std.specs.Cmp.Lexicographic.{pointwise}
+use Rattle.std.specs.Ordering.{nat_cmp}
+use Rattle.std.specs.Cmp.Lexicographic.{pointwise, slice_cmp}
 use Rattle.std.proofs.Math.Logic.{⊎_elim}
 use Rattle.ask_routes.specs.Barrier.{barrier_answered}
 use Rattle.back_node.specs.declared.node.BackNode.{BackNode}
@@ -25,6 +26,7 @@ use Rattle.link_msg.specs.declared.out.Out.{Out}
 use Rattle.link_msg.specs.declared.out.Out.TheVariants.{Client, Close, Link, Mark, Told}
 use Rattle.master_core.specs.declared.master.Master.{Master}
 use Rattle.mupdate_codec.specs.declared.tag.Tag.{Tag}
+use Rattle.mur_base.specs.Map.{IsInOrder}
 use Rattle.mur_base.specs.declared.point.AskId.{AskId}
 use Rattle.mur_config.specs.declared.node.Node.{Node}
 use Rattle.node_step.specs.declared.input.NodeInput.{NodeInput}
@@ -78,25 +80,17 @@ may_ask_by nodes front now is same = record {
 
 -- ---- a frontend
 
--- a message sends no command on, and tells of no link with the master that ended
-abbrev pub MovesNobody : List ℕ → NodeInput → Type 0
-MovesNobody master (From name (Answer answer)) = (server : List ℕ) → answer.body ≡ Moved server → ⊥
-MovesNobody master (From name End) = name ≢ master
-MovesNobody master input = ⊤
+-- a message sends no command on
+abbrev pub MovesNobody : NodeInput → Type 0
+MovesNobody (From name (Answer answer)) = (server : List ℕ) → answer.body ≡ Moved server → ⊥
+MovesNobody input = ⊤
 
-moves_none : (may : List ℕ → LinkMsg → Type 0) (master name : List ℕ) (message : LinkMsg) → MovesNobody master (From name message) → MovesBy may message
-moves_none may master name (Answer answer) none = λ server e. absurd (none server e)
-moves_none may master name Up none = tt
-moves_none may master name End none = tt
-moves_none may master name (Line line) none = tt
-moves_none may master name (Ask ask) none = tt
-
-no_master_end : (master name : List ℕ) (message : LinkMsg) → MovesNobody master (From name message) → message ≡ End → name ≢ master
-no_master_end master name (Answer answer) none e = cc
-no_master_end master name Up none e = cc
-no_master_end master name End none e = none
-no_master_end master name (Line line) none e = cc
-no_master_end master name (Ask ask) none e = cc
+moves_none : (may : List ℕ → LinkMsg → Type 0) (name : List ℕ) (message : LinkMsg) → MovesNobody (From name message) → MovesBy may message
+moves_none may name (Answer answer) none = λ server e. absurd (none server e)
+moves_none may name Up none = tt
+moves_none may name End none = tt
+moves_none may name (Line line) none = tt
+moves_none may name (Ask ask) none = tt
 
 module _ (nodes : List Node) (front : Front) where
   -- it sends no ask, whatever its replica is then
@@ -130,14 +124,14 @@ module _ (nodes : List Node) (front : Front) where
   message_silent from (Ask ask) = inl refl
 
 message_asks : (nodes : List Node) (front : Front) (from : List ℕ) (message : LinkMsg) → IsFirstBackend nodes front.first
-    → MovesNobody front.master (From from message)
+    → MovesNobody (From from message)
     → AreLetOut AnyClient (MaySendBy nodes (deliver front from message).front) ⊥ (deliver front from message).outs
 message_asks nodes front from message is none =
     let now = (deliver front from message).front in
     ⊎_elim
     (λ (same : now.replica ≡ front.replica).
     (message_own AnyClient (MaySendBy nodes now) front (any_connections front) (may_ask_by nodes front now is same) from message
-    (moves_none (MaySendBy nodes now) front.master from message none)).outs)
+    (moves_none (MaySendBy nodes now) from message none)).outs)
     (λ (silent : AsksNobody nodes front (deliver front from message).outs). silent now)
     (message_silent nodes front from message)
 
@@ -163,19 +157,20 @@ all_joined : (nodes : List Node) (taken : Option LinkMsg) (now : Front) (outs : 
 all_joined nodes taken now [] asks say = tt
 all_joined nodes taken now (out ∷ outs) asks say = (out_joined nodes taken now out asks.0 say.0, all_joined nodes taken now outs asks.1 say.1)
 
-front_asks : (nodes : List Node) (front : Front) (input : NodeInput) → IsFirstBackend nodes front.first → MovesNobody front.master input
+front_asks : (nodes : List Node) (front : Front) (input : NodeInput) → IsFirstBackend nodes front.first → IsInOrder (slice_cmp nat_cmp) front.ups
+    → MovesNobody input
     → AreLetOut AnyClient (IsRightlySent nodes (taken_in input) (as_front (Some (front_takes front input).state))) ⊥ (front_takes front input).outs
 unfolding front_takes as_front
-front_asks nodes front (Opened conn) is none =
+front_asks nodes front (Opened conn) is order none =
     all_joined nodes None _ (connect front conn).outs (connect_own AnyClient (MaySendBy nodes _) front (any_connections front) conn tt).outs
     (connect_says None front conn)
-front_asks nodes front (Piece conn bytes) is none =
+front_asks nodes front (Piece conn bytes) is order none =
     all_joined nodes None _ (bytes_in front conn bytes).outs
     (bytes_own AnyClient (MaySendBy nodes _) front (any_connections front) (may_ask_by nodes front _ is (bytes_known front conn bytes).replica) conn bytes).outs
     (bytes_say None front conn bytes)
-front_asks nodes front (Hung conn) is none = tt
-front_asks nodes front (From name message) is none =
-    all_joined nodes (Some message) _ (deliver front name message).outs (message_asks nodes front name message is none) (message_says front name message (no_master_end front.master name message none))
+front_asks nodes front (Hung conn) is order none = tt
+front_asks nodes front (From name message) is order none =
+    all_joined nodes (Some message) _ (deliver front name message).outs (message_asks nodes front name message is none) (message_says front name message order)
 
 -- ---- a backend and the master ask nobody
 
@@ -227,15 +222,14 @@ master_other master (From name message) = refl
 
 -- ---- whichever node
 
--- a frontend knows the first backend, and the master
-abbrev pub KnowsFirst : List Node → List ℕ → NodeState → Type 0
-KnowsFirst nodes master (state.Front front) = IsFirstBackend nodes front.first × (front.master ≡ master)
-KnowsFirst nodes master it = ⊤
+-- a frontend knows the first backend; and of the links that it has as up each stands there once
+abbrev pub KnowsFirst : List Node → NodeState → Type 0
+KnowsFirst nodes (state.Front front) = IsFirstBackend nodes front.first × IsInOrder (slice_cmp nat_cmp) front.ups
+KnowsFirst nodes it = ⊤
 
-pub node_asks : (nodes : List Node) (master : List ℕ) (it : NodeState) (input : NodeInput) → KnowsFirst nodes master it → MovesNobody master input
+pub node_asks : (nodes : List Node) (it : NodeState) (input : NodeInput) → KnowsFirst nodes it → MovesNobody input
     → AreLetOut AnyClient (IsRightlySent nodes (taken_in input) (as_front (Some (node_takes it input).state))) (MayMark it) (node_takes it input).outs
 unfolding node_takes
-node_asks nodes master (state.Front front) input knows none =
-    front_asks nodes front input knows.0 (subst (λ m. MovesNobody m input) (sym knows.1) none)
-node_asks nodes master (state.Back home) input knows none = back_asks nodes (taken_in input) _ (back_other home input) home input
-node_asks nodes master (state.Master it) input knows none = master_asks nodes (taken_in input) _ (master_other it input) it input
+node_asks nodes (state.Front front) input knows none = front_asks nodes front input knows.0 knows.1 none
+node_asks nodes (state.Back home) input knows none = back_asks nodes (taken_in input) _ (back_other home input) home input
+node_asks nodes (state.Master it) input knows none = master_asks nodes (taken_in input) _ (master_other it input) it input

@@ -1,9 +1,12 @@
--- The lines of a frontend: its UPDATE, and the NOOP of a command that its connection then holds back, which needs it.
+-- The lines of a frontend: its UPDATE, and the NOOP of a command that its connection then holds back, which needs it. Where the link to the master ends, it
+-- sends none.
 use Rattle.std.proofs.Common.{◌≡◌, ◌≢◌, ℕ, ◌+◌, nat_eq, Bool, true, false, List, [], ◌∷◌, ◌++◌, Option, None, Some, refl, sym, ap, ◌∙◌, subst, eqb-true}
 use Rattle.std.specs.Prelude.{⊤, ◌==◌}
 use Rattle.std.specs.List.{AllByRecursion}
 use Rattle.std.specs.Ordering.{nat_cmp}
-use Rattle.std.specs.Cmp.Lexicographic.{pointwise}
+use Rattle.std.specs.Map.{keys_of}
+use Rattle.std.specs.Cmp.Lexicographic.{pointwise, slice_cmp}
+use Rattle.std.proofs.Math.Logic.{⊎_elim}
 use Rattle.ask_routes.specs.Barrier.{barrier_answered, noop_line}
 use Rattle.ask_routes.specs.Ways.{ask_for, behind_ok, first_step, mailbox_first}
 use Rattle.ask_routes.specs.WayLaws.{IsBehind}
@@ -25,11 +28,13 @@ use Rattle.asking_core.specs.declared.waiting.Waiting.{Waiting}
 use Rattle.feed_core.specs.Feed.{rec_at}
 use Rattle.feed_core.specs.Routes.{server_by}
 use Rattle.feed_core.specs.declared.rec.Rec.{Rec}
-use Rattle.front_core.specs.Answered.{answer_by, answer_comes, by_then, clears_at, need_behind, ok_by, ok_comes, reading_again, refused_behind, sends_if, waiting_come}
+use Rattle.feed_links.proofs.FeedLaw.{both}
+use Rattle.front_core.specs.Answered.{answer_by, answer_comes, by_then, clears_at, end_by, end_comes, ends_at, need_behind, ok_by, ok_comes, reading_again, refused_behind, sends_if, waiting_come}
 use Rattle.front_core.specs.Ended.{released, released_at}
-use Rattle.front_core.specs.Front.{Stepped, answer_at, answer_from, bytes_by, bytes_in, connect, connect_at, connection_at, deliver, end_from, front_bytes_at, having_read, line_by, line_from, ok_at, up_from, waits_for, ways_of, with_turned, with_up, without_up}
+use Rattle.front_core.specs.Front.{Stepped, all_end, answer_at, answer_from, awaited, bytes_by, bytes_in, connect, connect_at, connection_at, deliver, end_at, end_from, end_if, front_bytes_at}
+use Rattle.front_core.specs.Front.{having_read, line_by, line_from, ok_at, one_ends, up_from, waits_for, ways_of, with_turned, with_up, without_up}
 use Rattle.front_core.specs.Reading.{inputs_of_more}
-use Rattle.front_core.specs.Taken.{Turned, Ways, answers_last, asks, begins_if, comes_at, input_comes, input_in, inputs_come, lists, lists_if, next_of, request_in}
+use Rattle.front_core.specs.Taken.{Turned, Ways, answers_last, asks, begins_if, comes_at, input_comes, input_in, inputs_come, list_refused, lists, lists_if, next_of, request_in}
 use Rattle.front_core.specs.Taken.{to_begin, told_now, turned_by_need}
 use Rattle.front_core.specs.Ups.{is_up}
 use Rattle.front_core.specs.declared.connection.Connection.{Connection}
@@ -37,7 +42,9 @@ use Rattle.front_core.specs.declared.connection.Stage.{Stage}
 use Rattle.front_core.specs.declared.connection.Stage.TheVariants.{Reading, Waits, Lists, Ended}
 use Rattle.front_core.specs.declared.front.Front.{Front}
 use Rattle.front_core.proofs.FramesLaws.{HoldsBack, held_back}
-use Rattle.front_core.proofs.OwnOuts.{AreLetOut, IsLetOut}
+use Rattle.front_core.proofs.AskOrder.{outs_all}
+use Rattle.front_core.proofs.OwnOuts.{AreLetOut, IsLetOut, one_ways}
+use Rattle.front_core.proofs.UpsLaws.{down_goes}
 use Rattle.imap_talk.specs.declared.inputs.Input.{Input}
 use Rattle.imap_talk.specs.declared.inputs.Input.TheVariants.{GoesOn, Asks, Faults}
 use Rattle.imap_types.specs.declared.command.Tag.{Tag}
@@ -54,9 +61,10 @@ use Rattle.link_msg.specs.declared.message.LinkMsg.{LinkMsg}
 use Rattle.link_msg.specs.declared.message.LinkMsg.TheVariants.{Up, End, Line, Ask, Answer}
 use Rattle.link_msg.specs.declared.out.Out.{Out}
 use Rattle.link_msg.specs.declared.out.Out.TheVariants.{Client, Close, Link, Mark, Told}
+use Rattle.mur_base.specs.Map.{IsInOrder}
 use Rattle.mur_base.specs.declared.point.AskId.{AskId}
 use Rattle.mur_base.specs.declared.point.What.TheVariants.{Unreached as unreached}
-use Rattle.mur_base.proofs.MapLaws.{numbers_apart, value_at-with_value}
+use Rattle.mur_base.proofs.MapLaws.{names_apart, numbers_apart, same_or_other, value_at-with_value}
 use Rattle.mur_model.specs.declared.commands.list.Listing.{Listing}
 use Rattle.mur_model.specs.declared.need.Asking.{Asking}
 use Rattle.mur_model.specs.declared.need.Need.{Need}
@@ -71,6 +79,11 @@ use Rattle.cluster_core.specs.Headline.Asks.IsRightLine.{is_update, is_noop}
 use Rattle.cluster_core.proofs.Asking.ServerEnds.{IsForClient, server_ends}
 use Rattle.cluster_core.proofs.Runs.QuietNodes.{AnyClient}
 
+-- an output is no line
+abbrev pub IsNoLine : Out → Type 0
+IsNoLine (Link node (Line bytes)) = ⊥
+IsNoLine out = ⊤
+
 -- ---- a connection
 
 module _ (taken : Option LinkMsg) (ways : Ways) (conn : ℕ) where
@@ -78,9 +91,15 @@ module _ (taken : Option LinkMsg) (ways : Ways) (conn : ℕ) where
   abbrev IsNeededFor : Connection → Type 0
   IsNeededFor c = IsNeeded taken ways.recs (next_of conn c) c.stage
 
-  -- a line that goes out is the NOOP of the command that the connection holds back
+  -- a line that goes out is the NOOP of the command that the connection holds back, and the link to the master is up
+  pub record FitsLine (c : Connection) (node bytes : List ℕ) : Type 0 where
+    pub to : node ≡ ways.master
+    pub is : bytes ≡ noop_line (next_of conn c)
+    pub needed : IsNeededFor c
+    pub up : is_up ways.ups node ≡ true
+
   abbrev pub Fits : Connection → Out → Type 0
-  Fits c (Link node (Line bytes)) = (node ≡ ways.master) × (bytes ≡ noop_line (next_of conn c)) × IsNeededFor c
+  Fits c (Link node (Line bytes)) = FitsLine c node bytes
   Fits c out = ⊤
 
   abbrev AllFit : Connection → List Out → Type 0
@@ -102,7 +121,7 @@ module _ (taken : Option LinkMsg) (ways : Ways) (conn : ℕ) where
   fit_kept : (setting : Setting) (c : Connection) (inputs : List Input) (out : Out) → Fits c out → Fits (inputs_come setting ways conn c inputs).connection out
   fit_kept setting c inputs (Link node (Line bytes)) fits =
       subst (λ (t : Turned). Fits t.connection (Link node (Line bytes)))
-      (sym (held_back setting ways conn c inputs (holds_back c.stage (next_of conn c) fits.2))) fits
+      (sym (held_back setting ways conn c inputs (holds_back c.stage (next_of conn c) fits.needed))) fits
   fit_kept setting c inputs out fits = tt
 
   all_kept : (setting : Setting) (c : Connection) (inputs : List Input) (outs : List Out) → AllFit c outs
@@ -110,9 +129,9 @@ module _ (taken : Option LinkMsg) (ways : Ways) (conn : ℕ) where
   all_kept setting c inputs [] fit = tt
   all_kept setting c inputs (out ∷ outs) fit = (fit_kept setting c inputs out fit.0, all_kept setting c inputs outs fit.1)
 
-  -- what goes out for a command that waits so
+  -- what goes out for a command that waits so, where the link is up
   abbrev ThenFits : Connection → Tag → Waiting → Then → Type 0
-  ThenFits c tag it (then.Sends sent) = Fits (record c { stage = Waits tag it }) (Link sent.to sent.message)
+  ThenFits c tag it (then.Sends sent) = (is_up ways.ups sent.to ≡ true → Fits (record c { stage = Waits tag it }) (Link sent.to sent.message))
   ThenFits c tag it what = ⊤
 
   needs_fit : (c : Connection) (tag : Tag) (it : Waiting) (found : Option Need) → ThenFits c tag it (needs_by found)
@@ -126,35 +145,37 @@ module _ (taken : Option LinkMsg) (ways : Ways) (conn : ℕ) where
 
   mailbox_fits : (c : Connection) (tag : Tag) (it : Waiting) (found : Option Rec) → it.asking.op ≢ op.Create → rec_at ways.recs it.name ≡ found
       → FirstFits c tag it (mailbox_first (server_by found))
-  mailbox_fits c tag it None other is = (refl, refl, is_unknown tag (at_barrier it Missing) refl refl is other)
-  mailbox_fits c tag it (Some found) other is = tt
+  mailbox_fits c tag it None other is =
+      λ up. (record { to = refl; is = refl; needed = is_unknown tag (at_barrier it Missing) refl refl is other; up = up })
+  mailbox_fits c tag it (Some found) other is = λ up. tt
 
   first_fits : (c : Connection) (tag : Tag) (it : Waiting) (asks : Op) → it.asking.op ≡ asks
       → FirstFits c tag it (first_step ways.recs ways.first (ask_for it.name asks))
-  first_fits c tag it op.Create is = tt
+  first_fits c tag it op.Create is = λ up. tt
   first_fits c tag it asks is =
       mailbox_fits c tag it (rec_at ways.recs it.name) (λ e. (let no : asks ≡ op.Create = sym is ∙ e in cc)) refl
 
   -- where the link is up
-  begins_fit : (up : Bool) (c : Connection) (tag : Tag) (begun : Begun) → ThenFits c tag begun.waiting (then.Sends begun.sent)
-      → AllFitOf (begins_if up conn c tag begun)
+  begins_fit : (up : Bool) (c : Connection) (tag : Tag) (begun : Begun) → is_up ways.ups begun.sent.to ≡ up
+      → ThenFits c tag begun.waiting (then.Sends begun.sent) → AllFitOf (begins_if up conn c tag begun)
   unfolding told_now
-  begins_fit true c tag begun fits = (fits, tt)
-  begins_fit false c tag begun fits = (tt, (tt, tt))
+  begins_fit true c tag begun e fits = (fits e, tt)
+  begins_fit false c tag begun e fits = (tt, (tt, tt))
 
   asks_fit : (c : Connection) (tag : Tag) (name : List ℕ) (asking : Asking) → AllFitOf (asks ways conn c tag name asking)
   unfolding first_sent
   asks_fit c tag name asking =
       let begun = first_sent ways.recs ways.master ways.first (next_of conn c) c.session (to_begin name asking) in
-      begins_fit (is_up ways.ups begun.sent.to) c tag begun (first_fits c tag (to_begin name asking) asking.op refl)
+      begins_fit (is_up ways.ups begun.sent.to) c tag begun refl (first_fits c tag (to_begin name asking) asking.op refl)
 
-  begin_lists_fit : (up : Bool) (c : Connection) (tag : Tag) (listing : Listing) → AllFitOf (lists_if up ways.master conn c tag listing)
+  begin_lists_fit : (up : Bool) (c : Connection) (tag : Tag) (listing : Listing) → is_up ways.ups ways.master ≡ up
+      → AllFitOf (lists_if up ways.master conn c tag listing)
   unfolding told_now
-  begin_lists_fit true c tag listing = ((refl, refl, to_list tag listing refl), tt)
-  begin_lists_fit false c tag listing = (tt, (tt, tt))
+  begin_lists_fit true c tag listing e = (record { to = refl; is = refl; needed = to_list tag listing refl; up = e }, tt)
+  begin_lists_fit false c tag listing e = (tt, (tt, tt))
 
   lists_fit : (c : Connection) (tag : Tag) (listing : Listing) → AllFitOf (lists ways conn c tag listing)
-  lists_fit c tag listing = begin_lists_fit (is_up ways.ups ways.master) c tag listing
+  lists_fit c tag listing = begin_lists_fit (is_up ways.ups ways.master) c tag listing refl
 
   need_fits : (c : Connection) (tag : Tag) (need : Need) → AllFitOf (turned_by_need ways conn c tag need)
   unfolding turned_by_need told_now answers_last
@@ -199,7 +220,9 @@ module _ (taken : Option LinkMsg) (ways : Ways) (conn : ℕ) where
     -- the inputs that wait come behind what was let out
     free_fits : (c : Connection) (outs : List Out) → AllFit c outs → AllFit (record c { waiting = [] }) outs
     free_fits c [] fit = tt
-    free_fits c (Link node (Line bytes) ∷ outs) fit = (fit.0, free_fits c outs fit.1)
+    free_fits c (Link node (Line bytes) ∷ outs) fit =
+        let line = fit.0 in
+        (record { to = line.to; is = line.is; needed = line.needed; up = line.up }, free_fits c outs fit.1)
     free_fits c (out ∷ outs) fit = (tt, free_fits c outs fit.1)
 
     come_fits : (turned : Turned) → AllFitOf turned → AllFitOf (waiting_come setting ways conn turned)
@@ -213,10 +236,10 @@ module _ (taken : Option LinkMsg) (ways : Ways) (conn : ℕ) where
     refused_fits : (c : Connection) (tag : Tag) (refused : Refused) (node : List ℕ) → AllFitOf (refused_behind setting ways conn c tag refused node)
     refused_fits c tag refused node = (tt, (tt, inputs_fit (reading_again (record c { session = refused.session })) c.waiting))
 
-    sends_fit : (up : Bool) (c : Connection) (tag : Tag) (it : Waiting) (sent : Sent) → ThenFits c tag it (then.Sends sent)
+    sends_fit : (up : Bool) (c : Connection) (tag : Tag) (it : Waiting) (sent : Sent) → is_up ways.ups sent.to ≡ up → ThenFits c tag it (then.Sends sent)
         → AllFitOf (sends_if up setting ways conn c tag it sent)
-    sends_fit true c tag it sent fits = (fits, tt)
-    sends_fit false c tag it sent fits = refused_fits c tag (relocated c.session it.asking.awaited (unreached sent.to)) sent.to
+    sends_fit true c tag it sent e fits = (fits e, tt)
+    sends_fit false c tag it sent e fits = refused_fits c tag (relocated c.session it.asking.awaited (unreached sent.to)) sent.to
 
     behind_fits : (c : Connection) (tag : Tag) (how : How) (need : Need) → AllFitOf (need_behind setting ways conn c tag how need)
     behind_fits c tag how (needs.Reply reply) = (tt, (tt, inputs_fit (reading_again c) c.waiting))
@@ -227,7 +250,7 @@ module _ (taken : Option LinkMsg) (ways : Ways) (conn : ℕ) where
         come_fits (lists ways conn (record c { stage = Reading }) tag listing) (lists_fit (record c { stage = Reading }) tag listing)
 
     then_fits : (c : Connection) (tag : Tag) (it : Waiting) (what : Then) → ThenFits c tag it what → AllFitOf (by_then setting ways conn c tag it what)
-    then_fits c tag it (then.Sends sent) fits = sends_fit (is_up ways.ups sent.to) c tag it sent fits
+    then_fits c tag it (then.Sends sent) fits = sends_fit (is_up ways.ups sent.to) c tag it sent refl fits
     then_fits c tag it (then.Needs need) fits = behind_fits c tag Behind need
     then_fits c tag it (then.Refused cause reply) fits = (tt, (tt, inputs_fit (reading_again c) c.waiting))
     then_fits c tag it then.Lost fits = (tt, (tt, tt))
@@ -238,7 +261,7 @@ module _ (taken : Option LinkMsg) (ways : Ways) (conn : ℕ) where
     goes_on_fits : (c : Connection) (session : Sess) (tag : Tag) (it : Waiting) (what : AskFor) (why : Why) (found : Next)
         → IsBehind ways.recs ways.first what why found
         → ThenFits c tag (goes_on ways.master (next_of conn c) session it found).waiting (goes_on ways.master (next_of conn c) session it found).then
-    goes_on_fits c session tag it what why (next.Ask server) is = tt
+    goes_on_fits c session tag it what why (next.Ask server) is = λ up. tt
     goes_on_fits c session tag it what why (next.Barrier again) is = absurd is
     goes_on_fits c session tag it what why next.Missing is = needs_fit c tag it _
     goes_on_fits c session tag it what why found is = tt
@@ -272,8 +295,8 @@ module _ (taken : Option LinkMsg) (ways : Ways) (conn : ℕ) where
     answered_fits : (c : Connection) (session : Sess) (tag : Tag) (it : Waiting) (body : AnswerBody) → IsTaken c body
         → ThenFits c tag (answered ways.master (next_of conn c) session it body).waiting (answered ways.master (next_of conn c) session it body).then
     unfolding answered
-    answered_fits c session tag it answer_body.NotNow is = (refl, refl, is_put_off tag _ refl refl is)
-    answered_fits c session tag it (answer_body.Moved server) is = tt
+    answered_fits c session tag it answer_body.NotNow is = λ up. (record { to = refl; is = refl; needed = is_put_off tag _ refl refl is; up = up })
+    answered_fits c session tag it (answer_body.Moved server) is = λ up. tt
     answered_fits c session tag it (answer_body.Done outcome seen) is = needs_fit c tag it _
     answered_fits c session tag it (answer_body.Unreached node) is = tt
     answered_fits c session tag it answer_body.Lost is = tt
@@ -295,6 +318,36 @@ module _ (taken : Option LinkMsg) (ways : Ways) (conn : ℕ) where
         answer_by_fits c answer ((answer.id).command == c.answered + 1) c.stage
         (λ fits. is ∙ ap (λ n. named (record { conn = n; command = (answer.id).command })) own
         ∙ ap (λ n. named (record { conn = conn; command = n })) (eqb-true (answer.id).command (c.answered + 1) fits))
+
+    -- ---- the link to a node ends
+
+    at_end_fits : (c : Connection) (tag : Tag) (it : Waiting) (at : At) → AllFitOf (ends_at setting ways conn c tag it at)
+    at_end_fits c tag it (Home server) = (tt, (tt, tt))
+    at_end_fits c tag it (Barrier why) = refused_fits c tag (relocated c.session it.asking.awaited (unreached ways.master)) ways.master
+
+    pub end_fits : (c : Connection) (stage : Stage) → AllFitOf (end_by setting ways conn c stage)
+    unfolding end_by
+    end_fits c (Waits tag it) = at_end_fits c tag it it.at
+    end_fits c (Lists tag it) = refused_fits c tag (list_refused c.session) ways.master
+    end_fits c Reading = tt
+    end_fits c Ended = tt
+
+  -- where the link to the master is down, no line goes out
+  pub none_fit : (c : Connection) (outs : List Out) → is_up ways.ups ways.master ≡ false → AllFit c outs → AllByRecursion IsNoLine outs
+  none_fit c [] down fit = tt
+  none_fit c (out ∷ outs) down fit = (by out fit.0, none_fit c outs down fit.1)
+    where
+      by : (out : Out) → Fits c out → IsNoLine out
+      by (Link node (Line bytes)) line =
+          (let no : true ≡ false = sym (line.up) ∙ ap (is_up ways.ups) (line.to) ∙ down in cc)
+      by (Link node Up) line = tt
+      by (Link node End) line = tt
+      by (Link node (Ask ask)) line = tt
+      by (Link node (Answer answer)) line = tt
+      by (Client conn bytes) line = tt
+      by (Close conn) line = tt
+      by (Mark ask counts) line = tt
+      by (Told ask how) line = tt
 
 -- ---- a frontend
 
@@ -320,13 +373,13 @@ module _ (taken : Option LinkMsg) (front : Front) where
         → IsLetOut AnyClient (MaySay taken (with_turned front conn turned).front) ⊤ out
     out_says turned (Link node (Line bytes)) fits =
         let c = turned.connection in
-        let stays = stays_held c c.stage (holds_back taken (ways_of front) conn c.stage (next_of conn c) fits.2) in (
-          fits.0,
-          is_noop (next_of conn c) fits.1 (record {
+        let stays = stays_held c c.stage (holds_back taken (ways_of front) conn c.stage (next_of conn c) fits.needed) in (
+          fits.to,
+          is_noop (next_of conn c) fits.is (record {
             connection = c;
             there = value_at-with_value nat_cmp numbers_apart front.connections conn (released c) was there ∙ ap (λ r. Some r) stays;
             number = refl;
-            needed = fits.2;
+            needed = fits.needed;
           }),
         )
     out_says turned out fits = tt
@@ -403,22 +456,71 @@ module _ (taken : Option LinkMsg) (front : Front) where
   line_says bytes true = line_by_says bytes (barrier_answered bytes)
   line_says bytes false = tt
 
--- what is for clients alone
-mute_says : (taken : Option LinkMsg) (now : Front) (outs : List Out) → AllByRecursion IsForClient outs → AreLetOut AnyClient (MaySay taken now) ⊤ outs
-mute_says taken now [] are = tt
-mute_says taken now (Client conn bytes ∷ outs) are = (tt, mute_says taken now outs are.1)
-mute_says taken now (Close conn ∷ outs) are = (tt, mute_says taken now outs are.1)
-mute_says taken now (Link node message ∷ outs) are = absurd are.0
-mute_says taken now (Mark ask counts ∷ outs) are = absurd are.0
-mute_says taken now (Told ask how ∷ outs) are = absurd are.0
+-- ---- a link ends
 
--- a message that comes; of the master's link none ends
-pub message_says : (front : Front) (from : List ℕ) (message : LinkMsg) → (message ≡ End → from ≢ front.master)
-    → SaysRightly (Some message) (deliver front from message)
+module _ (taken : Option LinkMsg) (node : List ℕ) where
+  found_says : (front : Front) (conn : ℕ) (found : Option Connection) → is_up front.ups front.master ≡ false → AllByRecursion IsNoLine (end_at front conn found).outs
+  unfolding end_at
+  found_says front conn None down = tt
+  found_says front conn (Some c) down =
+      let turned = end_comes front.setting (ways_of front) conn c in
+      none_fit taken (ways_of front) conn turned.connection turned.outs down (end_fits taken (ways_of front) conn front.setting c c.stage)
+
+  if_says : (front : Front) (conn : ℕ) (waits : Bool) → is_up front.ups front.master ≡ false → AllByRecursion IsNoLine (end_if waits front conn).outs
+  if_says front conn true down = found_says front conn (connection_at front conn) down
+  if_says front conn false down = tt
+
+  all_say : (front : Front) (conns : List ℕ) → is_up front.ups front.master ≡ false → AllByRecursion IsNoLine (all_end front node conns).outs
+  unfolding all_end
+  all_say front [] down = tt
+  all_say front (conn ∷ conns) down =
+      let one = one_ends front node conn in
+      both IsNoLine one.outs (all_end one.front node conns).outs
+      (if_says front conn (awaited front.master (connection_at front conn) node) down)
+      (all_say one.front conns (ap (λ (w : Ways). is_up w.ups w.master) (one_ways front node conn) ∙ down))
+
+-- what is no line may go out
+none_says : (taken : Option LinkMsg) (now : Front) (outs : List Out) → AllByRecursion IsNoLine outs → AreLetOut AnyClient (MaySay taken now) ⊤ outs
+none_says taken now [] are = tt
+none_says taken now (Link node (Line bytes) ∷ outs) are = absurd are.0
+none_says taken now (Link node Up ∷ outs) are = (tt, none_says taken now outs are.1)
+none_says taken now (Link node End ∷ outs) are = (tt, none_says taken now outs are.1)
+none_says taken now (Link node (Ask ask) ∷ outs) are = (tt, none_says taken now outs are.1)
+none_says taken now (Link node (Answer answer) ∷ outs) are = (tt, none_says taken now outs are.1)
+none_says taken now (Client conn bytes ∷ outs) are = (tt, none_says taken now outs are.1)
+none_says taken now (Close conn ∷ outs) are = (tt, none_says taken now outs are.1)
+none_says taken now (Mark ask counts ∷ outs) are = (tt, none_says taken now outs are.1)
+none_says taken now (Told ask how ∷ outs) are = (tt, none_says taken now outs are.1)
+
+-- what is for clients alone is none
+mute_none : (outs : List Out) → AllByRecursion IsForClient outs → AllByRecursion IsNoLine outs
+mute_none [] are = tt
+mute_none (Client conn bytes ∷ outs) are = (tt, mute_none outs are.1)
+mute_none (Close conn ∷ outs) are = (tt, mute_none outs are.1)
+mute_none (Link node message ∷ outs) are = absurd are.0
+mute_none (Mark ask counts ∷ outs) are = absurd are.0
+mute_none (Told ask how ∷ outs) are = absurd are.0
+
+-- the master's link is down then, and behind another one's End only clients are given something
+master_says : (taken : Option LinkMsg) (front : Front) → IsInOrder (slice_cmp nat_cmp) front.ups
+    → AllByRecursion IsNoLine (end_from (without_up front front.master) front.master).outs
+master_says taken front order =
+    outs_all IsNoLine (all_end (without_up front front.master) front.master (keys_of front.connections)).outs
+    (all_say taken front.master (without_up front front.master) (keys_of front.connections) (down_goes front.ups front.master order))
+
+end_says : (taken : Option LinkMsg) (front : Front) (from : List ℕ) → IsInOrder (slice_cmp nat_cmp) front.ups → SaysRightly taken (end_from (without_up front from) from)
+end_says taken front from order =
+    none_says taken (end_from (without_up front from) from).front (end_from (without_up front from) from).outs
+    (⊎_elim
+    (λ (e : from ≡ front.master). subst (λ n. AllByRecursion IsNoLine (end_from (without_up front n) n).outs) (sym e) (master_says taken front order))
+    (λ (ne : from ≢ front.master). mute_none (end_from (without_up front from) from).outs (server_ends front from ne).outs)
+    (same_or_other (slice_cmp nat_cmp) names_apart from front.master))
+
+-- a message that comes; of the links that are up each stands there once
+pub message_says : (front : Front) (from : List ℕ) (message : LinkMsg) → IsInOrder (slice_cmp nat_cmp) front.ups → SaysRightly (Some message) (deliver front from message)
 unfolding deliver
-message_says front from (Answer answer) other = answer_says (Some (Answer answer)) front answer (waits_for (connection_at front (answer.id).conn) from) refl
-message_says front from Up other = up_says (Some Up) (with_up front from) (pointwise nat_eq from front.master) refl
-message_says front from End other =
-    mute_says (Some End) (end_from (without_up front from) from).front (end_from (without_up front from) from).outs (server_ends front from (other refl)).outs
-message_says front from (Line line) other = line_says (Some (Line line)) front line (pointwise nat_eq from front.master)
-message_says front from (Ask ask) other = tt
+message_says front from (Answer answer) order = answer_says (Some (Answer answer)) front answer (waits_for (connection_at front (answer.id).conn) from) refl
+message_says front from Up order = up_says (Some Up) (with_up front from) (pointwise nat_eq from front.master) refl
+message_says front from End order = end_says (Some End) front from order
+message_says front from (Line line) order = line_says (Some (Line line)) front line (pointwise nat_eq from front.master)
+message_says front from (Ask ask) order = tt

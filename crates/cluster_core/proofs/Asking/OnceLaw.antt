@@ -1,8 +1,8 @@
 -- In each step of a run one ask of a command goes out to a server where the command comes to wait for its answer, and else none.
-use Rattle.std.proofs.Common.{◌≡◌, ◌≢◌, ℕ, nat_eq, Bool, true, false, cond, ◌&&◌, List, [], ◌∷◌, ◌++◌, Option, None, Some, refl, sym, ◌∙◌, ap, subst, arith}
-use Rattle.std.specs.Prelude.{⊤, count_by, slice_get}
-use Rattle.std.specs.List.{AllByRecursion}
-use Rattle.std.specs.Cmp.Lexicographic.{pointwise, same_text}
+use Rattle.std.proofs.Common.{◌≡◌, ℕ, nat_eq, Bool, true, false, cond, ◌&&◌, List, [], ◌∷◌, ◌++◌, Option, None, Some, refl, sym, ◌∙◌, ap, subst, arith}
+use Rattle.std.specs.Prelude.{⊤, count_by}
+use Rattle.std.specs.Ordering.{nat_cmp}
+use Rattle.std.specs.Cmp.Lexicographic.{pointwise, same_text, slice_cmp}
 use Rattle.std.proofs.lemmas.Bool.{and_right}
 use Rattle.std.proofs.lemmas.List.{append-nil, append_cancel_left}
 use Rattle.feed_links.proofs.Names.{same_name}
@@ -19,6 +19,7 @@ use Rattle.link_queue.specs.Links.{on_link, same_link}
 use Rattle.link_queue.proofs.Wires.{same_itself, same_names}
 use Rattle.mark_history.proofs.Numbers.{count_cons}
 use Rattle.mark_history.proofs.Marks.{count_both}
+use Rattle.mur_base.specs.Map.{IsInOrder}
 use Rattle.mur_base.specs.declared.point.AskId.{AskId}
 use Rattle.mur_config.specs.declared.config.Config.{Config}
 use Rattle.mur_config.specs.Nodes.{AreNodes}
@@ -31,20 +32,20 @@ use Rattle.node_step.proofs.NodeKinds.{a_front}
 use Rattle.schedule_text.specs.declared.event.Event.{Event}
 use Rattle.schedule_text.specs.declared.event.Event.TheVariants.{Deliver}
 use Rattle.cluster_core.specs.declared.world.World.{World}
-use Rattle.cluster_core.specs.Flow.{run_steps, steps_of_run}
+use Rattle.cluster_core.specs.Flow.{run_steps}
 use Rattle.cluster_core.specs.Headline.Asks.{IsRightlySent, taken_by}
 use Rattle.cluster_core.specs.Headline.AsksOnce.{AsksAsItWaits, AsksInTheStep, AsksOnceEach, Awaits, ComesToWait, TakesMoved, is_ask_of}
 use Rattle.cluster_core.specs.Headline.OneNode.{leaves_on}
-use Rattle.cluster_core.specs.World.{front_at, master_of, node_at, start, steps_by}
+use Rattle.cluster_core.specs.World.{front_at, node_at, start, steps_by}
 use Rattle.cluster_core.proofs.Asking.Asked.{asked_in, count_one, is_asking}
 use Rattle.cluster_core.proofs.Asking.FrontAsked.{Comes, FrontAsks, IsAskedSo, IsMoved, bytes_ask, connect_asks, hang_asks, message_asks}
 use Rattle.cluster_core.proofs.Asking.FrontAsked.IsAskedSo.{is_asked, isnt_asked}
 use Rattle.cluster_core.proofs.Asking.NodeAsks.{back_asks, back_other, master_asks, master_other, taken_in}
 use Rattle.cluster_core.proofs.Asking.StepSends.{IsBrought, StepSends, all_sent, sent_to, step_sends}
 use Rattle.cluster_core.proofs.Asking.StepSends.StepSends.{is_away, rests, sends}
-use Rattle.cluster_core.proofs.Runs.NeverMoved.{WorldIsQuiet, never_moved}
+use Rattle.cluster_core.proofs.Links.StandLaw.{ups_in_order}
 use Rattle.cluster_core.proofs.Runs.OneNodeLaw.{one_more_step}
-use Rattle.cluster_core.proofs.Runs.QuietNodes.{AnyClient, IsQuietOn}
+use Rattle.cluster_core.proofs.Runs.QuietNodes.{AnyClient}
 
 -- ---- counts
 
@@ -103,18 +104,17 @@ record FrontSteps (front : Front) (input : NodeInput) : Type 0 where
   is : as_front (Some (front_takes front input).state) ≡ Some now
   asks : FrontAsks input front (record { front = now; outs = (front_takes front input).outs })
 
--- no link with this node ended
-abbrev EndsNone : List ℕ → NodeInput → Type 0
-EndsNone master (From name message) = message ≡ End → name ≢ master
-EndsNone master input = ⊤
+-- of the links that it has as up each stands there once
+abbrev HasUps : Front → Type 0
+HasUps front = IsInOrder (slice_cmp nat_cmp) front.ups
 
-front_steps : (front : Front) (input : NodeInput) → EndsNone front.master input → FrontSteps front input
+front_steps : (front : Front) (input : NodeInput) → HasUps front → FrontSteps front input
 unfolding front_takes as_front
-front_steps front (Opened conn) none = record { now = (connect front conn).front; is = refl; asks = connect_asks front conn }
-front_steps front (Piece conn bytes) none = record { now = (bytes_in front conn bytes).front; is = refl; asks = bytes_ask front conn bytes }
-front_steps front (Hung conn) none = record { now = hang front conn; is = refl; asks = hang_asks front conn }
-front_steps front (From name message) none =
-    record { now = (deliver front name message).front; is = refl; asks = message_asks front name message none }
+front_steps front (Opened conn) order = record { now = (connect front conn).front; is = refl; asks = connect_asks front conn }
+front_steps front (Piece conn bytes) order = record { now = (bytes_in front conn bytes).front; is = refl; asks = bytes_ask front conn bytes }
+front_steps front (Hung conn) order = record { now = hang front conn; is = refl; asks = hang_asks front conn }
+front_steps front (From name message) order =
+    record { now = (deliver front name message).front; is = refl; asks = message_asks front name message order }
 
 -- ---- a step
 
@@ -168,29 +168,27 @@ module _ (world next : World) (event : Event) (node server : List ℕ) (id : Ask
     by_front outs (is_asked comes one) = record { once = λ c. one; never = λ none. absurd (none (comes_here comes)) }
     by_front outs (isnt_asked none zero) = none_comes (asked_in id server outs) (λ comes. none (comes_there comes)) zero
 
-  -- of a frontend's master none did
-  abbrev EndsNoneOf : NodeState → NodeInput → Type 0
-  EndsNoneOf (state.Front front) input = EndsNone front.master input
-  EndsNoneOf it input = ⊤
+  abbrev HasUpsIn : NodeState → Type 0
+  HasUpsIn (state.Front front) = HasUps front
+  HasUpsIn it = ⊤
 
-  by_node : (it : NodeState) (input : NodeInput) → EndsNoneOf it input → node_at world node ≡ Some it → IsBrought event node input
+  by_node : (it : NodeState) (input : NodeInput) → HasUpsIn it → node_at world node ≡ Some it → IsBrought event node input
       → taken_by event world ≡ taken_in input → node_at next node ≡ Some (node_takes it input).state
       → AsksAsItWaits event world next node server id (asked_in id server (node_takes it input).outs)
   unfolding node_takes
-  by_node (state.Front front) input none there brought taken then =
-      let steps = front_steps front input none in
+  by_node (state.Front front) input order there brought taken then =
+      let steps = front_steps front input order in
       by_front front steps.now input (ap as_front there ∙ a_front front) (ap as_front then ∙ steps.is) brought taken _ (steps.asks id server)
-  by_node (state.Back home) input none there brought taken then =
+  by_node (state.Back home) input order there brought taken then =
       none_comes _ (λ comes. nobody_waits (front_at next node) id server (ap as_front then ∙ back_other home input) comes.waits)
       (none_asked id server _ (back_asks [] None None refl home input))
-  by_node (state.Master master) input none there brought taken then =
+  by_node (state.Master master) input order there brought taken then =
       none_comes _ (λ comes. nobody_waits (front_at next node) id server (ap as_front then ∙ master_other master input) comes.waits)
       (none_asked id server _ (master_asks [] None None refl master input))
 
   -- what was sent is this
   module _ (sent : List LinkMsg) (whole : is_broken world.broken node server ≡ false)
-      (ends : (it : NodeState) (input : NodeInput) → node_at world node ≡ Some it → IsBrought event node input → taken_by event world ≡ taken_in input
-      → EndsNoneOf it input)
+      (order : (it : NodeState) → node_at world node ≡ Some it → HasUpsIn it)
       (behind : on_link next.links node server ≡ leaves_on event node server (on_link world.links node server) ++ sent) where
     it_is : (more : List LinkMsg) → on_link next.links node server ≡ leaves_on event node server (on_link world.links node server) ++ more → more ≡ sent
     it_is more is = append_cancel_left (leaves_on event node server (on_link world.links node server)) more sent (sym is ∙ behind)
@@ -211,46 +209,22 @@ module _ (world next : World) (event : Event) (node server : List ℕ) (id : Ask
         subst (AsksAsItWaits event world next node server id)
         (sym (sent_count node server id (node_takes it input).outs)
         ∙ ap (count_by (is_ask_of id)) (it_is (all_sent node server (node_takes it input).outs) (links server whole)))
-        (by_node it input (ends it input there brought taken) there brought taken then)
+        (by_node it input (order it there) there brought taken then)
 
--- what the node takes ends no link with its master
-abbrev EndsRightly : World → Event → Type 0
-EndsRightly world event = (node : List ℕ) (front : Front) (name : List ℕ) → front_at world node ≡ Some front → event ≡ Deliver name node
-    → taken_by event world ≡ Some End → name ≢ front.master
+-- each frontend is so
+abbrev HaveUps : World → Type 0
+HaveUps world = (node : List ℕ) (front : Front) → front_at world node ≡ Some front → HasUps front
 
-step_asks : (world : World) (event : Event) → EndsRightly world event → AsksInTheStep event world (steps_by world event)
-step_asks world event rightly node server sent id is whole behind =
-    by_sends world (steps_by world event) event node server id sent whole ends behind (step_sends world event node is)
+step_asks : (world : World) (event : Event) → HaveUps world → AsksInTheStep event world (steps_by world event)
+step_asks world event order node server sent id is whole behind =
+    by_sends world (steps_by world event) event node server id sent whole each behind (step_sends world event node is)
   where
-    ends : (it : NodeState) (input : NodeInput) → node_at world node ≡ Some it → IsBrought event node input → taken_by event world ≡ taken_in input
-        → EndsNoneOf world (steps_by world event) event node server id it input
-    ends (state.Front front) (From name message) there brought taken = λ e.
-        rightly node front name (ap as_front there ∙ a_front front) brought (taken ∙ ap (λ m. Some m) e)
-    ends (state.Front front) (Opened conn) there brought taken = tt
-    ends (state.Front front) (Piece conn bytes) there brought taken = tt
-    ends (state.Front front) (Hung conn) there brought taken = tt
-    ends (state.Back home) input there brought taken = tt
-    ends (state.Master master) input there brought taken = tt
+    each : (it : NodeState) → node_at world node ≡ Some it → HasUpsIn world (steps_by world event) event node server id it
+    each (state.Front front) there = order node front (ap as_front there ∙ a_front front)
+    each (state.Back home) there = tt
+    each (state.Master master) there = tt
 
--- no link of the master ends in a run
-first_no_end : (master from to : List ℕ) (queue : List LinkMsg) → AllByRecursion (IsQuietOn master from to) queue → slice_get queue 0 ≡ Some End
-    → from ≢ master
-first_no_end master from to [] all e = cc
-first_no_end master from to (message ∷ queue) all e = (let same : message ≡ End = cc in (subst (IsQuietOn master from to) same all.0).0)
-
-ends_rightly : (config : Config) (world : World) (event : Event) → WorldIsQuiet (master_of config) world
-    → ((node : List ℕ) (front : Front) → front_at world node ≡ Some front → front.master ≡ master_of config) → EndsRightly world event
-ends_rightly config world event quiet masters node front name there is ended same =
-    first_no_end (master_of config) name node (on_link world.links name node) (quiet.links name node)
-    (sym (ap (λ (e : Event). taken_by e world) is) ∙ ended) (same ∙ masters node front there)
-
--- each frontend has the master of the configuration, behind each of these steps of a run
-abbrev pub HaveMaster : Config → List Event → Type 0
-HaveMaster config steps = (before later : List Event) → steps ≡ before ++ later → (node : List ℕ) (front : Front)
-    → front_at (run_steps (start config) before) node ≡ Some front → front.master ≡ master_of config
-
-pub asks_once : (config : Config) (events : List Event) → AreNodes config.nodes → HaveMaster config (steps_of_run config events) → AsksOnceEach config events
-asks_once config events are have before event later parts =
+pub asks_once : (config : Config) (events : List Event) → AreNodes config.nodes → AsksOnceEach config events
+asks_once config events are before event later parts =
     let world = run_steps (start config) before in
-    subst (AsksInTheStep event world) (sym (one_more_step (start config) before event))
-    (step_asks world event (ends_rightly config world event (never_moved config before are) (have before (event ∷ later) parts)))
+    subst (AsksInTheStep event world) (sym (one_more_step (start config) before event)) (step_asks world event (ups_in_order config before are))

@@ -7,6 +7,7 @@ use Rattle.std.specs.Cmp.Lexicographic.{pointwise, same_text}
 use Rattle.asking_core.specs.declared.waiting.At.{At}
 use Rattle.asking_core.specs.declared.waiting.At.TheVariants.{Home, Barrier}
 use Rattle.feed_links.proofs.FeedLaw.{both}
+use Rattle.front_core.proofs.AskOrder.{outs_all}
 use Rattle.front_core.specs.Answered.{end_by, end_comes, ends_at}
 use Rattle.front_core.specs.Ended.{released, released_at}
 use Rattle.front_core.specs.declared.connection.Connection.{Connection}
@@ -131,4 +132,8 @@ all_end_so front node ne (conn ∷ conns) =
 pub server_ends : (front : Front) (node : List ℕ) → node ≢ front.master → OnlyEnds node front (end_from (without_up front node) node)
 server_ends front node ne =
     let its = all_end_so (without_up front node) node ne (keys_of front.connections) in
-    record { connections = its.connections; outs = its.outs; master = its.master }
+    record {
+      connections = its.connections;
+      outs = outs_all IsForClient (all_end (without_up front node) node (keys_of front.connections)).outs its.outs;
+      master = its.master;
+    }

@@ -7,12 +7,13 @@ use Rattle.front_core.specs.Ending.{EndsOnlyLast}
 use Rattle.front_core.proofs.OneConnection.LastAnswer.{none_given}
 use Rattle.front_core.proofs.OneConnection.Places.{nowhere_on_empty, of_connection}
 use Rattle.front_core.proofs.OneConnection.Readings.{inputs_in}
-use Rattle.asking_core.specs.declared.waiting.At.TheVariants.{Home}
+use Rattle.asking_core.specs.declared.waiting.At.{At}
+use Rattle.asking_core.specs.declared.waiting.At.TheVariants.{Home, Barrier}
 use Rattle.asking_core.specs.declared.waiting.Waiting.{Waiting}
-use Rattle.front_core.specs.Front.{connection_at, waits_for}
-use Rattle.front_core.specs.Stages.{asks_at, has_asked}
+use Rattle.front_core.specs.Front.{awaited, connection_at}
+use Rattle.front_core.specs.Stages.{awaits, waits_at}
 use Rattle.front_core.specs.Ups.{is_up}
-use Rattle.front_core.specs.declared.connection.Stage.TheVariants.{Waits}
+use Rattle.front_core.specs.declared.connection.Stage.TheVariants.{Lists, Waits}
 use Rattle.front_core.specs.declared.front.Front.{Front}
 use Rattle.front_core.specs.declared.connection.Connection.{Connection}
 use Rattle.imap_talk.specs.Heard.{Heard, bytes_heard, elsewhere, frames_heard, has_closed}
@@ -44,10 +45,10 @@ use Rattle.cluster_core.specs.LawSetting.{law_setting}
 use Rattle.cluster_core.specs.declared.world.World.{World}
 use Rattle.cluster_core.specs.Headline.OneStore.{AreEmpty, IsAnsweredThrough}
 use Rattle.cluster_core.specs.Shown.{given_by, given_to}
-use Rattle.cluster_core.specs.World.{client_at, front_at, home_at}
+use Rattle.cluster_core.specs.World.{client_at, front_at, home_at, master_of}
 use Rattle.cluster_core.proofs.Commands.Knows.{Knows, KnowsNames}
 use Rattle.cluster_core.proofs.Commands.Knows.Knows.{undecided, is_decided}
-use Rattle.cluster_core.proofs.Commands.Knows.KnowsNames.{not_yet, is_listed}
+use Rattle.cluster_core.proofs.Commands.Knows.KnowsNames.{not_yet, is_gone, is_listed}
 use Rattle.cluster_core.proofs.Commands.Place.{Place, at_backend, its_message, Place as place}
 use Rattle.cluster_core.proofs.Commands.Released.{stands_last}
 use Rattle.cluster_core.proofs.Commands.Standing.{Stands, Waiting as WaitsHere, WaitsAt, next_id}
@@ -113,71 +114,100 @@ module _ (config : Config) (heard : ℕ → Heard) (world : World) (law : KeepsL
       not_empty (message ∷ before) e = cc
   none_down queue up none is_up (has_ended is down) = (let no : false ≡ true = sym down ∙ is_up in cc)
 
-  none_dropped : (node server : List ℕ) (front : Front) (conn : ℕ) → front_at world node ≡ Some front → is_broken world.broken server node ≡ true
-      → waits_for (connection_at front conn) server ≡ true → ⊥
-  none_dropped node server front conn at cut asked =
-      none_down (on_link world.links server node) (is_up front.ups server) (empty server node) (links.waits_up node server front conn at asked)
+  none_awaited : (node server : List ℕ) (front : Front) (conn : ℕ) → front_at world node ≡ Some front → is_broken world.broken server node ≡ true
+      → awaited (master_of config) (connection_at front conn) server ≡ true → ⊥
+  none_awaited node server front conn at cut waits =
+      none_down (on_link world.links server node) (is_up front.ups server) (empty server node) (links.waits_up node server front conn at waits)
       (links.down node server front at cut)
 
   -- its frontend waits for the answer of the server to which it was dropped
-  waits_dropped : (connection : Connection) (tag : Tag) (it : Waiting) (server : List ℕ) → connection.stage ≡ Waits tag it → it.at ≡ Home server
-      → waits_for (Some connection) server ≡ true
-  unfolding waits_for has_asked
-  waits_dropped connection tag it server stage at =
-      ap (λ s. has_asked s server) stage ∙ ap (λ a. asks_at a server) at ∙ bytes_itself server
+  awaits_dropped : (connection : Connection) (tag : Tag) (it : Waiting) (server : List ℕ) → connection.stage ≡ Waits tag it → it.at ≡ Home server
+      → awaited (master_of config) (Some connection) server ≡ true
+  unfolding awaited awaits
+  awaits_dropped connection tag it server stage at =
+      ap (λ s. awaits (master_of config) s server) stage ∙ ap (λ a. waits_at (master_of config) a server) at ∙ bytes_itself server
 
-  -- of a command's place nothing is known, unless it was dropped
-  NotDropped : Place → Type 0
-  NotDropped here = (server : List ℕ) → here ≡ place.is_dropped server → ⊥
+  -- or for the master's OK, where that or its NOOP is gone with the link
+  at_master : (at : At) → WaitsAt at (place.is_barred barrier.nowhere) → waits_at (master_of config) at (master_of config) ≡ true
+  at_master (Home server) is = absurd is
+  at_master (Barrier why) is = bytes_itself (master_of config)
+
+  awaits_master : (connection : Connection) (tag : Tag) (it : Waiting) → connection.stage ≡ Waits tag it → WaitsAt it.at (place.is_barred barrier.nowhere)
+      → awaited (master_of config) (Some connection) (master_of config) ≡ true
+  unfolding awaited awaits
+  awaits_master connection tag it stage is = ap (λ s. awaits (master_of config) s (master_of config)) stage ∙ at_master it.at is
+
+  lists_master : (connection : Connection) (tag : Tag) (listing : Listing) → connection.stage ≡ Lists tag listing
+      → awaited (master_of config) (Some connection) (master_of config) ≡ true
+  unfolding awaited awaits
+  lists_master connection tag listing stage = ap (λ s. awaits (master_of config) s (master_of config)) stage ∙ bytes_itself (master_of config)
+
+  -- of a command's place nothing is known, unless its message is gone with a link
+  NotGone : Place → Type 0
+  NotGone here = ((server : List ℕ) → here ≡ place.is_dropped server → ⊥) × (here ≡ place.is_barred barrier.nowhere → ⊥)
 
   none_knows : (front : List ℕ) (replica : Replica) (id : AskId) (here : Place) (c : ClientCommand) (tag : Tag) (told said : List Answer) (session : Sess)
-      → NotDropped here → IsInPlaceOf (fixed_of config) world front replica id here → its_message (fixed_of config).master front id here ≡ None
+      → NotGone here → IsInPlaceOf (fixed_of config) world front replica id here → its_message (fixed_of config).master front id here ≡ None
       → Knows (fixed_of config).master (fixed_of config).first front c tag told said session here → ⊥
-  unfolding NotDropped
+  unfolding NotGone
   none_knows front replica id place.nowhere c tag told said session kept placed none (undecided a b so) = so
   none_knows front replica id place.nowhere c tag told said session kept placed none (is_decided turn a b d so) = so
   none_knows front replica id (place.is_asked server ask) c tag told said session kept placed none knows = cc
   none_knows front replica id (place.is_answered server answer) c tag told said session kept placed none knows = cc
-  none_knows front replica id (place.is_dropped server) c tag told said session kept placed none knows = kept server refl
+  none_knows front replica id (place.is_dropped server) c tag told said session kept placed none knows = kept.0 server refl
   none_knows front replica id (place.is_at me name_at.nowhere) c tag told said session kept placed none (undecided a b so) = so
   none_knows front replica id (place.is_at me name_at.nowhere) c tag told said session kept placed none (is_decided turn a b d so) = so
   none_knows front replica id (place.is_at me (name_at.waits ask)) c tag told said session kept placed none knows = none_at front replica id me ask placed
   none_knows front replica id (place.is_at me (name_at.sends name flow)) c tag told said session kept placed none knows = cc
   none_knows front replica id (place.is_at me (name_at.hears name flow it)) c tag told said session kept placed none knows = cc
-  none_knows front replica id (place.is_barred barrier.nowhere) c tag told said session kept placed none (undecided a b so) = so
-  none_knows front replica id (place.is_barred barrier.nowhere) c tag told said session kept placed none (is_decided turn a b d so) = so
+  none_knows front replica id (place.is_barred barrier.nowhere) c tag told said session kept placed none knows = kept.1 refl
   none_knows front replica id (place.is_barred barrier.asked) c tag told said session kept placed none knows = cc
   none_knows front replica id (place.is_barred (barrier.answered table)) c tag told said session kept placed none knows = cc
 
   none_lists : (front : List ℕ) (id : AskId) (here : Place) (tag : Tag) (it : Listing) (was : Sess) (told said : List Answer) (session : Sess)
-      → its_message (fixed_of config).master front id here ≡ None → KnowsNames tag it was told said session here → ⊥
-  none_lists front id here tag it was told said session none (not_yet a b at) =
+      → (here ≡ place.is_barred barrier.nowhere → ⊥) → its_message (fixed_of config).master front id here ≡ None
+      → KnowsNames tag it was told said session here → ⊥
+  none_lists front id here tag it was told said session kept none (is_gone a b at) = kept at
+  none_lists front id here tag it was told said session kept none (not_yet a b at) =
       let no : its_message (fixed_of config).master front id (place.is_barred barrier.asked) ≡ None =
       ap (its_message (fixed_of config).master front id) (sym at) ∙ none in cc
-  none_lists front id here tag it was told said session none (is_listed table a b at) =
+  none_lists front id here tag it was told said session kept none (is_listed table a b at) =
       let no : its_message (fixed_of config).master front id (place.is_barred (barrier.answered table)) ≡ None =
       ap (its_message (fixed_of config).master front id) (sym at) ∙ none in cc
 
   -- a client that hasn't closed its connection was answered in all, or its session has ended
   module _ (node : List ℕ) (front : Front) (conn : ℕ) (connection : Connection) (at : IsAt world conn node front connection) where
-    no_waiting : (inputs : List Input) (held : Option (List ℕ)) (told said : List Answer) (session : Sess) (here : Place) → IsDroppedAt world node here
-        → WaitsHere (fixed_of config) node conn inputs held connection told said session here → NotDropped here
-    unfolding NotDropped
-    no_waiting inputs held told said session here dropped waiting server is =
-        let waits_at : WaitsAt waiting.c.waiting.at (place.is_dropped server) = subst (WaitsAt waiting.c.waiting.at) is waiting.at in
-        none_dropped node server front conn at.at (subst (IsDroppedAt world node) is dropped)
-        (ap (λ found. waits_for found server) at.has ∙ waits_dropped connection waiting.tag waiting.c.waiting server waiting.stage waits_at)
+    -- nobody waits over a broken link
+    waits_over : (server : List ℕ) → is_broken world.broken server node ≡ true → awaited (master_of config) (Some connection) server ≡ true → ⊥
+    waits_over server cut waits =
+        none_awaited node server front conn at.at cut (ap (λ found. awaited (master_of config) found server) at.has ∙ waits)
+
+    no_waiting : (inputs : List Input) (held : Option (List ℕ)) (told said : List Answer) (session : Sess) (here : Place)
+        → IsDroppedAt (master_of config) world node here
+        → WaitsHere (fixed_of config) node conn inputs held connection told said session here → NotGone here
+    unfolding NotGone
+    no_waiting inputs held told said session here dropped waiting = (
+      λ server is.
+          waits_over server (subst (IsDroppedAt (master_of config) world node) is dropped)
+          (awaits_dropped connection waiting.tag waiting.c.waiting server waiting.stage (subst (WaitsAt waiting.c.waiting.at) is waiting.at)),
+      λ is.
+          waits_over (master_of config) (subst (IsDroppedAt (master_of config) world node) is dropped)
+          (awaits_master connection waiting.tag waiting.c.waiting waiting.stage (subst (WaitsAt waiting.c.waiting.at) is waiting.at)),
+    )
 
     none_waits : (replica : Replica) (id : AskId) (inputs : List Input) (held : Option (List ℕ)) (told said : List Answer) (session : Sess) (here : Place)
-        → IsInPlaceOf (fixed_of config) world node replica id here → IsDroppedAt world node here
+        → IsInPlaceOf (fixed_of config) world node replica id here → IsDroppedAt (master_of config) world node here
         → Stands (fixed_of config) node conn inputs held connection told said session here → IsAnsweredThrough (requests_in inputs) told
     none_waits replica id inputs held told said session here placed dropped (reads a b c d e f at) = inl (sym (answered_lengths inputs told e))
     none_waits replica id inputs held told said session here placed dropped (waits waiting) =
         absurd (none_knows node replica id here waiting.c waiting.tag told said session (no_waiting inputs held told said session here dropped waiting) placed
-        (nowhere_on_empty world.links (of_connection id.conn) (its_message (fixed_of config).master node id here) empty placed.message) waiting.knows)
+        (nowhere_on_empty id.command world.links (of_connection id.conn) (its_message (fixed_of config).master node id here) empty placed.message) waiting.knows)
     none_waits replica id inputs held told said session here placed dropped (lists waiting) =
         absurd (none_lists node id here waiting.tag waiting.listing connection.session told said session
-        (nowhere_on_empty world.links (of_connection id.conn) (its_message (fixed_of config).master node id here) empty placed.message) waiting.knows)
+        (λ is.
+        waits_over (master_of config) (subst (IsDroppedAt (master_of config) world node) is dropped)
+        (lists_master connection waiting.tag waiting.listing waiting.stage))
+        (nowhere_on_empty id.command world.links (of_connection id.conn) (its_message (fixed_of config).master node id here) empty placed.message) waiting.knows)
     none_waits replica id inputs held told said session here placed dropped (faulted a b c d e at) = inl (sym c)
     none_waits replica id inputs held told said session here placed dropped (finished passed more asking before last a b c d e f at) =
         inr (subst (λ t. list_any (λ (answer : Answer). ends answer.reply) t ≡ true) (sym d) (last_ends before last e))

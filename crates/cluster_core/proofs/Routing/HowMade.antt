@@ -1,11 +1,11 @@
 -- How each mark of a run was made: a step works on its command, or the frontend of its client tells it.
 use Rattle.std.proofs.Common.{◌≡◌, ℕ, ◌+◌, false, List, [], ◌∷◌, ◌++◌, length, Option, None, Some, refl, sym, ◌∙◌, ap, subst, append_assoc, get_or}
 use Rattle.std.specs.Prelude.{All}
-use Rattle.std.specs.List.{AllByRecursion}
 use Rattle.std.proofs.lemmas.List.{append-nil}
 use Rattle.std.proofs.lemmas.List.Elements.{All-append, All-nil}
 use Rattle.front_core.specs.declared.connection.Connection.{Connection}
-use Rattle.front_core.specs.Front.{connection_at}
+use Rattle.front_core.specs.Front.{connection_at, deliver}
+use Rattle.front_core.specs.Ups.{is_up}
 use Rattle.front_core.specs.declared.front.Front.{Front}
 use Rattle.imap_types.specs.declared.op.Op.{Op}
 use Rattle.imap_types.specs.declared.op.Op.TheVariants.{Create, Delete}
@@ -26,7 +26,7 @@ use Rattle.node_step.specs.declared.input.NodeInput.{NodeInput}
 use Rattle.node_step.specs.declared.input.NodeInput.TheVariants.{Opened, Piece, Hung, From}
 use Rattle.node_step.specs.declared.node.NodeState.{NodeState}
 use Rattle.node_step.specs.declared.node.NodeState.TheVariants as state
-use Rattle.node_step.specs.NodeStep.{as_back, as_front, as_master, takes as node_takes}
+use Rattle.node_step.specs.NodeStep.{as_back, as_front, as_master, front_takes, takes as node_takes}
 use Rattle.node_step.proofs.NodeKinds.{a_front}
 use Rattle.schedule_text.specs.declared.event.Event.{Event}
 use Rattle.schedule_text.specs.declared.event.Event.TheVariants.{Deliver}
@@ -35,9 +35,11 @@ use Rattle.master_core.specs.declared.master.Master.{Master}
 use Rattle.cluster_core.specs.declared.world.World.{World}
 use Rattle.cluster_core.specs.Flow.{run_steps}
 use Rattle.cluster_core.specs.Headline.OneNode.{node_of, worker}
-use Rattle.cluster_core.specs.Headline.Routing.{IsAtItsNode, IsRefusedThere, IsStepOf, Taken, is_of_name}
+use Rattle.cluster_core.specs.Headline.Routing.{HasDown, IsAtItsNode, IsRefusedThere, IsStepOf, Taken, is_of_name}
+use Rattle.cluster_core.specs.Headline.Routing.HasDown.{goes_down, was_down}
 use Rattle.cluster_core.specs.Headline.Routing.IsStepOf.{at_home, at_master}
-use Rattle.cluster_core.specs.World.{client_at, master_of, node_at, start, steps_by}
+use Rattle.cluster_core.specs.World.{client_at, front_at, node_at, start, steps_by}
+use Rattle.cluster_core.proofs.Links.StandLaw.{ups_in_order}
 use Rattle.cluster_core.proofs.Runs.OneNodeLaw.{one_more_step}
 use Rattle.cluster_core.proofs.Runs.OwnClientsLaw.{run_own, start_own}
 use Rattle.cluster_core.proofs.Nodes.Carried.{marks_made}
@@ -51,10 +53,8 @@ use Rattle.cluster_core.proofs.Routing.NodeMarks.MarkIs.{by_home, by_master, by_
 use Rattle.cluster_core.proofs.Routing.StepMarks.{ComesBy, StepMarks, step_marks}
 use Rattle.cluster_core.proofs.Routing.StepMarks.ComesBy.{a_message, of_client}
 use Rattle.cluster_core.proofs.Routing.StepMarks.StepMarks.{no_marks, works}
-use Rattle.cluster_core.proofs.Routing.Unreached.{IsDownMark, IsPlainAt, IsPlainFor, down_marks}
+use Rattle.cluster_core.proofs.Routing.Unreached.{IsDownMark, IsPlainAt, IsPlainFor, down_marks, ends_ups, ups_in}
 use Rattle.cluster_core.proofs.Routing.Works.{answer_is_plain, backend_is}
-use Rattle.cluster_core.proofs.Runs.NeverMoved.{never_moved}
-use Rattle.cluster_core.proofs.Runs.QuietNodes.{IsQuietOn}
 
 -- a frontend answered the command alone, in this step
 pub record IsToldAlone (config : Config) (steps : List Event) (made : Mark) : Type 0 where
@@ -112,28 +112,52 @@ module _ (config : Config) (are : AreNodes config.nodes) (steps : List Event) wh
     worker_is _ (a_message from message rest is first) = ap (worker world) is
     worker_is _ (of_client input at of) = at
 
-    mark_is : (made : Mark) (input : NodeInput) → ComesBy world event node input → made.step ≡ length before + 1 → IsDownMark it made → MarkIs it input made
-        → IsMadeSo config steps made
-    mark_is made _ (a_message from message rest is first) step down (by_home home name ask counts at same none its kind) =
+    front_is_there : (front : Front) → it ≡ state.Front front → front_at world node ≡ Some front
+    front_is_there front is = ap as_front (there ∙ ap (λ i. Some i) is) ∙ a_front front
+
+    -- the world behind the step
+    abbrev behind : World
+    behind = run_steps (start config) (before ++ event ∷ [])
+
+    behind_end : (front : Front) (name : List ℕ) → as_front (Some (node_takes (state.Front front) (From name End)).state) ≡ Some (deliver front name End).front
+    unfolding node_takes front_takes as_front
+    behind_end front name = refl
+
+    -- a frontend has a link as down before the step, or where it takes its End behind it
+    down_by : (front : Front) (input : NodeInput) → it ≡ state.Front front → node_at behind node ≡ Some (node_takes it input).state → (other : List ℕ)
+        → is_up (ups_in front input) other ≡ false → HasDown world behind node other
+    down_by front (From name End) is then other down =
+        goes_down (deliver front name End).front
+        (ap as_front then ∙ ap (λ i. as_front (Some (node_takes i (From name End)).state)) is ∙ behind_end front name)
+        (ap (λ u. is_up u other) (ends_ups front name) ∙ down)
+    down_by front (From name Up) is then other down = was_down front (front_is_there front is) down
+    down_by front (From name (Line line)) is then other down = was_down front (front_is_there front is) down
+    down_by front (From name (Ask ask)) is then other down = was_down front (front_is_there front is) down
+    down_by front (From name (Answer answer)) is then other down = was_down front (front_is_there front is) down
+    down_by front (Opened conn) is then other down = was_down front (front_is_there front is) down
+    down_by front (Piece conn bytes) is then other down = was_down front (front_is_there front is) down
+    down_by front (Hung conn) is then other down = was_down front (front_is_there front is) down
+
+    mark_is : (made : Mark) (input : NodeInput) → ComesBy world event node input → node_at behind node ≡ Some (node_takes it input).state
+        → made.step ≡ length before + 1 → IsDownMark it input made → MarkIs it input made → IsMadeSo config steps made
+    mark_is made _ (a_message from message rest is first) then step down (by_home home name ask counts at same none its kind) =
         is_taken counts kind (taken_so from message rest is first)
         (at_home ask (same_input same) (sym its) (no_name ask.op none)
         (backend_is config (λ conn. heard config conn before) world are law node home
         (home_there (node_at world node) home (there ∙ ap (λ i. Some i) at)))) step
-    mark_is made _ (a_message from message rest is first) step down (by_master master name line counts at same its kind) =
+    mark_is made _ (a_message from message rest is first) then step down (by_master master name line counts at same its kind) =
         is_taken counts kind (taken_so from message rest is first)
         (at_master line (same_input same) its
         (law.nodes.only node master (master_there (node_at world node) master (there ∙ ap (λ i. Some i) at)))) step
-    mark_is made _ (of_client input comes of) step down (by_home home name ask counts at same none its kind) = absurd (subst IsOfClient same of)
-    mark_is made _ (of_client input comes of) step down (by_master master name line counts at same its kind) = absurd (subst IsOfClient same of)
-    mark_is made input comes step down (by_front front how at kind so refuses) =
+    mark_is made _ (of_client input comes of) then step down (by_home home name ask counts at same none its kind) = absurd (subst IsOfClient same of)
+    mark_is made _ (of_client input comes of) then step down (by_master master name line counts at same its kind) = absurd (subst IsOfClient same of)
+    mark_is made input comes then step down (by_front front how at kind so refuses) =
         is_told how kind (λ here. told_alone (so here))
         (λ other unreached.
         let has = refuses other unreached in
         record {
           at = its_node has.connection has.at;
-          front = front;
-          is = ap as_front is_front ∙ a_front front;
-          down = subst (λ i. IsDownMark i made) at down other (kind ∙ ap Told unreached);
+          down = down_by front input at then other (subst (λ i. IsDownMark i input made) at down other (kind ∙ ap Told unreached));
         })
       where
         is_front : node_at world node ≡ Some (state.Front front)
@@ -165,9 +189,7 @@ module _ (config : Config) (are : AreNodes config.nodes) (steps : List Event) wh
     plain_at : (front : Front) (input : NodeInput) → it ≡ state.Front front → ComesBy world event node input → IsPlainAt front input
     plain_at front _ same (a_message from (Answer answer) rest is first) =
         answer_is_plain config (λ conn. heard config conn before) world law from node answer rest first
-    plain_at front _ same (a_message from End rest is first) =
-        λ e. (subst (AllByRecursion (IsQuietOn (master_of config) from node)) first ((never_moved config before are).links from node)).0.0
-        (e ∙ (law.nodes.fronts node front (ap as_front (there ∙ ap (λ i. Some i) same) ∙ a_front front)).master_is)
+    plain_at front _ same (a_message from End rest is first) = ups_in_order config before are node front (front_is_there front same)
     plain_at front _ same (a_message from Up rest is first) = tt
     plain_at front _ same (a_message from (Line line) rest is first) = tt
     plain_at front _ same (a_message from (Ask ask) rest is first) = tt
@@ -188,14 +210,16 @@ module _ (config : Config) (are : AreNodes config.nodes) (steps : List Event) wh
   AllMade marks = All (IsMadeSo config steps) marks
 
   after_step : (before : List Event) (event : Event) (later : List Event) → steps ≡ before ++ event ∷ later → LawBehind config before → (next : World)
-      → StepMarks (run_steps (start config) before) event next → AllMade (run_steps (start config) before).marks → AllMade next.marks
-  after_step before event later parts law next (no_marks none) all = subst AllMade (sym none) all
-  after_step before event later parts law next (works node it input there comes more) all =
+      → run_steps (start config) (before ++ event ∷ []) ≡ next → StepMarks (run_steps (start config) before) event next
+      → AllMade (run_steps (start config) before).marks → AllMade next.marks
+  after_step before event later parts law next same (no_marks none) all = subst AllMade (sym none) all
+  after_step before event later parts law next same (works node it input there comes then more) all =
       let now : ℕ = (run_steps (start config) before).steps + 1 in
       let outs : List Out = (node_takes it input).outs in
       subst AllMade (sym more)
       (All-append (IsMadeSo config steps) (run_steps (start config) before).marks (marks_made now outs) all
       (λ k d h. mark_is before event later parts law node it there (get_or (marks_made now outs) k d) input comes
+      (ap (λ w. node_at w node) same ∙ then)
       (marks_now now outs k d h ∙ ap (λ n. n + 1) (steps_made config before))
       (down_marks now it input (plain before event later parts law node it there input comes) k d h) (marks_are now it input k d h)))
 
@@ -205,7 +229,7 @@ module _ (config : Config) (are : AreNodes config.nodes) (steps : List Event) wh
     one_more before event later parts all =
         let law = laws before (event ∷ later) parts in
         subst (λ (w : World). AllMade w.marks) (sym (one_more_step (start config) before event))
-        (after_step before event later parts law (steps_by (run_steps (start config) before) event)
+        (after_step before event later parts law (steps_by (run_steps (start config) before) event) (one_more_step (start config) before event)
         (step_marks (run_steps (start config) before) event) all)
 
     made_from : (before later : List Event) → steps ≡ before ++ later → AllMade (run_steps (start config) before).marks

@@ -1,7 +1,11 @@
--- Which marks a step makes: those of the node that works in it, for what comes to that node.
+-- Which marks a step makes: those of the node that works in it, for what comes to that node, and what that node is then.
 use Rattle.std.proofs.Common.{◌≡◌, ℕ, ◌+◌, List, [], ◌∷◌, ◌++◌, Option, None, Some, refl, ◌∙◌, ap, subst}
+use Rattle.std.specs.Ordering.{nat_cmp}
+use Rattle.std.specs.Cmp.Lexicographic.{slice_cmp}
 use Rattle.link_msg.specs.declared.message.LinkMsg.{LinkMsg}
 use Rattle.link_queue.specs.Links.{on_link}
+use Rattle.mur_base.specs.Map.{value_at}
+use Rattle.mur_base.proofs.MapLaws.{names_apart, value_at-with_value}
 use Rattle.node_step.specs.declared.input.NodeInput.{NodeInput}
 use Rattle.node_step.specs.declared.input.NodeInput.TheVariants.{Opened, Piece, Hung, From}
 use Rattle.node_step.specs.declared.node.NodeState.{NodeState}
@@ -26,30 +30,35 @@ pub data ComesBy (world : World) (event : Event) (node : List ℕ) : NodeInput �
 pub data StepMarks (world : World) (event : Event) (next : World) : Type 0 where
   no_marks : next.marks ≡ world.marks → StepMarks world event next
   works : (node : List ℕ) (it : NodeState) (input : NodeInput) → node_at world node ≡ Some it → ComesBy world event node input
+      → node_at next node ≡ Some (node_takes it input).state
       → next.marks ≡ world.marks ++ marks_made (world.steps + 1) (node_takes it input).outs → StepMarks world event next
 
 -- ---- what comes to a node
 
 data NodeMarks (world : World) (node : List ℕ) (input : NodeInput) (next : World) : Type 0 where
   nobody_is_there : next.marks ≡ world.marks → NodeMarks world node input next
-  it_acts : (it : NodeState) → node_at world node ≡ Some it → next.marks ≡ world.marks ++ marks_made world.steps (node_takes it input).outs
-      → NodeMarks world node input next
+  it_acts : (it : NodeState) → node_at world node ≡ Some it → node_at next node ≡ Some (node_takes it input).state
+      → next.marks ≡ world.marks ++ marks_made world.steps (node_takes it input).outs → NodeMarks world node input next
 
 comes_marks : (world : World) (node : List ℕ) (input : NodeInput) (found : Option NodeState) → node_at world node ≡ found
     → NodeMarks world node input (comes_to world node input found)
 unfolding comes_to
 comes_marks world node input None there = nobody_is_there refl
 comes_marks world node input (Some it) there =
+    let acted = node_takes it input in
+    let thin = acts_thinned world node acted in
+    let made = is_made (wrote world node it input) node acted.state acted.outs in
     it_acts it there
-    ((acts_thinned world node (node_takes it input)).marks
-    ∙ (is_made (wrote world node it input) node (node_takes it input).state (node_takes it input).outs).marks)
+    (ap (λ n. value_at (slice_cmp nat_cmp) n node) (thin.nodes ∙ made.nodes)
+    ∙ value_at-with_value (slice_cmp nat_cmp) names_apart world.nodes node acted.state it there)
+    (thin.marks ∙ made.marks)
 
 -- in a world that has the nodes, the marks and the count of the step of this one
 step_of : (world begun : World) (event : Event) (node : List ℕ) (input : NodeInput) (next : World) → begun.nodes ≡ world.nodes → begun.marks ≡ world.marks
     → begun.steps ≡ world.steps + 1 → ComesBy world event node input → NodeMarks begun node input next → StepMarks world event next
 step_of world begun event node input next nodes marks steps comes (nobody_is_there none) = no_marks (none ∙ marks)
-step_of world begun event node input next nodes marks steps comes (it_acts it there its) =
-    works node it input (subst (λ n. node_at (record world { nodes = n }) node ≡ Some it) nodes there) comes
+step_of world begun event node input next nodes marks steps comes (it_acts it there then its) =
+    works node it input (subst (λ n. node_at (record world { nodes = n }) node ≡ Some it) nodes there) comes then
     (its ∙ ap (λ m. m ++ marks_made begun.steps (node_takes it input).outs) marks ∙ ap (λ s. world.marks ++ marks_made s (node_takes it input).outs) steps)
 
 module _ (world : World) where

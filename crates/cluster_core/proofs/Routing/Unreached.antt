@@ -1,8 +1,10 @@
--- A frontend tells a client that a node isn't reached only where it has the link to the node as down.
-use Rattle.std.proofs.Common.{◌≡◌, ◌≢◌, ℕ, ◌+◌, ◌==◌, nat_eq, Bool, true, false, List, [], ◌∷◌, Option, None, Some, refl, subst}
+-- A frontend tells a client that a node isn't reached only where it has the link to the node as down; where it takes the link's End, behind that.
+use Rattle.std.proofs.Common.{◌≡◌, ◌≢◌, ℕ, ◌+◌, ◌==◌, nat_eq, Bool, true, false, List, [], ◌∷◌, Option, None, Some, refl, sym, ◌∙◌, ap, subst}
 use Rattle.std.specs.Prelude.{⊤, All}
 use Rattle.std.specs.List.{AllByRecursion}
-use Rattle.std.specs.Cmp.Lexicographic.{pointwise}
+use Rattle.std.specs.Map.{keys_of}
+use Rattle.std.specs.Ordering.{nat_cmp}
+use Rattle.std.specs.Cmp.Lexicographic.{pointwise, same_text, slice_cmp}
 use Rattle.ask_routes.specs.Barrier.{barrier_answered}
 use Rattle.ask_routes.specs.Ways.{ask_for, behind_ok}
 use Rattle.ask_routes.specs.declared.next.Next.{Next}
@@ -22,10 +24,15 @@ use Rattle.front_core.specs.declared.connection.Connection.{Connection}
 use Rattle.front_core.specs.declared.connection.Stage.{Stage}
 use Rattle.front_core.specs.declared.connection.Stage.TheVariants.{Reading, Waits, Lists, Ended}
 use Rattle.front_core.specs.declared.front.Front.{Front}
-use Rattle.front_core.specs.Answered.{answer_by, answer_comes, by_then, clears_at, how_for, need_behind, ok_by, ok_comes, reading_again, reads_on, refused_behind, sends_if, waiting_come}
-use Rattle.front_core.specs.Front.{answer_at, answer_from, bytes_by, bytes_in, connect, connect_at, connection_at, deliver, end_from, front_bytes_at, having_read, line_by, line_from, ok_at, up_from, waits_for, ways_of, with_up, without_up}
-use Rattle.front_core.specs.Taken.{Turned, Ways, answers_last, asks, begins_if, comes_at, input_comes, input_in, inputs_come, lists, lists_if, next_of, request_in, told_now, turned_by_need}
-use Rattle.front_core.specs.Ups.{Ups, is_up}
+use Rattle.front_core.specs.Answered.{answer_by, answer_comes, by_then, clears_at, end_by, ends_at, how_for, need_behind, ok_by, ok_comes, reading_again, reads_on, refused_behind, sends_if, waiting_come}
+use Rattle.front_core.specs.Front.{Stepped, all_end, answer_at, answer_from, awaited, bytes_by, bytes_in, connect, connect_at, connection_at, deliver, end_at, end_from, end_if, front_bytes_at}
+use Rattle.front_core.specs.Front.{having_read, line_by, line_from, ok_at, one_ends, up_from, waits_for, ways_of, with_up, without_up}
+use Rattle.front_core.specs.Stages.{awaits, waits_at}
+use Rattle.front_core.specs.Taken.{Turned, Ways, answers_last, asks, begins_if, comes_at, input_comes, input_in, inputs_come, list_refused, lists, lists_if, next_of, request_in, told_now, turned_by_need}
+use Rattle.front_core.specs.Ups.{Ups, going_down, is_up}
+use Rattle.front_core.proofs.AskOrder.{outs_all}
+use Rattle.front_core.proofs.OwnOuts.{one_ways}
+use Rattle.front_core.proofs.UpsLaws.{down_goes}
 use Rattle.imap_talk.specs.declared.inputs.Input.{Input}
 use Rattle.imap_talk.specs.declared.inputs.Input.TheVariants.{GoesOn, Asks, Faults}
 use Rattle.imap_reply.specs.ReplyText.{reply_text}
@@ -43,6 +50,7 @@ use Rattle.link_msg.specs.declared.out.Out.{Out}
 use Rattle.link_msg.specs.declared.out.Out.TheVariants.{Client, Close, Link, Mark as mark, Told as tell}
 use Rattle.mark_history.specs.declared.mark.Mark.{Mark}
 use Rattle.mark_history.specs.declared.mark.MarkKind.TheVariants.{Told as told}
+use Rattle.mur_base.specs.Map.{IsInOrder}
 use Rattle.mur_base.specs.declared.point.AskId.{AskId}
 use Rattle.mur_base.specs.declared.point.What.{What}
 use Rattle.mur_base.specs.declared.point.What.TheVariants.{Unreached as unreached}
@@ -60,7 +68,6 @@ use Rattle.node_step.specs.declared.node.NodeState.TheVariants as state
 use Rattle.node_step.specs.NodeStep.{front_takes, takes}
 use Rattle.session_core.specs.Begin.{begin}
 use Rattle.session_core.specs.Relocated.{Refused, relocated}
-use Rattle.cluster_core.proofs.Asking.ServerEnds.{IsForClient, server_ends}
 use Rattle.cluster_core.proofs.Nodes.Carried.{marks_made}
 use Rattle.cluster_core.proofs.Routing.NodeMarks.{MarkHas, marks_have}
 
@@ -237,25 +244,68 @@ module _ (setting : Setting) (ways : Ways) (conn : ℕ) where
   unfolding ok_comes
   ok_down c id = ok_down_by c (id.command == c.answered + 1) c.stage
 
+  -- the link to a node ends, which is down then
+  module _ (node : List ℕ) (down : is_up ways.ups node ≡ false) where
+    its_down : pointwise nat_eq ways.master node ≡ true → is_up ways.ups ways.master ≡ false
+    its_down e = ap (is_up ways.ups) (same_text ways.master node (sym e)) ∙ down
+
+    ends_at_down : (c : Connection) (tag : Tag) (it : Waiting) (at : At) → waits_at ways.master at node ≡ true → Down (ends_at setting ways conn c tag it at).outs
+    ends_at_down c tag it (Home server) waits = (tt, (tt, tt))
+    ends_at_down c tag it (Barrier why) waits = refusal_down c tag (relocated c.session it.asking.awaited (unreached ways.master)) ways.master (its_down waits)
+
+    end_down : (c : Connection) (stage : Stage) → awaits ways.master stage node ≡ true → Down (end_by setting ways conn c stage).outs
+    unfolding awaits end_by
+    end_down c Reading waits = tt
+    end_down c (Waits tag it) waits = ends_at_down c tag it it.at waits
+    end_down c (Lists tag it) waits = refusal_down c tag (list_refused c.session) ways.master (its_down waits)
+    end_down c Ended waits = tt
+
 -- ---- a frontend
 
--- what comes doesn't tell it so of another node, and ends no link with its master
+-- what comes doesn't tell it so of another node; and of its links that are up each stands there once
 abbrev pub IsPlainAt : Front → NodeInput → Type 0
 IsPlainAt front (From name (Answer answer)) = (node : List ℕ) → answer.body ≢ answer_body.Unreached node
-IsPlainAt front (From name End) = name ≢ front.master
+IsPlainAt front (From name End) = IsInOrder (slice_cmp nat_cmp) front.ups
 IsPlainAt front input = ⊤
+
+-- the links that are up in the step: where one ends, behind that
+abbrev pub ups_in : Front → NodeInput → Ups
+ups_in front (From name End) = going_down front.ups name
+ups_in front input = front.ups
+
+-- ---- one connection after another
+
+module _ (node : List ℕ) where
+  found_down : (front : Front) (conn : ℕ) (found : Option Connection) → is_up front.ups node ≡ false → awaited front.master found node ≡ true
+      → AllDown front.ups (end_at front conn found).outs
+  unfolding end_at awaited
+  found_down front conn None down waits = tt
+  found_down front conn (Some c) down waits = end_down front.setting (ways_of front) conn node down c c.stage waits
+
+  if_down : (front : Front) (conn : ℕ) (waits : Bool) → is_up front.ups node ≡ false → awaited front.master (connection_at front conn) node ≡ waits
+      → AllDown front.ups (end_if waits front conn).outs
+  if_down front conn true down e = found_down front conn (connection_at front conn) down e
+  if_down front conn false down e = tt
+
+  all_down : (front : Front) (conns : List ℕ) → is_up front.ups node ≡ false → AllDown front.ups (all_end front node conns).outs
+  unfolding all_end
+  all_down front [] down = tt
+  all_down front (conn ∷ conns) down =
+      let one : Stepped = one_ends front node conn in
+      let same : one.front.ups ≡ front.ups = ap (λ (w : Ways). w.ups) (one_ways front node conn) in
+      both (TellsDown front.ups) one.outs (all_end one.front node conns).outs
+      (if_down front conn (awaited front.master (connection_at front conn) node) down refl)
+      (subst (λ u. AllDown u (all_end one.front node conns).outs) same (all_down one.front conns (ap (λ u. is_up u node) same ∙ down)))
+
+-- a link ends
+ends_down : (front : Front) (node : List ℕ) → IsInOrder (slice_cmp nat_cmp) front.ups → AllDown (going_down front.ups node) (end_from (without_up front node) node).outs
+ends_down front node order =
+    outs_all (TellsDown (going_down front.ups node)) (all_end (without_up front node) node (keys_of front.connections)).outs
+    (all_down node (without_up front node) (keys_of front.connections) (down_goes front.ups node order))
 
 module _ (front : Front) where
   abbrev FrontDown : List Out → Type 0
   FrontDown outs = AllDown front.ups outs
-
-  mute_down : (outs : List Out) → AllByRecursion IsForClient outs → FrontDown outs
-  mute_down [] are = tt
-  mute_down (Client conn bytes ∷ outs) are = (tt, mute_down outs are.1)
-  mute_down (Close conn ∷ outs) are = (tt, mute_down outs are.1)
-  mute_down (Link node message ∷ outs) are = absurd are.0
-  mute_down (mark ask counts ∷ outs) are = absurd are.0
-  mute_down (tell ask how ∷ outs) are = absurd are.0
 
   connect_down : (conn : ℕ) (found : Option Connection) → FrontDown (connect_at front conn found).outs
   unfolding connect_at
@@ -310,15 +360,16 @@ module _ (front : Front) where
   line_down bytes true = line_by_down bytes (barrier_answered bytes)
   line_down bytes false = tt
 
-  message_down : (from : List ℕ) (message : LinkMsg) → IsPlainAt front (From from message) → FrontDown (deliver front from message).outs
+  message_down : (from : List ℕ) (message : LinkMsg) → IsPlainAt front (From from message)
+      → AllDown (ups_in front (From from message)) (deliver front from message).outs
   unfolding deliver
   message_down from (Answer answer) plain = answer_from_down answer (waits_for (connection_at front (answer.id).conn) from) plain
   message_down from Up plain = up_down from (pointwise nat_eq from front.master)
-  message_down from End plain = mute_down (end_from (without_up front from) from).outs (server_ends front from plain).outs
+  message_down from End plain = ends_down front from plain
   message_down from (Line line) plain = line_down line (pointwise nat_eq from front.master)
   message_down from (Ask ask) plain = tt
 
-  front_down : (input : NodeInput) → IsPlainAt front input → FrontDown (front_takes front input).outs
+  front_down : (input : NodeInput) → IsPlainAt front input → AllDown (ups_in front input) (front_takes front input).outs
   unfolding front_takes connect bytes_in
   front_down (Opened conn) plain = connect_down conn (connection_at front conn)
   front_down (Piece conn bytes) plain = bytes_at_down conn bytes (connection_at front conn)
@@ -328,31 +379,49 @@ module _ (front : Front) where
 -- ---- marks
 
 -- a mark that tells so of a node is of a frontend that has the link to it as down
-abbrev pub IsDownMark : NodeState → Mark → Type 0
-IsDownMark (state.Front front) made = (node : List ℕ) → made.kind ≡ told (Unreached node) → is_up front.ups node ≡ false
-IsDownMark it made = ⊤
+abbrev pub IsDownMark : NodeState → NodeInput → Mark → Type 0
+IsDownMark (state.Front front) input made = (node : List ℕ) → made.kind ≡ told (Unreached node) → is_up (ups_in front input) node ≡ false
+IsDownMark it input made = ⊤
 
 abbrev pub IsPlainFor : NodeState → NodeInput → Type 0
 IsPlainFor (state.Front front) input = IsPlainAt front input
 IsPlainFor it input = ⊤
 
-out_marks : (now : ℕ) (front : Front) (out : Out) → TellsDown front.ups out → MarkHas now (IsDownMark (state.Front front)) out
-out_marks now front (mark ask counts) is = λ node e. cc
-out_marks now front (tell ask Here) is = λ node e. cc
-out_marks now front (tell ask Behind) is = λ node e. cc
-out_marks now front (tell ask Reserved) is = λ node e. cc
-out_marks now front (tell ask (Unreached other)) is = λ node e. (let same : other ≡ node = cc in subst (λ n. is_up front.ups n ≡ false) same is)
-out_marks now front (Client conn bytes) is = tt
-out_marks now front (Close conn) is = tt
-out_marks now front (Link node message) is = tt
+-- by which links are up
+abbrev IsDownBy : Ups → Mark → Type 0
+IsDownBy ups made = (node : List ℕ) → made.kind ≡ told (Unreached node) → is_up ups node ≡ false
 
-outs_marks : (now : ℕ) (front : Front) (outs : List Out) → AllDown front.ups outs → AllByRecursion (MarkHas now (IsDownMark (state.Front front))) outs
-outs_marks now front [] are = tt
-outs_marks now front (out ∷ outs) are = (out_marks now front out are.0, outs_marks now front outs are.1)
+out_marks : (now : ℕ) (ups : Ups) (out : Out) → TellsDown ups out → MarkHas now (IsDownBy ups) out
+out_marks now ups (mark ask counts) is = λ node e. cc
+out_marks now ups (tell ask Here) is = λ node e. cc
+out_marks now ups (tell ask Behind) is = λ node e. cc
+out_marks now ups (tell ask Reserved) is = λ node e. cc
+out_marks now ups (tell ask (Unreached other)) is = λ node e. (let same : other ≡ node = cc in subst (λ n. is_up ups n ≡ false) same is)
+out_marks now ups (Client conn bytes) is = tt
+out_marks now ups (Close conn) is = tt
+out_marks now ups (Link node message) is = tt
 
-pub down_marks : (now : ℕ) (it : NodeState) (input : NodeInput) → IsPlainFor it input → All (IsDownMark it) (marks_made now (takes it input).outs)
+outs_marks : (now : ℕ) (ups : Ups) (outs : List Out) → AllDown ups outs → AllByRecursion (MarkHas now (IsDownBy ups)) outs
+outs_marks now ups [] are = tt
+outs_marks now ups (out ∷ outs) are = (out_marks now ups out are.0, outs_marks now ups outs are.1)
+
+pub down_marks : (now : ℕ) (it : NodeState) (input : NodeInput) → IsPlainFor it input → All (IsDownMark it input) (marks_made now (takes it input).outs)
 unfolding takes
 down_marks now (state.Front front) input plain =
-    marks_have now (IsDownMark (state.Front front)) (front_takes front input).outs (outs_marks now front (front_takes front input).outs (front_down front input plain))
+    marks_have now (IsDownBy (ups_in front input)) (front_takes front input).outs
+    (outs_marks now (ups_in front input) (front_takes front input).outs (front_down front input plain))
 down_marks now (state.Back home) input plain = λ k d h. tt
 down_marks now (state.Master master) input plain = λ k d h. tt
+
+-- ---- which links are up behind the step
+
+all_ups : (front : Front) (node : List ℕ) (conns : List ℕ) → (all_end front node conns).front.ups ≡ front.ups
+unfolding all_end
+all_ups front node [] = refl
+all_ups front node (conn ∷ conns) =
+    all_ups (one_ends front node conn).front node conns ∙ ap (λ (w : Ways). w.ups) (one_ways front node conn)
+
+-- where a link ends, those are up that were in the step
+pub ends_ups : (front : Front) (node : List ℕ) → (deliver front node End).front.ups ≡ going_down front.ups node
+unfolding deliver
+ends_ups front node = all_ups (without_up front node) node (keys_of front.connections)

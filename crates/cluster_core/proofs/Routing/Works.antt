@@ -1,5 +1,5 @@
 -- A message of a command is taken: the command waits at its client's frontend, and an ask is the one for it, at a backend. Of a LIST that is its NOOP.
-use Rattle.std.proofs.Common.{◌≡◌, ◌≢◌, ◌||◌, ℕ, ◌+◌, nat_eq, Bool, true, false, is_some, List, [], ◌∷◌, length, Some, refl, sym, ◌∙◌, ap, subst, arith}
+use Rattle.std.proofs.Common.{◌≡◌, ◌≢◌, ◌||◌, ℕ, ◌+◌, ◌≤◌, nat_eq, Bool, true, false, is_some, List, [], ◌∷◌, length, Some, refl, sym, ◌∙◌, ap, subst, arith}
 use Rattle.std.specs.Prelude.{All}
 use Rattle.std.specs.List.{list_any}
 use Rattle.std.specs.Cmp.Lexicographic.{pointwise}
@@ -8,7 +8,7 @@ use Rattle.ask_routes.specs.Barrier.{noop_line}
 use Rattle.back_node.specs.declared.node.BackNode.{BackNode}
 use Rattle.cluster_core.specs.Headline.Backends.{IsBackend}
 use Rattle.cluster_core.specs.World.{backends_of, master_of, client_at, front_at, home_at, node_at}
-use Rattle.front_core.proofs.OneConnection.Places.{about, about_command, of_connection}
+use Rattle.front_core.proofs.OneConnection.Places.{about, about_command, is_over, line_on, of_connection}
 use Rattle.front_core.specs.declared.connection.Connection.{Connection}
 use Rattle.front_core.specs.declared.front.Front.{Front}
 use Rattle.front_core.specs.Front.{connection_at}
@@ -54,7 +54,7 @@ use Rattle.cluster_core.specs.declared.world.World.{World}
 use Rattle.cluster_core.specs.Headline.OneNode.{node_of}
 use Rattle.cluster_core.specs.Numbers.{NumbersFit}
 use Rattle.cluster_core.proofs.Commands.InPlace.{IsThere}
-use Rattle.cluster_core.proofs.Commands.Knows.{IsFlowOf, KnowsNames, undecided, is_decided, not_yet, is_listed, waiting_at}
+use Rattle.cluster_core.proofs.Commands.Knows.{IsFlowOf, KnowsNames, undecided, is_decided, not_yet, is_gone, is_listed, waiting_at}
 use Rattle.cluster_core.proofs.Commands.Place.{Place, Place as place}
 use Rattle.cluster_core.proofs.Commands.Standing.{Fixed, next_id}
 use Rattle.cluster_core.proofs.Connections.KeepsLaw.{IsAt, IsFrontOf, KeepsLaw, fixed_of}
@@ -106,6 +106,7 @@ module _ (fixed : Fixed) (conn : ℕ) (node : List ℕ) (connection : Connection
   barred : {tag : Tag} {it : Listing} {was : Sess} {told said : List Replied} {session : Sess} → KnowsNames tag it was told said session here
       → IsAsked fixed conn node story (requests_of fixed.setting (frames_heard heard)) here
   barred (not_yet said was at) = for_names barrier.asked at
+  barred (is_gone said was at) = for_names barrier.nowhere at
   barred (is_listed table said was at) = for_names (barrier.answered table) at
 
   asked_so : (front : Front) → IsAt world conn node front connection → connection.answered ≡ length (story.told conn)
@@ -196,9 +197,9 @@ module _ (config : Config) (heard : ℕ → Heard) (world : World) (law : KeepsL
     pub under_way : IsUnderWay id
 
   module _ (from to : List ℕ) (message : LinkMsg) (rest : List LinkMsg) (first : on_link world.links from to ≡ message ∷ rest) (conn : ℕ)
-      (own : about message ≡ of_connection conn) where
+      (own : about message ≡ of_connection conn) (on : is_over (length (law.story.told conn) + 1) message ≡ false) where
     tells : TellsPlace (fixed_of config) conn world law.story (law.stops conn) (heard conn) from to message
-    tells = first_tells (fixed_of config) conn world law.story (law.stops conn) (heard conn) from to message rest first own (law.connections conn)
+    tells = first_tells (fixed_of config) conn world law.story (law.stops conn) (heard conn) from to message rest first own on (law.connections conn)
 
     abbrev open_id : AskId
     open_id = next_id conn (law.story.told conn)
@@ -329,13 +330,16 @@ module _ (config : Config) (heard : ℕ → Heard) (world : World) (law : KeepsL
         line_by line id is its mine numbered_so tells.here found asked (tells.placed).there
 
   pub ask_tells : (from to : List ℕ) (ask : FrontAsk) (rest : List LinkMsg) → on_link world.links from to ≡ Ask ask ∷ rest → AskTells from to ask
-  ask_tells from to ask rest first = ask_so from to (Ask ask) rest first (ask.id).conn refl ask refl
+  unfolding is_over
+  ask_tells from to ask rest first = ask_so from to (Ask ask) rest first (ask.id).conn refl refl ask refl
 
   pub answer_is_plain : (from to : List ℕ) (answer : BackAnswer) (rest : List LinkMsg) → on_link world.links from to ≡ Answer answer ∷ rest → (other : List ℕ)
       → answer.body ≢ Unreached other
-  answer_is_plain from to answer rest first = answer_so from to (Answer answer) rest first (answer.id).conn refl answer refl
+  unfolding is_over
+  answer_is_plain from to answer rest first = answer_so from to (Answer answer) rest first (answer.id).conn refl refl answer refl
 
+  -- of a command that isn't over
   pub line_tells : (from to line : List ℕ) (rest : List LinkMsg) (id : AskId) → on_link world.links from to ≡ Line line ∷ rest → line_ask line ≡ Some id
-      → to ≡ master_of config → NumbersFit heard → LineTells id line
-  line_tells from to line rest id first its mine fits =
-      line_so from to (Line line) rest first id.conn (ap about_command its) line id refl its mine fits
+      → length (law.story.told id.conn) + 1 ≤ id.command → to ≡ master_of config → NumbersFit heard → LineTells id line
+  line_tells from to line rest id first its on mine fits =
+      line_so from to (Line line) rest first id.conn (ap about_command its) (line_on (length (law.story.told id.conn) + 1) line id its on) line id refl its mine fits

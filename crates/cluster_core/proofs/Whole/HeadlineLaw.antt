@@ -1,10 +1,12 @@
 -- What holds of a run each step of which keeps the law.
 use Rattle.std.proofs.Common.{◌≡◌, ℕ, List, ◌++◌, subst, sym, ap, arith}
-use Rattle.feed_core.specs.declared.replica.Replica.{Replica}
-use Rattle.feed_links.specs.OneFeed.{IsFed, asks, is_told}
+use Rattle.feed_links.specs.OneFeed.{IsFed, asks, breaks_early, comes_up, is_parted, is_told}
 use Rattle.feed_links.specs.Replicas.{hears_all, replica_of}
+use Rattle.front_core.specs.Ups.{is_up}
+use Rattle.front_core.specs.declared.front.Front.{Front}
 use Rattle.imap_command.specs.Ruled.{IsDate}
 use Rattle.imap_talk.specs.Heard.{Heard}
+use Rattle.link_queue.specs.Broken.{is_broken}
 use Rattle.link_queue.specs.Links.{on_link}
 use Rattle.master_core.specs.declared.master.Master.{Master}
 use Rattle.mur_config.specs.declared.config.Config.{Config}
@@ -44,15 +46,20 @@ use Rattle.cluster_core.proofs.OneServer.RecordsLaw.{records_stand_each}
 use Rattle.cluster_core.proofs.Serials.SerialsLeft.{leaves_serials}
 
 -- a frontend's feed by the table of the world
-followed : (master : Master) (table : MailboxTable) (world : World) (name node : List ℕ) (replica : Replica) → table ≡ master.table
-    → IsFed master node (on_link world.links node name) (on_link world.links name node) replica → Follows world.links table name node replica
-followed master table world name node replica e (asks before behind parts noops later news empty none) = follows.asks before behind parts news empty
-followed master table world name node replica e (is_told noops told stream) =
-    follows.is_told (subst (λ (t : MailboxTable). hears_all replica (on_link world.links name node) ≡ replica_of t) (sym e) told)
+followed : (master : Master) (table : MailboxTable) (world : World) (name node : List ℕ) (front : Front) → table ≡ master.table
+    → IsFed master node (is_broken world.broken name node) (is_up front.ups name) (on_link world.links node name) (on_link world.links name node) front.replica
+    → Follows world table name node front
+followed master table world name node front e (asks whole reached before behind parts noops later lines news empty none) =
+    follows.asks before behind parts news empty
+followed master table world name node front e (is_told whole reached noops lines told stream) =
+    follows.is_told (subst (λ (t : MailboxTable). hears_all front.replica (on_link world.links name node) ≡ replica_of t) (sym e) told)
+followed master table world name node front e (comes_up whole down ups up none) = follows.comes_up down up
+followed master table world name node front e (breaks_early broken down ups ends parts are few none) = follows.is_parted broken
+followed master table world name node front e (is_parted broken own lines few tag) = follows.is_parted broken
 
 replicas_follow : (config : Config) (came : ℕ → Heard) (world : World) → KeepsLaw config came world → ReplicasFollow config world
 replicas_follow config came world law node front at =
-    followed law.master (table_at world (master_of config)) world (master_of config) node front.replica (ap table_by (law.nodes).is_there)
+    followed law.master (table_at world (master_of config)) world (master_of config) node front (ap table_by (law.nodes).is_there)
     (((law.feeds).each node front at).fed)
 
 one_mail_server : (config : Config) (events : List Event) → AreNodes config.nodes → IsDate config.date → NumbersFitAll config (steps_of_run config events)
@@ -75,12 +82,9 @@ one_mail_server config events are dated fit each =
       master = master_named config.nodes are.names (omega (arith, are.master));
       replicas = λ before later parts.
           replicas_follow config (λ conn. heard config conn before) (run_steps (start config) before) (law_at before later parts);
-      asks = asks_by_records config events are
-          (λ before later parts node front at.
-          (let its = ((law_at before later parts).nodes).fronts node front at in (its.first_is, its.master_is)));
-      asks_once = asks_once config events are (λ before later parts node front at. (((law_at before later parts).nodes).fronts node front at).master_is);
-      leaves = leaves_rightly_each config events are
-          (λ before later parts node front at. (((law_at before later parts).nodes).fronts node front at).master_is);
+      asks = asks_by_records config events are (λ before later parts node front at. (((law_at before later parts).nodes).fronts node front at).first_is);
+      asks_once = asks_once config events are;
+      leaves = leaves_rightly_each config events are;
       lines = begins_only_as_asked config events are fit each;
       records = records_stand_each config events are each;
       disks = stands_on_disks config events each;
