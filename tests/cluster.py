@@ -23,8 +23,9 @@ class Step:
 
 
 class Cluster:
-    """Steps are counted, what they say of commands is noted. `watch` is called behind each step. Without faults, as in the program, the links of the master with
-    backends don't break: a cut of one is a step that changes nothing. Where names of closed mailboxes may be made again, a rule of backends is left out."""
+    """Steps are counted, what they say of commands is noted. `watch` is called behind each step. Without faults, as in the program, the links of the master
+    with backends don't break: a cut of one is a step that changes nothing. Where names of closed mailboxes may be made again, a rule of backends is left
+    out."""
 
     def __init__(self, config, watch=None, has_faults=False, makes_closed_names=False):
         self.config = {node['name']: node for node in config['nodes']}

@@ -4,12 +4,12 @@
     tests/model.py [--faults] CONFIG SCHEDULE
     tests/model.py
 
-With `--faults` a schedule may have the words by which nodes crash and start, and the links of the master with backends break too, as the program's don't yet.
-Without arguments it compares each stored output of examples/ and tests/replays/ with its own. It is written from these pages, examples/, RFC 9051 and RFC 3656 alone,
-and knows no proof and no code of the program. It keeps every byte of a connection and cuts it anew, so it is slow and plain. What a frame spells is in
-commands.py, what a client is replied in sessions.py, what mailboxes hold in mailboxes.py, the nodes in frontend.py, backend.py and mupdate.py, what joins them
-in cluster.py, links.py, disks.py and history.py, the rules of schedules in rules.py. `.ci/large` and `tests/random_schedules` compare the program with it, and
-the outputs of tests/replays were worked out by it and read.
+With `--faults` a schedule may have the words by which nodes crash and start, and the links of the master with backends break too, as the program's don't.
+Without arguments it compares each stored output of examples/ and tests/replays/ with its own. It is written from these pages, examples/, RFC 9051 and RFC
+3656 alone, and knows no proof and no code of the program. It keeps every byte of a connection and cuts it anew, so it is slow and plain. What a frame spells
+is in commands.py, what a client is replied in sessions.py, what mailboxes hold in mailboxes.py, the nodes in frontend.py, backend.py and mupdate.py, what
+joins them in cluster.py, links.py, disks.py and history.py, the rules of schedules in rules.py. `.ci/large` and `tests/random_schedules` compare the program
+with it, and the outputs of tests/replays were worked out by it and read.
 """
 import glob, json, os, re, sys
 

@@ -1,8 +1,8 @@
 """Links that break and nodes that crash, for random schedules. Breaks(dice, frontends, backends) gives lines of cuts, joins and heals of the links of frontends
-with the first backend most of all, and with the master; now and then of one of the master with a backend, by which the program changes nothing. Faults(..) gives
-also those of the latter as often, and crashes and what mends them, at the first backend and the master most of all; both give the lines behind which all is
-mended. narrow(dice, config) gives schedules about one name or two, in which a message comes only where one is on its way, so that rare orders of the master's
-lines come often.
+with the first backend most of all, and with the master; now and then of one of the master with a backend, by which the program changes nothing. Faults(..)
+gives also those of the latter as often, and crashes and what mends them, at the first backend and the master most of all; both give the lines behind which
+all is mended. narrow(dice, config) gives schedules about one name or two, in which a message comes only where one is on its way, so that rare orders of the
+master's lines come often.
 """
 import json
 

@@ -79,7 +79,8 @@ module _ {X : Type 0} (is_earlier : X → X → Bool) where
     rise_put it [] up = (tt, tt)
     rise_put it (first ∷ rest) up = by_test (rise_put it rest up.1) (is_earlier first it) refl
       where
-        by_test : Rise (put_in is_earlier it rest) → (b : Bool) → is_earlier first it ≡ b → Rise (cond b (first ∷ put_in is_earlier it rest) (it ∷ first ∷ rest))
+        by_test : Rise (put_in is_earlier it rest) → (b : Bool) → is_earlier first it ≡ b
+            → Rise (cond b (first ∷ put_in is_earlier it rest) (it ∷ first ∷ rest))
         by_test more true e = (put_all (λ (x : X). is_earlier x first ≡ false) it rest (order.one_way first it e) up.0, more)
         by_test more false e = ((e, follow_further it first rest e up.0), up)
 
@@ -97,18 +98,21 @@ module _ {X : Type 0} (is_earlier : X → X → Bool) where
       put_part it (first ∷ rest) up = by_test (put_part it rest up.1) (is_earlier first it) refl
         where
           behind : is_earlier first it ≡ true → (is_kept own : Bool)
-              → cond is_kept (first ∷ cond own (put_in is_earlier it (filter p rest)) (filter p rest)) (cond own (put_in is_earlier it (filter p rest)) (filter p rest))
+              → cond is_kept (first ∷ cond own (put_in is_earlier it (filter p rest)) (filter p rest))
+              (cond own (put_in is_earlier it (filter p rest)) (filter p rest))
               ≡ cond own (put_in is_earlier it (cond is_kept (first ∷ filter p rest) (filter p rest))) (cond is_kept (first ∷ filter p rest) (filter p rest))
           behind e true true = ap (λ (b : Bool). cond b (first ∷ put_in is_earlier it (filter p rest)) (it ∷ first ∷ filter p rest)) (sym e)
           behind e true false = refl
           behind e false own = refl
 
-          by_test : filter p (put_in is_earlier it rest) ≡ cond (p it) (put_in is_earlier it (filter p rest)) (filter p rest) → (b : Bool) → is_earlier first it ≡ b
+          by_test : filter p (put_in is_earlier it rest) ≡ cond (p it) (put_in is_earlier it (filter p rest)) (filter p rest) → (b : Bool)
+              → is_earlier first it ≡ b
               → filter p (cond b (first ∷ put_in is_earlier it rest) (it ∷ first ∷ rest))
               ≡ cond (p it) (put_in is_earlier it (filter p (first ∷ rest))) (filter p (first ∷ rest))
           by_test more true e = ap (λ (l : List X). cond (p first) (first ∷ l) l) more ∙ behind e (p first) (p it)
           by_test more false e = ap (λ (l : List X). cond (p it) l (filter p (first ∷ rest)))
-              (sym (put_first it (filter p (first ∷ rest)) (part_all (λ (x : X). is_earlier x it ≡ false) p (first ∷ rest) (e, follow_further it first rest e up.0))))
+              (sym (put_first it (filter p (first ∷ rest))
+              (part_all (λ (x : X). is_earlier x it ≡ false) p (first ∷ rest) (e, follow_further it first rest e up.0))))
 
       -- a part of them is in that order, too
       pub ordered_part : (all : List X) → filter p (in_order is_earlier all) ≡ in_order is_earlier (filter p all)

@@ -8,9 +8,9 @@ use Rattle.asking_core.specs.declared.waiting.At.TheVariants.{Home, Barrier}
 use Rattle.front_core.specs.declared.connection.Connection.{Connection}
 use Rattle.front_core.specs.declared.connection.Stage.{Stage}
 use Rattle.front_core.specs.declared.connection.Stage.TheVariants.{Reading, Waits, Lists, Ended}
+use Rattle.front_core.specs.AskOrder.{in_order}
 use Rattle.front_core.specs.Front.{WaitsForNone, all_end, answer_from, awaited, behind_them, connection_at, deliver, end_from, end_if, line_from, noting, still}
 use Rattle.front_core.specs.Front.{up_from, waits_for, with_asks_in_order, with_up, without_up}
-use Rattle.front_core.specs.AskOrder.{in_order}
 use Rattle.front_core.specs.Stages.{asks_at, awaits, has_asked, waits_at}
 use Rattle.link_msg.specs.declared.answer.BackAnswer.{BackAnswer}
 use Rattle.link_msg.specs.declared.ask.FrontAsk.{FrontAsk}
