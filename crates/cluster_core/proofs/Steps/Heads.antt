@@ -57,7 +57,8 @@ its_first murder front replica id here from to message first own on is =
 
 pub none_on_its_way : NoneOnItsWay
 none_on_its_way murder conn from to message first own is =
-    let some : None ≡ here_at from to message = (first_of 0 murder.links from to message first.rest (of_connection conn) None first.first own (none_over message) is.message).0 in cc
+    let some : None ≡ here_at from to message =
+    (first_of 0 murder.links from to message first.rest (of_connection conn) None first.first own (none_over message) is.message).0 in cc
 
 -- ---- between a backend and the master
 
