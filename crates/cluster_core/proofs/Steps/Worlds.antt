@@ -68,7 +68,7 @@ module _ (config : Config) (world : World) (master : Master) (nodes : AreNodesOf
   is_front node front at =
       let of = nodes.fronts node front at in record { no_master = λ e. of.no_master (e ∙ nodes.me); no_home = of.no_home }
 
-  pub is_fed_front : FeedsHold config world master → (node : List ℕ) (front : Front) (id : AskId) → front_at world node ≡ Some front → IsNumbered id
+  abbrev pub is_fed_front : FeedsHold config world master → (node : List ℕ) (front : Front) (id : AskId) → front_at world node ≡ Some front → IsNumbered id
       → IsFedFront (murder_of world master) node front.replica id
   is_fed_front feeds node front id at numbered = record {
     is_front = is_front node front at;
