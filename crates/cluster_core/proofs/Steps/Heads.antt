@@ -1,4 +1,5 @@
--- The first message of a link that is about a connection tells the place of its command.
+-- The first message of a link that is about a connection, and isn't left of a command that is over, tells the place of its command. Between a backend and the
+-- master nothing is left of such commands.
 use Rattle.std.proofs.Common.{◌≡◌, ℕ, Bool, true, false, cond, nat_eq, List, ◌∷◌, filter, Option, None, Some, refl, sym, ap, subst, ◌∙◌}
 use Rattle.std.specs.Cmp.Lexicographic.{pointwise, same_text}
 use Rattle.back_node.specs.declared.node.BackNode.{BackNode}
