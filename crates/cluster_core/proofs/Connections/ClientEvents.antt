@@ -46,6 +46,7 @@ stands_begun config world links = record {
   both = links.both;
   master_up = links.master_up;
   down = links.down;
+  master_down = links.master_down;
   waits_up = links.waits_up;
   all_up = links.all_up;
 }

@@ -1,5 +1,5 @@
 -- A connection of which nothing is on its way, but what is left of commands that are over: each later command of it is nowhere.
-use Rattle.std.proofs.Common.{◌≡◌, ℕ, ◌≤◌, Bool, true, false, List, [], ◌∷◌, Option, None, Some, filter, refl, sym, ◌∙◌, ap, arith}
+use Rattle.std.proofs.Common.{◌≡◌, ℕ, ◌≤◌, Bool, true, false, List, [], ◌∷◌, None, filter, refl, sym, ◌∙◌, ap, arith}
 use Rattle.feed_core.specs.declared.replica.Replica.{Replica}
 use Rattle.front_core.proofs.OneConnection.Places.{IsPlaced, about_command, is_about, later_none, line_on, of_connection, own_about}
 use Rattle.link_msg.specs.declared.message.LinkMsg.{LinkMsg}

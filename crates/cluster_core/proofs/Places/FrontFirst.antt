@@ -1,5 +1,5 @@
--- The first message on a link to a frontend, where it is about a connection, tells the place of its command: it is the answer of its server, or the master's OK
--- to its NOOP.
+-- The first message on a link to a frontend, where it is about a connection and isn't left of a command that is over, tells the place of its command: it is the
+-- answer of its server, or the master's OK to its NOOP.
 use Rattle.std.proofs.Common.{◌≡◌, ◌≢◌, ℕ, ◌≤◌, ◌<◌, true, false, List, ◌∷◌, None, Some, refl, sym, ◌∙◌, ap, subst}
 use Rattle.ask_routes.specs.Barrier.{barrier_answered}
 use Rattle.ask_routes.proofs.BarrierLaw.{ok_tells_its_command}

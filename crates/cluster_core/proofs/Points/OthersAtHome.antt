@@ -1,5 +1,5 @@
--- A backend takes a message that isn't about a connection, or is left of a command of it that is over: the connection's command stays where it is, or the message ends the resync for which it waits, and
--- it is tested.
+-- A backend takes a message that isn't about a connection, or is left of a command of it that is over: the connection's command stays where it is, or the message
+-- ends the resync for which it waits, and it is tested.
 use Rattle.std.proofs.Common.{◌≡◌, ◌≢◌, ◌⊎◌, inl, inr, ℕ, ◌+◌, true, false, List, ◌∷◌, length, Option, Some, refl, sym, ◌∙◌, ap, subst, Bool}
 use Rattle.std.specs.Ordering.{nat_cmp}
 use Rattle.std.specs.Cmp.Lexicographic.{slice_cmp}

@@ -288,7 +288,8 @@ module _ (config : Config) (heard : ℕ → Heard) (world : World) (law : KeepsL
           (moved_to to me move)
           (ask_is_moved murder law.given store to node fnode front.replica id (its_ask c) kind takes its_front (name_ask_fits c kind does numbered_c) waits.its
           (name_kind_is c kind does) in_ask_is).placed)
-          (moved_marked _ _ id to me move) (moved_undropped fixed.master (then fnode to node (Ask (its_ask c))) fnode to me move)
+          (moved_marked _ _ id to me move)
+          (moved_undropped fixed.master (then fnode to node (Ask (its_ask c))) fnode to me move)
           (whom_by (moved_to to me move) (λ a is. whom_begun to me (its_ask c) move a (named to node there) is))
 
       ask_own : OwnAtHome fnode to node (Ask (its_ask c))
@@ -334,7 +335,8 @@ module _ (config : Config) (heard : ℕ → Heard) (world : World) (law : KeepsL
           (many to node there law.master.me message store moves.then_holds)
           (in_world_then fixed world law.master law.nodes.me to law.master.me node (node_takes node law.master.me message) there fnode front.replica id
           (moved_to to at_me move) ((heard_it.1).moved).placed)
-          (moved_marked _ _ id to at_me move) (moved_undropped fixed.master (then law.master.me to node message) fnode to at_me move)
+          (moved_marked _ _ id to at_me move)
+          (moved_undropped fixed.master (then law.master.me to node message) fnode to at_me move)
           (subst (λ p. (a : At) → WaitsAt a p → WaitsAt a (moved_to to at_me move)) (sym hears)
           (subst (λ l. (a : At) → WaitsAt a (heard_there l) → WaitsAt a (moved_to to at_me move)) (sym heard_it.0)
           (λ a is. whom_moved to at_me (name_at.hears mailbox flow it) move a (named to node there) is)))

@@ -1,5 +1,5 @@
--- The first message of a link, if it isn't left of a command that is over, tells whose command it is of, what the connection of that is at, and where the command is. Wherever it is behind the step, its
--- connection goes on so. That of a LIST is told in ListWaits.
+-- The first message of a link, if it isn't left of a command that is over, tells whose command it is of, what the connection of that is at, and where the command
+-- is. Wherever it is behind the step, its connection goes on so. That of a LIST is told in ListWaits.
 use Rattle.std.proofs.Common.{◌≡◌, ℕ, ◌≢◌, ◌+◌, Bool, true, false, List, [], ◌∷◌, ◌++◌, length, None, Some, refl, sym, ◌∙◌, ap, subst}
 use Rattle.asking_core.specs.declared.waiting.At.{At}
 use Rattle.asking_core.specs.declared.waiting.At.TheVariants.{Home, Barrier as at_master}

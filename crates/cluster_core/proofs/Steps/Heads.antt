@@ -1,4 +1,5 @@
--- The first message of a link that is about a connection tells the place of its command.
+-- The first message of a link that is about a connection, and isn't left of a command that is over, tells the place of its command. Between a backend and the
+-- master nothing is left of such commands.
 use Rattle.std.proofs.Common.{◌≡◌, ℕ, Bool, true, false, cond, nat_eq, List, ◌∷◌, filter, Option, None, Some, refl, sym, ap, subst, ◌∙◌}
 use Rattle.std.specs.Cmp.Lexicographic.{pointwise, same_text}
 use Rattle.back_node.specs.declared.node.BackNode.{BackNode}
@@ -57,7 +58,8 @@ its_first murder front replica id here from to message first own on is =
 
 pub none_on_its_way : NoneOnItsWay
 none_on_its_way murder conn from to message first own is =
-    let some : None ≡ here_at from to message = (first_of 0 murder.links from to message first.rest (of_connection conn) None first.first own (none_over message) is.message).0 in cc
+    let some : None ≡ here_at from to message =
+    (first_of 0 murder.links from to message first.rest (of_connection conn) None first.first own (none_over message) is.message).0 in cc
 
 -- ---- between a backend and the master
 

@@ -3,7 +3,7 @@ use Rattle.std.proofs.Common.{◌≡◌, ◌≢◌, ℕ, Bool, true, false, List
 use Rattle.back_links.specs.BackEvents.{IsFitting}
 use Rattle.back_node.specs.declared.node.BackNode.{BackNode}
 use Rattle.back_node.specs.Takes.{node_takes}
-use Rattle.front_core.proofs.OneConnection.Places.{about, ask_on, is_about, of_connection, own_about}
+use Rattle.front_core.proofs.OneConnection.Places.{ask_on, is_about, of_connection, own_about}
 use Rattle.link_msg.specs.declared.message.LinkMsg.{LinkMsg}
 use Rattle.link_msg.specs.declared.message.LinkMsg.TheVariants.{Up, End, Line, Ask, Answer}
 use Rattle.link_queue.specs.Links.{Links, on_link}

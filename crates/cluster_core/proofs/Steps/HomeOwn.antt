@@ -1,5 +1,5 @@
 -- A backend takes the ask of a command, or the response to the line of its flow: where the command is then.
-use Rattle.std.proofs.Common.{◌≡◌, ℕ, ◌≤◌, true, false, List, [], ◌∷◌, ◌++◌, filter, Option, None, Some, refl, sym, ap, subst, ◌∙◌, arith}
+use Rattle.std.proofs.Common.{◌≡◌, ℕ, ◌≤◌, true, false, List, [], ◌∷◌, ◌++◌, filter, Option, None, Some, refl, ap, subst, ◌∙◌, arith}
 use Rattle.back_links.specs.BackEvents.{IsFitting}
 use Rattle.back_node.specs.declared.node.BackNode.{BackNode}
 use Rattle.back_node.specs.Acted.{BackActed}

@@ -68,7 +68,7 @@ module _ (config : Config) (world : World) (master : Master) (nodes : AreNodesOf
   is_front node front at =
       let of = nodes.fronts node front at in record { no_master = λ e. of.no_master (e ∙ nodes.me); no_home = of.no_home }
 
-  pub is_fed_front : FeedsHold config world master → (node : List ℕ) (front : Front) (id : AskId) → front_at world node ≡ Some front → IsNumbered id
+  abbrev pub is_fed_front : FeedsHold config world master → (node : List ℕ) (front : Front) (id : AskId) → front_at world node ≡ Some front → IsNumbered id
       → IsFedFront (murder_of world master) node front.replica id
   is_fed_front feeds node front id at numbered = record {
     is_front = is_front node front at;
@@ -164,9 +164,9 @@ module _ (config : Config) (heard : ℕ → Heard) (world : World) (law : KeepsL
   on_by : (stop : Stop) (its_heard : Heard)
       → ((front : List ℕ) (replica : Replica) (here : Place) → IsIn murder front replica its here → is_over its.command message ≡ false)
       → (IsNowhere murder conn → ⊥) → ConnectionIs (fixed_of config) conn world law.story stop its_heard → is_over its.command message ≡ false
-  on_by _ _ placed none (is_nobody no fronts untold) =
+  on_by _ _ placed none (is_nobody nobodys fronts untold) =
       absurd (none (none_in_murder (fixed_of config) world law.master law.nodes.me conn untold.nothing))
-  on_by _ _ placed none (is_elsewhere front given at no untold) =
+  on_by _ _ placed none (is_elsewhere front given at no_front untold) =
       absurd (none (none_in_murder (fixed_of config) world law.master law.nodes.me conn untold.nothing))
   on_by _ _ placed none (is_open bytes at_node front connection at begun standing) =
       placed at_node front.replica standing.here
