@@ -2,7 +2,7 @@
 ghost use Rattle.route_links.specs.Answered.{IsANoop, NoopIsAnswered, OkIsRead, OkIsNoNews};
 ghost use Rattle.route_links.specs.AsTheStore.{MissingHasNoBox, NamesAreTheStores, RefusedIsReserved, AskedHasTheBox, DecidesAsTheStore};
 ghost use Rattle.route_links.specs.Decided.{ByItsTable, NamesOfItsTable};
-ghost use Rattle.route_links.specs.Events.{First, Begins, SendsOther, Hears, Takes, TakesNoop, OthersAreTaken, ClientsComeAndGo, Decides};
+ghost use Rattle.route_links.specs.Events.{First, Begins, SendsOther, Breaks, ComesUp, Hears, Takes, TakesNoop, OthersAreTaken, ClientsComeAndGo, Decides};
 
 /// Whoever sends the NOOP of a command, the master answers in the same step: by an OK that is read as the OK of this command and changes no replica, and
 /// with the command's mark, which counts where its client is answered.
@@ -20,6 +20,8 @@ pub fn each_event_keeps_a_barrier()
     ensures begins { Begins }
     ensures sends { SendsOther }
     ensures hears { Hears }
+    ensures breaks { Breaks }
+    ensures comes_up { ComesUp }
     ensures takes { Takes }
     ensures answers { TakesNoop }
     ensures others { OthersAreTaken }
