@@ -1,5 +1,5 @@
 -- A part of a list, in its order, as a link that breaks leaves of what is on its way.
-use Rattle.std.proofs.Common.{◌≡◌, ◌≤◌, List, [], ◌∷◌, ◌++◌, refl, sym, ap, ◌∙◌, subst, append-nil, arith}
+use Rattle.std.proofs.Common.{◌≡◌, ◌≤◌, List, [], ◌∷◌, ◌++◌, refl, sym, ap, subst, append-nil, arith}
 use Rattle.std.specs.List.{AllByRecursion}
 use Rattle.link_msg.specs.declared.message.LinkMsg.{LinkMsg}
 use Rattle.link_msg.specs.declared.message.LinkMsg.TheVariants.{End}
@@ -40,35 +40,6 @@ first_part {M} x whole (lacks_it y {part = part} {whole = rest} is) e =
 
 pub part_of_first : {M : Type 0} (x : M) (whole part : List M) → IsPart part (x ∷ whole) → IsFirstPart x part whole
 part_of_first x whole part is = first_part x whole is refl
-
--- where one stands in a list, it stands in its part too, or is gone
-pub data IsPartThere {M : Type 0} (x : M) (before behind part : List M) : Type 0 where
-  stands_there : (one two : List M) → part ≡ one ++ x ∷ two → IsPart one before → IsPart two behind → IsPartThere x before behind part
-  gone_there : (one two : List M) → part ≡ one ++ two → IsPart one before → IsPart two behind → IsPartThere x before behind part
-
-module _ {M : Type 0} (x : M) where
-  there_first : (behind part : List M) → IsFirstPart x part behind → IsPartThere x [] behind part
-  there_first behind part (keeps_first rest is more) = stands_there [] rest is is_none more
-  there_first behind part (lost_first more) = gone_there [] part refl is_none more
-
-  there_with : (y : M) (before behind rest part : List M) → part ≡ y ∷ rest → IsPartThere x before behind rest → IsPartThere x (y ∷ before) behind part
-  there_with y before behind rest part e (stands_there one two is first second) =
-      stands_there (y ∷ one) two (e ∙ ap (λ l. y ∷ l) is) (has_it y first) second
-  there_with y before behind rest part e (gone_there one two is first second) = gone_there (y ∷ one) two (e ∙ ap (λ l. y ∷ l) is) (has_it y first) second
-
-  there_without : (y : M) (before behind part : List M) → IsPartThere x before behind part → IsPartThere x (y ∷ before) behind part
-  there_without y before behind part (stands_there one two is first second) = stands_there one two is (lacks_it y first) second
-  there_without y before behind part (gone_there one two is first second) = gone_there one two is (lacks_it y first) second
-
-  there_by : (y : M) (before behind part : List M) → ((rest : List M) → IsPart rest (before ++ x ∷ behind) → IsPartThere x before behind rest)
-      → IsFirstPart y part (before ++ x ∷ behind) → IsPartThere x (y ∷ before) behind part
-  there_by y before behind part later (keeps_first rest e more) = there_with y before behind rest part e (later rest more)
-  there_by y before behind part later (lost_first more) = there_without y before behind part (later part more)
-
-  pub part_there : (before behind part : List M) → IsPart part (before ++ x ∷ behind) → IsPartThere x before behind part
-  part_there [] behind part is = there_first behind part (part_of_first x behind part is)
-  part_there (y ∷ before) behind part is =
-      there_by y before behind part (λ rest more. part_there before behind rest more) (part_of_first y (before ++ x ∷ behind) part is)
 
 -- what is lost of a link stands behind all that is kept, but for where it ends
 pub record IsCutShort (part whole : List LinkMsg) : Type 0 where

@@ -2,6 +2,5 @@ pub mod Tags
 pub mod AnsweredLaw
 pub mod Sent
 pub mod BarrierLaw
-pub mod Lost
 pub mod DecidedLaw
 pub mod StoreLaw

@@ -14,7 +14,7 @@ pub fn a_noop_is_answered_at_once()
 {}
 
 /// A barrier begins where the frontend sends the NOOP, is answered where the master takes it, and ends where the frontend takes its OK; each other event
-/// leaves it where it is.
+/// leaves it where it is, as does a link that breaks. Where that comes up again, no command has a barrier.
 pub fn each_event_keeps_a_barrier()
     ensures first { First }
     ensures begins { Begins }
