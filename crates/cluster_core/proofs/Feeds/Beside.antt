@@ -136,7 +136,7 @@ module _ (config : Config) (world : World) (master : Master) (nodes : AreNodesOf
         ∙ puts_else node links next.outs any name (front_no_home any node front home was at) ∙ up_left any front was)
         (ap (λ (l : Links LinkMsg). on_link l name any) home_links
         ∙ puts_else node links next.outs name any (λ e. home_apart node home at (sym e)) ∙ down_left any front was)
-        same_homes
+        (ap (λ (b : Broken). is_broken b name any) home_broken) same_homes
 
     home_does_feeds : FeedsHold config home_then master
     home_does_feeds = still_feeds home_then same_homes home_fed

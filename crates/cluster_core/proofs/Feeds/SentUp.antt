@@ -16,7 +16,7 @@ use Rattle.asking_core.specs.declared.waiting.Waiting.{Waiting}
 use Rattle.feed_links.specs.Lines.{messages_to}
 use Rattle.feed_links.proofs.FeedLaw.{both}
 use Rattle.feed_links.proofs.Names.{other_name}
-use Rattle.front_core.specs.Answered.{answer_by, answer_comes, by_then, clears_at, end_by, end_comes, ends_at, goes_on_by, need_behind, ok_by, ok_comes, reading_again}
+use Rattle.front_core.specs.Answered.{answer_by, answer_comes, by_then, clears_at, end_by, ends_at, goes_on_by, need_behind, ok_by, ok_comes, reading_again}
 use Rattle.front_core.specs.Answered.{refused_behind, sends_if, waiting_come}
 use Rattle.front_core.specs.Front.{Stepped, all_end, answer_at, answer_from, awaited, bytes_by, bytes_in, connect, connect_at, connection_at, deliver, end_at, end_from, end_if}
 use Rattle.front_core.specs.Front.{front_bytes_at, front_hang_at, hang, having_read, line_by, line_from, ok_at, one_ends, still, up_from, waits_for, ways_of, with_up, without_up}
@@ -326,6 +326,13 @@ unfolding deliver
 line_keeps_link master front from bytes =
     keeps_link master front front.ups (line_from (pointwise nat_eq from front.master) front bytes) refl (line_from_up front bytes (pointwise nat_eq from front.master))
 
+up_by : (front : Front) (from : List ℕ) (same : Bool) → from ≢ front.master → same ≡ false → KeepsLink front.master front (up_from same (with_up front from))
+unfolding up_from
+up_by front from false ne e =
+    keeps_link front.master front (coming_up front.ups from) (still (with_up front from)) (others_coming front.ups from front.master (λ s. ne (sym s)))
+    (stays_up (with_up front from))
+up_by front from true ne e = cc
+
 -- a message of another node
 pub others_keep_link : (front : Front) (from : List ℕ) (message : LinkMsg) → from ≢ front.master → KeepsLink front.master front (deliver front from message)
 unfolding deliver
@@ -333,13 +340,7 @@ others_keep_link front from (Answer it) ne =
     keeps_link front.master front front.ups (answer_from (waits_for (connection_at front (it.id).conn) from) front it) refl
     (answer_from_up front it (waits_for (connection_at front (it.id).conn) from))
 others_keep_link front from (Line bytes) ne = line_keeps_link front.master front from bytes
-others_keep_link front from Up ne = up_by (pointwise nat_eq from front.master) (other_name from front.master ne)
-  where
-    up_by : (same : Bool) → same ≡ false → KeepsLink front.master front (up_from same (with_up front from))
-    unfolding up_from
-    up_by false e = keeps_link front.master front (coming_up front.ups from) (still (with_up front from)) (others_coming front.ups from front.master (λ s. ne (sym s)))
-        (stays_up (with_up front from))
-    up_by true e = cc
+others_keep_link front from Up ne = up_by front from (pointwise nat_eq from front.master) ne (other_name from front.master ne)
 others_keep_link front from End ne =
     keeps_link front.master front (going_down front.ups from) (end_from (without_up front from) from) (others_going front.ups from front.master (λ s. ne (sym s)))
     (all_end_up (without_up front from) from (keys_of front.connections))
