@@ -1,6 +1,7 @@
 -- The names and the feeds are kept by each step.
 pub mod Many
 pub mod Backends
+pub mod SentUp
 pub mod Beside
 pub mod AtMaster
 pub mod FrontAsks

@@ -26,7 +26,7 @@ use Rattle.mupdate_codec.specs.declared.tag.Tag.{Tag}
 use Rattle.mupdate_codec.specs.Whole.{command_in}
 use Rattle.mur_base.specs.Map.{value_at}
 use Rattle.feed_links.specs.Lines.{messages_to, IsOf, IsOfAnother, HasStreams, stream_of}
-use Rattle.feed_links.specs.OneFeed.{IsNoop, AreNoops, IsUp, AreUps, IsNoopOrUp, AreNoopsOrUps, IsUpOrEnd, AreUpsOrEnds, IsFrontsOwn, AreFrontsOwn, its_noop, its_update, its_link}
+use Rattle.feed_links.specs.OneFeed.{IsNoop, AreNoops, IsUp, IsNoopOrUp, AreNoopsOrUps, IsUpOrEnd, AreUpsOrEnds, IsFrontsOwn, AreFrontsOwn, its_noop, its_update, its_link}
 use Rattle.feed_links.specs.OneFeed.{IsLine, AreLines, IsLineOrEnd, AreLinesOrEnds, ends_of, HasUpdateTag, IsFed, asks, is_told, comes_up, breaks_early, is_parted, IsFedAfter}
 use Rattle.feed_links.specs.OneFeed.{NoopsKeepIt, HearsKeepsIt, EndKeepsIt, UpKeepsIt, TakesKeepsIt, LateKeepsIt, OthersKeepIt, ClientsKeepIt, BreaksKeepIt, MendsKeepIt}
 use Rattle.feed_links.specs.Replicas.{hears, hears_all, replica_of, IsNoNews, AreNoNews}

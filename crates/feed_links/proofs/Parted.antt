@@ -1,12 +1,12 @@
 -- A feed of a link that has broken stands where messages are lost.
-use Rattle.std.proofs.Common.{◌≡◌, ℕ, ◌≤◌, Bool, true, false, List, ◌∷◌, None, refl, sym, subst, arith}
+use Rattle.std.proofs.Common.{◌≡◌, ℕ, ◌≤◌, Bool, true, false, List, None, refl, sym, subst, arith}
 use Rattle.std.specs.List.{AllByRecursion}
 use Rattle.feed_core.specs.declared.replica.Replica.{Replica}
 use Rattle.link_msg.specs.declared.message.LinkMsg.{LinkMsg}
 use Rattle.link_msg.specs.declared.message.LinkMsg.TheVariants.{Up, End}
 use Rattle.master_core.specs.declared.master.Master.{Master}
 use Rattle.feed_links.specs.Lines.{stream_of}
-use Rattle.feed_links.specs.OneFeed.{IsUpOrEnd, AreUpsOrEnds, IsFrontsOwn, IsLineOrEnd, AreLinesOrEnds, ends_of, HasUpdateTag}
+use Rattle.feed_links.specs.OneFeed.{IsUpOrEnd, AreUpsOrEnds, IsFrontsOwn, IsLineOrEnd, ends_of, HasUpdateTag}
 use Rattle.feed_links.specs.OneFeed.{IsFed, asks, is_told, comes_up, breaks_early, is_parted}
 use Rattle.feed_links.proofs.FeedLaw.{ends_lines, ups_own, whole_not}
 use Rattle.feed_links.proofs.Parts.{IsPart, IsFirstPart, keeps_first, lost_first, part_ends, part_has, part_of_first}

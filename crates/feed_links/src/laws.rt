@@ -18,7 +18,7 @@ pub fn a_node_keeps_its_stream()
 {}
 
 /// What holds of one feed stays so in each event: the frontend sends NOOP or takes a message, the master takes one of the frontend's, another node's, or
-/// what a client from outside does.
+/// what a client from outside does; their link breaks, or comes up again.
 pub fn each_event_keeps_a_feed()
     ensures noops { NoopsKeepIt }
     ensures hears { HearsKeepsIt }

@@ -6,10 +6,11 @@ use Rattle.std.specs.List.{list_any}
 use Rattle.feed_core.specs.declared.replica.Replica.{Replica}
 use Rattle.feed_core.specs.Stream.{update_line, update_tag}
 use Rattle.feed_core.proofs.StreamLaw.{update_read}
+use Rattle.feed_links.proofs.FeedLaw.{whole_not}
 use Rattle.feed_links.proofs.Messages.{told_line, own_answers, no_answers, change_told, change_untold, reply_messages, settled_messages}
 use Rattle.feed_links.proofs.Steps.{StepIs, is_bad, is_taken, taken, step_is}
 use Rattle.feed_links.specs.Lines.{messages_to, stream_of, HasStreams, IsOf, IsOfAnother}
-use Rattle.feed_links.specs.OneFeed.{IsFed, asks, is_told, IsNoop, AreNoops}
+use Rattle.feed_links.specs.OneFeed.{IsFed, asks, is_told, comes_up, breaks_early, is_parted, HasUpdateTag, IsNoop, AreNoopsOrUps, IsUp}
 use Rattle.link_msg.specs.declared.message.LinkMsg.{LinkMsg}
 use Rattle.link_msg.specs.declared.message.LinkMsg.TheVariants.{Up, End, Line, Ask, Answer}
 use Rattle.master_core.specs.declared.master.Master.{Master}
@@ -166,21 +167,38 @@ module _ (ask : AskId) where
       subst (λ m. AreOfOthers ask (messages_to node (node_says master node m).outs)) (sym is)
       (own_line master node update_line update_tag command.Update update_read (update_none master) (subst (IsOfOther ask) is other))
 
+  own_up : (master : Master) (node : List ℕ) (message : LinkMsg) → IsUp message → AreOfOthers ask (messages_to node (node_says master node message).outs)
+  unfolding node_says
+  own_up master node message is = subst (λ m. AreOfOthers ask (messages_to node (node_says master node m).outs)) (sym is) tt
+
   -- a frontend that is fed sends nothing else
   first_by : (master : Master) (node : List ℕ) (message : LinkMsg) (up before behind : List LinkMsg) → message ∷ up ≡ before ++ Line update_line ∷ behind
-      → AreNoops before → IsOfOther ask message → AreOfOthers ask (messages_to node (node_says master node message).outs)
+      → AreNoopsOrUps before → IsOfOther ask message → AreOfOthers ask (messages_to node (node_says master node message).outs)
   first_by master node message up [] behind is noops other =
       own_update master node message (let same : message ≡ Line update_line = cc in same) other
-  first_by master node message up (b ∷ before) behind is noops other =
-      own_noop master node message (let same : b ≡ message = cc in subst IsNoop same noops.0) other
+  first_by master node message up (b ∷ before) behind is (inl noop, noops) other =
+      own_noop master node message (let same : b ≡ message = cc in subst IsNoop same noop) other
+  first_by master node message up (b ∷ before) behind is (inr up_is, noops) other =
+      own_up master node message (let same : b ≡ message = cc in sym same ∙ up_is)
 
-  pub own_sends_others : (master : Master) (node : List ℕ) (message : LinkMsg) (up down : List LinkMsg) (replica : Replica)
-      → IsFed master node (message ∷ up) down replica → IsOfOther ask message → AreOfOthers ask (messages_to node (node_says master node message).outs)
-  own_sends_others master node message up down replica (asks before behind is one two none empty no_stream) other =
+  pub own_sends_others : (master : Master) (node : List ℕ) (reached : Bool) (message : LinkMsg) (up down : List LinkMsg) (replica : Replica)
+      → IsFed master node false reached (message ∷ up) down replica → IsOfOther ask message
+      → AreOfOthers ask (messages_to node (node_says master node message).outs)
+  own_sends_others master node reached message up down replica (asks whole there before behind is one two lines none empty no_stream) other =
       first_by master node message up before behind is one other
-  own_sends_others master node message up down replica (is_told are told there) other = own_noop master node message are.0 other
+  own_sends_others master node reached message up down replica (is_told whole there are lines told stream) other = own_noop master node message are.0 other
+  own_sends_others master node reached message up down replica (comes_up whole unreached ups is no_stream) other = own_up master node message ups.0
+  own_sends_others master node reached message up down replica (breaks_early gone unreached ups ends is are less no_stream) other = whole_not false gone refl
+  own_sends_others master node reached message up down replica (is_parted gone own lines less tag) other = whole_not false gone refl
 
-pub fed_stream : (master : Master) (node : List ℕ) (up down : List LinkMsg) (replica : Replica) → IsFed master node up down replica
-    → (stream_of master node ≡ None) ⊎ (stream_of master node ≡ Some update_tag)
-fed_stream master node up down replica (asks before behind is one two none empty no_stream) = inl no_stream
-fed_stream master node up down replica (is_told are told there) = inr there
+pub fed_stream : (master : Master) (node : List ℕ) (broken reached : Bool) (up down : List LinkMsg) (replica : Replica)
+    → IsFed master node broken reached up down replica → (stream_of master node ≡ None) ⊎ (stream_of master node ≡ Some update_tag)
+fed_stream master node broken reached up down replica (asks whole there before behind is one two lines none empty no_stream) = inl no_stream
+fed_stream master node broken reached up down replica (is_told whole there are lines told stream) = inr stream
+fed_stream master node broken reached up down replica (comes_up whole unreached ups is no_stream) = inl no_stream
+fed_stream master node broken reached up down replica (breaks_early gone unreached ups ends is are less no_stream) = inl no_stream
+fed_stream master node broken reached up down replica (is_parted gone own lines less tag) = by (stream_of master node) tag
+  where
+    by : (stream : Option Tag) → HasUpdateTag stream → (stream ≡ None) ⊎ (stream ≡ Some update_tag)
+    by None is = inl refl
+    by (Some tag) is = inr (ap (λ t. Some t) is)

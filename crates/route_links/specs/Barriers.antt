@@ -1,12 +1,12 @@
 -- Where the barrier of a command is: nowhere, on its way to the master, or answered. The messages between a frontend and the master are `up` and `down`.
-use Rattle.std.specs.Prelude.{◌≡◌, ◌≢◌, List, ◌∷◌, ◌++◌, Some}
+use Rattle.std.specs.Prelude.{◌≡◌, ◌≢◌, ◌⊎◌, List, ◌∷◌, ◌++◌, Some}
 use Rattle.std.specs.List.{AllByRecursion}
 use Rattle.ask_routes.specs.Barrier.{barrier_answered}
 use Rattle.feed_core.specs.declared.replica.Replica.{Replica}
-use Rattle.feed_links.specs.OneFeed.{AreNoops}
+use Rattle.feed_links.specs.OneFeed.{IsNoop}
 use Rattle.feed_links.specs.Replicas.{hears_all, replica_of}
 use Rattle.link_msg.specs.declared.message.LinkMsg.{LinkMsg}
-use Rattle.link_msg.specs.declared.message.LinkMsg.TheVariants.{Line}
+use Rattle.link_msg.specs.declared.message.LinkMsg.TheVariants.{End, Line}
 use Rattle.mupdate_codec.specs.Asks.{line_ask}
 use Rattle.mur_base.specs.declared.point.AskId.{AskId}
 use Rattle.node_record.specs.Table.{MailboxTable}
@@ -30,14 +30,21 @@ pub record HasNoBarrier (ask : AskId) (up down : List LinkMsg) : Type 0 where
   pub up_others : AreOfOthers ask up
   pub down_others : AreOfOthers ask down
 
--- its NOOP is on its way, the only line of it; behind it stand NOOPs alone, so the frontend's UPDATE stands before it or was taken
+-- behind its NOOP: NOOPs, and End where the link has broken
+abbrev pub IsNoopOrEnd : LinkMsg → Type 0
+IsNoopOrEnd message = IsNoop message ⊎ (message ≡ End)
+
+abbrev pub AreNoopsOrEnds : List LinkMsg → Type 0
+AreNoopsOrEnds messages = AllByRecursion IsNoopOrEnd messages
+
+-- its NOOP is on its way, the only line of it; no UPDATE stands behind it, so the frontend's stands before it or was taken
 pub record AsksMaster (ask : AskId) (up down : List LinkMsg) : Type 0 where
   pub before : List LinkMsg
   pub behind : List LinkMsg
   pub up_is : up ≡ before ++ noop_of ask ∷ behind
   pub before_others : AreOfOthers ask before
   pub behind_others : AreOfOthers ask behind
-  pub behind_noops : AreNoops behind
+  pub behind_noops : AreNoopsOrEnds behind
   pub down_others : AreOfOthers ask down
 
 -- the master took it when it had this table: its OK is on its way, the only line of it, and once the frontend has taken all that stands before the OK, its

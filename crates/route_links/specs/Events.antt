@@ -1,12 +1,14 @@
 -- What each event makes of a command's barrier. What is sent stands behind what was sent before, and each end takes the first message.
-use Rattle.std.specs.Prelude.{◌≡◌, ◌≢◌, ℕ, List, [], ◌∷◌, ◌++◌}
+use Rattle.std.specs.Prelude.{◌≡◌, ◌≢◌, ℕ, Bool, false, List, [], ◌∷◌, ◌++◌}
+use Rattle.std.specs.List.{AllByRecursion}
 use Rattle.feed_core.specs.declared.replica.Replica.{Replica}
+use Rattle.feed_core.specs.Feed.{empty_replica}
 use Rattle.feed_core.specs.Stream.{update_line}
 use Rattle.feed_links.specs.Lines.{messages_to, HasStreams}
-use Rattle.feed_links.specs.OneFeed.{IsFed}
+use Rattle.feed_links.specs.OneFeed.{AreUpsOrEnds, IsFed}
 use Rattle.feed_links.specs.Replicas.{hears, replica_of}
 use Rattle.link_msg.specs.declared.message.LinkMsg.{LinkMsg}
-use Rattle.link_msg.specs.declared.message.LinkMsg.TheVariants.{Line}
+use Rattle.link_msg.specs.declared.message.LinkMsg.TheVariants.{Up, End, Line}
 use Rattle.master_core.specs.declared.master.Master.{Master}
 use Rattle.master_core.specs.Linked.{node_says}
 use Rattle.master_core.specs.Outside.{Stepped, bytes_in, connect}
@@ -47,28 +49,41 @@ abbrev pub Decides : Type 0
 Decides = (ask : AskId) (at : Place) (up down : List LinkMsg) (message : LinkMsg) (replica : Replica) → IsOkOf ask message
     → IsBarrierAt ask at up (message ∷ down) replica → IsDecided ask at up down replica
 
+-- its link to the master comes up again: no line of the command is on its way, and it sends UPDATE
+abbrev pub ComesUp : Type 0
+ComesUp = (ask : AskId) (at : Place) (up down : List LinkMsg) (replica : Replica) → IsNumbered ask → AreUpsOrEnds up
+    → AllByRecursion (λ message. message ≡ End) down → IsBarrierAt ask at up (Up ∷ down) replica
+    → (at ≡ nowhere) × IsBarrierAt ask nowhere (up ++ Line update_line ∷ []) down empty_replica
+
+-- ---- the link breaks
+
+-- End stands behind all that is on its way
+abbrev pub Breaks : Type 0
+Breaks = (ask : AskId) (at : Place) (up down : List LinkMsg) (replica : Replica) → IsBarrierAt ask at up down replica
+    → IsBarrierAt ask at (up ++ End ∷ []) (down ++ End ∷ []) replica
+
 -- ---- at the master
 
 -- where the barrier is after a step of the master
 abbrev pub IsAtAfter : AskId → Place → Stepped → List ℕ → List LinkMsg → List LinkMsg → Replica → Type 0
 IsAtAfter ask at next node up down replica = IsBarrierAt ask at up (down ++ messages_to node next.outs) replica
 
--- it takes the NOOP of the command, which was on its way: from here on the table of this step is waited for
+-- over a link that is whole it takes the NOOP of the command, which was on its way: from here on the table of this step is waited for
 abbrev pub TakesNoop : Type 0
-TakesNoop = (ask : AskId) (at : Place) (master : Master) (node : List ℕ) (up down : List LinkMsg) (replica : Replica) → IsNumbered ask
-    → IsFed master node (noop_of ask ∷ up) down replica → IsBarrierAt ask at (noop_of ask ∷ up) down replica
+TakesNoop = (ask : AskId) (at : Place) (master : Master) (node : List ℕ) (reached : Bool) (up down : List LinkMsg) (replica : Replica) → IsNumbered ask
+    → IsFed master node false reached (noop_of ask ∷ up) down replica → IsBarrierAt ask at (noop_of ask ∷ up) down replica
     → (at ≡ asked) × IsAtAfter ask (answered master.table) (node_says master node (noop_of ask)) node up down replica
 
--- it takes another message of the frontend
+-- and another message of the frontend
 abbrev pub Takes : Type 0
-Takes = (ask : AskId) (at : Place) (master : Master) (node : List ℕ) (up down : List LinkMsg) (message : LinkMsg) (replica : Replica)
-    → message ≢ noop_of ask → IsFed master node (message ∷ up) down replica → IsBarrierAt ask at (message ∷ up) down replica
+Takes = (ask : AskId) (at : Place) (master : Master) (node : List ℕ) (reached : Bool) (up down : List LinkMsg) (message : LinkMsg) (replica : Replica)
+    → message ≢ noop_of ask → IsFed master node false reached (message ∷ up) down replica → IsBarrierAt ask at (message ∷ up) down replica
     → IsAtAfter ask at (node_says master node message) node up down replica
 
 -- it takes a message of another node, backend or frontend, whatever that is
 abbrev pub OthersAreTaken : Type 0
-OthersAreTaken = (ask : AskId) (at : Place) (master : Master) (node other : List ℕ) (up down : List LinkMsg) (message : LinkMsg) (replica : Replica)
-    → HasStreams master → other ≢ node → IsFed master node up down replica → IsBarrierAt ask at up down replica
+OthersAreTaken = (ask : AskId) (at : Place) (master : Master) (node other : List ℕ) (broken reached : Bool) (up down : List LinkMsg) (message : LinkMsg)
+    (replica : Replica) → HasStreams master → other ≢ node → IsFed master node broken reached up down replica → IsBarrierAt ask at up down replica
     → IsAtAfter ask at (node_says master other message) node up down replica
 
 -- a client from outside connects, or sends bytes

@@ -2,7 +2,7 @@
 ghost use Rattle.route_links.specs.Answered.{IsANoop, NoopIsAnswered, OkIsRead, OkIsNoNews};
 ghost use Rattle.route_links.specs.AsTheStore.{MissingHasNoBox, NamesAreTheStores, RefusedIsReserved, AskedHasTheBox, DecidesAsTheStore};
 ghost use Rattle.route_links.specs.Decided.{ByItsTable, NamesOfItsTable};
-ghost use Rattle.route_links.specs.Events.{First, Begins, SendsOther, Hears, Takes, TakesNoop, OthersAreTaken, ClientsComeAndGo, Decides};
+ghost use Rattle.route_links.specs.Events.{First, Begins, SendsOther, Breaks, ComesUp, Hears, Takes, TakesNoop, OthersAreTaken, ClientsComeAndGo, Decides};
 
 /// Whoever sends the NOOP of a command, the master answers in the same step: by an OK that is read as the OK of this command and changes no replica, and
 /// with the command's mark, which counts where its client is answered.
@@ -14,12 +14,14 @@ pub fn a_noop_is_answered_at_once()
 {}
 
 /// A barrier begins where the frontend sends the NOOP, is answered where the master takes it, and ends where the frontend takes its OK; each other event
-/// leaves it where it is.
+/// leaves it where it is, as does a link that breaks. Where that comes up again, no command has a barrier.
 pub fn each_event_keeps_a_barrier()
     ensures first { First }
     ensures begins { Begins }
     ensures sends { SendsOther }
     ensures hears { Hears }
+    ensures breaks { Breaks }
+    ensures comes_up { ComesUp }
     ensures takes { Takes }
     ensures answers { TakesNoop }
     ensures others { OthersAreTaken }

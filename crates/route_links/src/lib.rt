@@ -11,7 +11,7 @@
 //!
 //! The master answers a NOOP in the step in which it takes it ([`a_noop_is_answered_at_once`]), behind all that it told before, so what a frontend has
 //! taken before the OK makes its replica that of the table of this step, whatever the master tells later ([`each_event_keeps_a_barrier`]). So a name that
-//! is told missing had no record then, and the store no box ([`a_barrier_decides_as_the_store`]). Links here don't break, and nodes don't crash.
+//! is told missing had no record then, and the store no box ([`a_barrier_decides_as_the_store`]). Nodes here don't crash.
 #![tactic(auto)]
 
 mod laws;

@@ -1,5 +1,5 @@
 -- The feeds after a step of the master.
-use Rattle.std.proofs.Common.{◌≡◌, ◌≢◌, ◌⊎◌, inl, inr, ℕ, is_some, List, [], ◌∷◌, ◌++◌, Option, None, Some, refl, sym, ap, ◌∙◌, subst, append-nil}
+use Rattle.std.proofs.Common.{◌≡◌, ◌≢◌, ◌⊎◌, inl, inr, ℕ, Bool, is_some, List, [], ◌∷◌, ◌++◌, Option, None, Some, refl, sym, ap, ◌∙◌, subst, append-nil}
 use Rattle.std.specs.List.{AllByRecursion}
 use Rattle.std.specs.Option.{IsSome}
 use Rattle.std.specs.Ordering.{nat_cmp}
@@ -14,19 +14,19 @@ use Rattle.cluster_core.specs.World.{master_of, front_at, home_at, taken_from_li
 use Rattle.feed_core.specs.declared.replica.Replica.{Replica}
 use Rattle.feed_core.specs.Stream.{update_tag}
 use Rattle.feed_links.specs.Lines.{messages_to, stream_of}
-use Rattle.feed_links.specs.OneFeed.{AreLines, IsFed, IsLine}
-use Rattle.feed_links.specs.OneFeed.IsFed.{asks, is_told}
+use Rattle.feed_links.specs.OneFeed.{IsFed}
 use Rattle.feed_links.specs.Spelled.{CanBeTold}
 use Rattle.feed_links.proofs.Arguments.{HasArguments, line_has}
 use Rattle.feed_links.proofs.Changes.{MakesChange, makes_change}
-use Rattle.feed_links.proofs.FeedLaw.{both, clients_keep_it, no_message, others_keep_it, says_order, says_told}
+use Rattle.feed_links.proofs.FeedLaw.{clients_keep_it, no_message, others_keep_it, says_order, says_told}
 use Rattle.feed_links.proofs.Following.{change_parts, update_tagged}
 use Rattle.feed_links.proofs.Messages.{change_told, change_untold, no_answers, reply_messages}
-use Rattle.feed_links.proofs.OnlyLines.{sends_lines}
 use Rattle.feed_links.proofs.Printed.{response_spelled}
 use Rattle.front_core.specs.declared.front.Front.{Front}
+use Rattle.front_core.specs.Ups.{is_up}
 use Rattle.link_msg.specs.declared.message.LinkMsg.{LinkMsg}
 use Rattle.mur_base.specs.declared.home.Location.{Location}
+use Rattle.link_queue.specs.Broken.{Broken, is_broken}
 use Rattle.link_queue.specs.Links.{Links, on_link, without_first}
 use Rattle.many_links.specs.ManyHold.{ManyHold}
 use Rattle.many_links.specs.Murder.{Nodes, put_all}
@@ -52,6 +52,7 @@ use Rattle.node_step.specs.declared.input.NodeInput.TheVariants.{Opened, Piece, 
 use Rattle.node_step.specs.declared.node.NodeState.TheVariants as state
 use Rattle.name_links.specs.Serials.{Given}
 use Rattle.node_record.specs.declared.master.MasterRecord.{MasterRecord}
+use Rattle.route_links.proofs.Sent.{fed_stream}
 use Rattle.cluster_core.specs.declared.world.World.{World}
 use Rattle.cluster_core.proofs.Connections.KeepsLaw.{AreKeptAtBackends, AreNodesOf, FeedsHold, IsFedAt, KnowsBackends, TellsBackends, murder_of}
 use Rattle.cluster_core.proofs.Feeds.Backends.{ArePlaced, LineNames, SameBackends, each_kept, kept_still, knows_more, knows_still, line_tells}
@@ -72,9 +73,8 @@ outside_same master (From from message) is = absurd is
 -- ---- a step in which each frontend is sent what follows the table
 
 -- what is to be shown of each
-pub record IsToldSo (nodes : Nodes) (master : Master) (next : Served) (any : List ℕ) (up down : List LinkMsg) (replica : Replica) : Type 0 where
-  pub fed : IsFed next.master any up (down ++ messages_to any next.outs) replica
-  pub lines : AreLines (messages_to any next.outs)
+pub record IsToldSo (nodes : Nodes) (master : Master) (next : Served) (any : List ℕ) (broken reached : Bool) (up down : List LinkMsg) (replica : Replica) : Type 0 where
+  pub fed : IsFed next.master any broken reached up (down ++ messages_to any next.outs) replica
   pub told : AllByRecursion (TellsBackends nodes) (messages_to any next.outs)
 
 module _ (config : Config) (world : World) (master : Master) (nodes : AreNodesOf config world master) (feeds : FeedsHold config world master) where
@@ -83,7 +83,8 @@ module _ (config : Config) (world : World) (master : Master) (nodes : AreNodesOf
 
   module _ (links : Links LinkMsg) (next : Served) (down_left : (any : List ℕ) → on_link links name any ≡ on_link world.links name any)
       (each : (any : List ℕ) (front : Front) → front_at world any ≡ Some front
-      → IsToldSo (home_at world) master next any (on_link links any name) (on_link world.links name any) front.replica)
+      → IsToldSo (home_at world) master next any (is_broken world.broken name any) (is_up front.ups name) (on_link links any name) (on_link world.links name any)
+      front.replica)
       (streams : IsInOrder (slice_cmp nat_cmp) next.master.streams) (nobodys : TellNobody next.master.streams) (spelled : CanBeTold next.master.table)
       (kept : AreKeptAtBackends (home_at world) next.master.table) where
     abbrev then : World
@@ -98,6 +99,9 @@ module _ (config : Config) (world : World) (master : Master) (nodes : AreNodesOf
     then_links : then.links ≡ put_all name links next.outs
     then_links = (is_made (record world { links = links }) name (state.Master next.master) next.outs).links
 
+    then_broken : then.broken ≡ world.broken
+    then_broken = (is_made (record world { links = links }) name (state.Master next.master) next.outs).broken
+
     then_fed : (any : List ℕ) (front : Front) → front_at then any ≡ Some front → IsFedAt config then next.master any front
     then_fed any front there =
         let at : front_at world any ≡ Some front = sym (moves.fronts any) ∙ there in
@@ -109,9 +113,10 @@ module _ (config : Config) (world : World) (master : Master) (nodes : AreNodesOf
         let down : on_link then.links name any ≡ on_link world.links name any ++ sent =
         ap (λ (l : Links LinkMsg). on_link l name any) then_links ∙ puts_own name links next.outs any ∙ ap (λ l. l ++ sent) (down_left any) in
         record {
-          fed = fed_moved next.master any (on_link links any name) (on_link then.links any name) (on_link world.links name any ++ sent) (on_link then.links name any) front.replica
-              up down so.fed;
-          lines = subst AreLines (sym down) (both IsLine (on_link world.links name any) sent was.lines so.lines);
+          fed = subst (λ (b : Broken). IsFed next.master any (is_broken b name any) (is_up front.ups name) (on_link then.links any name) (on_link then.links name any) front.replica)
+              (sym then_broken)
+              (fed_moved next.master any (is_broken world.broken name any) (is_up front.ups name) (on_link links any name) (on_link then.links any name)
+              (on_link world.links name any ++ sent) (on_link then.links name any) front.replica up down so.fed);
           knows = subst (λ d. KnowsBackends (home_at then) d front.replica) (sym down)
               (knows_still (home_at world) (home_at then) (on_link world.links name any ++ sent) front.replica same_homes
               (knows_more (home_at world) (on_link world.links name any) sent front.replica was.knows so.told));
@@ -137,33 +142,29 @@ module _ (config : Config) (world : World) (master : Master) (nodes : AreNodesOf
   outside_told (Hung conn) is any = refl
   outside_told (From from message) is any = absurd is
 
-  outside_fed : (input : NodeInput) → IsOfClient input → (any : List ℕ) (up down : List LinkMsg) (replica : Replica) → IsFed master any up down replica
-      → IsFed (master_does master input).master any up (down ++ messages_to any (master_does master input).outs) replica
-  outside_fed (Opened conn) is any up down replica fed = (clients_keep_it master any up down replica fed).connects conn
-  outside_fed (Piece conn bytes) is any up down replica fed = (clients_keep_it master any up down replica fed).says conn bytes
-  outside_fed (Hung conn) is any up down replica fed =
-      subst (λ d. IsFed (master_does master (Hung conn)).master any up d replica) (sym (append-nil down)) ((clients_keep_it master any up down replica fed).ends conn)
-  outside_fed (From from message) is any up down replica fed = absurd is
+  outside_fed : (input : NodeInput) → IsOfClient input → (any : List ℕ) (broken reached : Bool) (up down : List LinkMsg) (replica : Replica)
+      → IsFed master any broken reached up down replica
+      → IsFed (master_does master input).master any broken reached up (down ++ messages_to any (master_does master input).outs) replica
+  outside_fed (Opened conn) is any broken reached up down replica fed = (clients_keep_it master any broken reached up down replica fed).connects conn
+  outside_fed (Piece conn bytes) is any broken reached up down replica fed = (clients_keep_it master any broken reached up down replica fed).says conn bytes
+  outside_fed (Hung conn) is any broken reached up down replica fed =
+      subst (λ d. IsFed (master_does master (Hung conn)).master any broken reached up d replica) (sym (append-nil down))
+      ((clients_keep_it master any broken reached up down replica fed).ends conn)
+  outside_fed (From from message) is any broken reached up down replica fed = absurd is
 
   pub master_serves_feeds : (input : NodeInput) → IsOfClient input → FeedsHold config (with_master world name (master_does master input)) (master_does master input).master
   master_serves_feeds input is =
       let same = outside_same master input is in
       master_then_feeds world.links (master_does master input) (λ any. refl)
       (λ any front at. record {
-        fed = outside_fed input is any (on_link world.links any name) (on_link world.links name any) front.replica (feeds.each any front at).fed;
-        lines = subst AreLines (sym (outside_told input is any)) tt;
+        fed = outside_fed input is any (is_broken world.broken name any) (is_up front.ups name) (on_link world.links any name) (on_link world.links name any) front.replica
+            (feeds.each any front at).fed;
         told = subst (AllByRecursion (TellsBackends (home_at world))) (sym (outside_told input is any)) tt;
       })
       (subst (λ s. IsInOrder (slice_cmp nat_cmp) s) (sym same.0) feeds.streams) (subst TellNobody (sym same.0) feeds.nobodys)
       (subst CanBeTold (sym same.1) feeds.spelled) (subst (AreKeptAtBackends (home_at world)) (sym same.1) feeds.kept)
 
   -- ---- a line of a backend
-
-  -- a frontend has no stream, or one under its tag
-  stream_is : (any : List ℕ) (up down : List LinkMsg) (replica : Replica) → IsFed master any up down replica
-      → (stream_of master any ≡ None) ⊎ (stream_of master any ≡ Some update_tag)
-  stream_is any up down replica (asks before behind is one two none empty no_stream) = inl no_stream
-  stream_is any up down replica (is_told are told there) = inr there
 
   module _ (given : Given) (store : Store) (many : ManyHold (murder_of world master) given store) (node : List ℕ) (home : BackNode) (at : home_at world node ≡ Some home)
       (message : LinkMsg) (rest : List LinkMsg) (first : on_link world.links node name ≡ message ∷ rest) where
@@ -249,18 +250,20 @@ module _ (config : Config) (world : World) (master : Master) (nodes : AreNodesOf
     home_left any = taken_else world.links node name name any (inl (λ e. home_apart config world master nodes feeds node home at (sym e)))
 
     told_so : (any : List ℕ) (front : Front) → front_at world any ≡ Some front
-        → IsToldSo (home_at world) master says any (on_link (without_first world.links node name) any name) (on_link world.links name any) front.replica
+        → IsToldSo (home_at world) master says any (is_broken world.broken name any) (is_up front.ups name) (on_link (without_first world.links node name) any name)
+        (on_link world.links name any) front.replica
     told_so any front is =
         let was = feeds.each any front is in
         let ne : any ≢ node = front_no_home config world master nodes feeds any node front home is at in
         let other : node ≢ any = λ e. ne (sym e) in
+        let cut : Bool = is_broken world.broken name any in
+        let reached : Bool = is_up front.ups name in
         record {
-          fed = subst (λ u. IsFed says.master any u (on_link world.links name any ++ messages_to any says.outs) front.replica)
+          fed = subst (λ u. IsFed says.master any cut reached u (on_link world.links name any ++ messages_to any says.outs) front.replica)
               (sym (taken_else world.links node name any name (inl ne)))
-              (others_keep_it master any node (on_link world.links any name) (on_link world.links name any) message front.replica feeds.streams other was.fed);
-          lines = sends_lines master node any message;
+              (others_keep_it master any node cut reached (on_link world.links any name) (on_link world.links name any) message front.replica feeds.streams other was.fed);
           told = subst (AllByRecursion (TellsBackends (home_at world))) (sym (sent_is any other))
-              (changed_told any reply.entry refl (stream_is any (on_link world.links any name) (on_link world.links name any) front.replica was.fed));
+              (changed_told any reply.entry refl (fed_stream master any cut reached (on_link world.links any name) (on_link world.links name any) front.replica was.fed));
         }
 
     pub master_takes_feeds : FeedsHold config (with_master (taken_from_link world node name) name (node_says master node message)) (node_says master node message).master

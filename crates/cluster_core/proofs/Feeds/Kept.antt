@@ -6,6 +6,7 @@ use Rattle.feed_links.specs.OneFeed.{AreNoops}
 use Rattle.front_core.specs.declared.front.Front.{Front}
 use Rattle.front_core.specs.Front.{Stepped, deliver}
 use Rattle.link_msg.specs.declared.message.LinkMsg.{LinkMsg}
+use Rattle.link_msg.specs.declared.message.LinkMsg.TheVariants.{Line}
 use Rattle.link_queue.specs.Links.{on_link}
 use Rattle.many_links.specs.ManyHold.{ManyHold}
 use Rattle.master_core.specs.declared.master.Master.{Master}
@@ -59,9 +60,8 @@ module _ (config : Config) (world : World) (master : Master) (given : Given) (st
   front_answered_kept from node front message at ne noops =
       front_taken_kept from node front message at (front_answered_feeds config world master kept.nodes kept.feeds from node front message at ne noops)
 
-  pub front_hears_kept : (node : List ℕ) (front : Front) (message : LinkMsg) (rest : List LinkMsg)
-      → front_at world node ≡ Some front
-      → on_link world.links name node ≡ message ∷ rest → AreNoops (messages_to name (deliver front name message).outs)
-      → IsKept config (all_come (taken_from_link world name node) node (From name message)) master given store
-  front_hears_kept node front message rest at first noops =
-      front_taken_kept name node front message at (front_hears_feeds config world master kept.nodes kept.feeds node front message rest at first noops)
+  pub front_hears_kept : (node : List ℕ) (front : Front) (bytes : List ℕ) (rest : List LinkMsg) → front_at world node ≡ Some front
+      → on_link world.links name node ≡ Line bytes ∷ rest → AreNoops (messages_to name (deliver front name (Line bytes)).outs)
+      → IsKept config (all_come (taken_from_link world name node) node (From name (Line bytes))) master given store
+  front_hears_kept node front bytes rest at first noops =
+      front_taken_kept name node front (Line bytes) at (front_hears_feeds config world master kept.nodes kept.feeds node front at bytes rest first noops)

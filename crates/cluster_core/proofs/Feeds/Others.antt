@@ -32,4 +32,4 @@ module _ (config : Config) (world : World) (master : Master) (nodes : AreNodesOf
       still_feeds config world master nodes feeds (taken_from_link world from to) (λ server. refl)
       (λ any front there. still_fed config world master nodes feeds (taken_from_link world from to) any front there
       (taken_else world.links from to any (master_of config) (inr (λ e. no_master (sym e))))
-      (taken_else world.links from to (master_of config) any (inr (another any front there))) (λ server. refl))
+      (taken_else world.links from to (master_of config) any (inr (another any front there))) refl (λ server. refl))
