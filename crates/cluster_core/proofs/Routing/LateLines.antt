@@ -318,7 +318,7 @@ module _ (config : Config) (are : AreNodes config.nodes) (steps : List Event)
     then_parts : steps ≡ then_steps ++ after
     then_parts = whole_parts ∙ ap (λ s. s ++ last) whole_is ∙ append_assoc then_steps sent.later last
 
-    law_then : LawBehind config then_steps
+    abbrev law_then : LawBehind config then_steps
     law_then = laws then_steps after then_parts
 
     front_then : (front : Front) × (front_at (at then_steps) from ≡ Some front)

@@ -39,7 +39,7 @@ use Rattle.mur_model.specs.History.{GoesOn as ListsGoOn, Talk}
 use Rattle.node_step.specs.NodeStep.{as_back, as_front, as_master}
 use Rattle.node_step.specs.declared.node.NodeState.{NodeState}
 use Rattle.node_step.specs.declared.node.NodeState.TheVariants as state
-use Rattle.node_step.proofs.NodeKinds.{a_back, a_front, a_master}
+use Rattle.node_step.proofs.NodeKinds.{a_back, a_front}
 use Rattle.schedule_text.specs.declared.event.Event.{Event}
 use Rattle.schedule_text.specs.declared.event.Event.TheVariants.{Deliver}
 use Rattle.cluster_core.specs.declared.world.World.{World}
@@ -54,6 +54,7 @@ use Rattle.cluster_core.specs.Headline.Routing.StandsAt.{at_frontend, not_reache
 use Rattle.cluster_core.specs.History.{history_of}
 use Rattle.cluster_core.specs.Numbers.{NumbersFitAll}
 use Rattle.cluster_core.proofs.Keeps.AlwaysRuns.{run_holds}
+use Rattle.cluster_core.proofs.Nodes.Comes.{a_master}
 use Rattle.cluster_core.proofs.Runs.OneNodeLaw.{one_more_step}
 use Rattle.cluster_core.proofs.OneServer.EachStep.{LawBehind, said_behind}
 use Rattle.cluster_core.proofs.OneServer.MarksGoOn.{run_goes_on, run_steps-append, steps_made}
