@@ -94,8 +94,9 @@ abbrev IsReplied : (ℕ → ℕ) → Mark → Type 0
 IsReplied said mark = command_of mark ≤ said (conn_of mark)
 
 module _ (said told : ℕ → ℕ) where
-  last_there : (earlier : Option MarkKind) (marks acting : List Mark) → LeavesOut said marks acting → Fit told acting → All (IsReplied said) acting → (k : ℕ) (mark : Mark)
-      → k < length marks → get_or marks k mark ≡ mark → mark.kind ≡ Home Always → told (conn_of mark) < command_of mark → IsLastAlways said earlier marks mark
+  last_there : (earlier : Option MarkKind) (marks acting : List Mark) → LeavesOut said marks acting → Fit told acting → All (IsReplied said) acting
+      → (k : ℕ) (mark : Mark) → k < length marks → get_or marks k mark ≡ mark → mark.kind ≡ Home Always → told (conn_of mark) < command_of mark
+      → IsLastAlways said earlier marks mark
   unfolding last_from Fit
   last_there earlier marks acting no_marks fit all k mark within at always high = absurd (omega (arith, within))
   last_there earlier marks acting (stays first more rest next leaves) fit all zero mark within at always high =
