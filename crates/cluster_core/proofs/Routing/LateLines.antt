@@ -36,8 +36,8 @@ use Rattle.cluster_core.specs.Headline.Asks.IsNeeded.{to_list, is_put_off, is_un
 use Rattle.cluster_core.specs.Headline.Asks.IsRightLine.{is_noop, is_update}
 use Rattle.cluster_core.specs.Headline.OneNode.{ChangesLinks, OnlyWorks, WorksBy, leaves_on, node_of, relinked, relinks, up_on, worker}
 use Rattle.cluster_core.specs.Heard.{heard}
-use Rattle.cluster_core.specs.Numbers.{NumbersFit, NumbersFitAll}
-use Rattle.cluster_core.specs.World.{client_at, front_at, master_of, node_at, start, steps_by}
+use Rattle.cluster_core.specs.Numbers.{NumbersFitAll}
+use Rattle.cluster_core.specs.World.{client_at, front_at, master_of, node_at, start}
 use Rattle.cluster_core.specs.declared.world.Client.{Client}
 use Rattle.cluster_core.specs.declared.world.World.{World}
 use Rattle.cluster_core.proofs.Asking.AsksLaw.{know_first, step_rightly}
