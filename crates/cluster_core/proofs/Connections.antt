@@ -1,7 +1,6 @@
 -- What holds of each connection, and each kind of event that keeps it.
 pub mod ConnectionLaw
 pub mod KeepsLaw
-pub mod KeepsBehind
 pub mod Stays
 pub mod Nowhere
 pub mod Tales
@@ -22,3 +21,4 @@ pub mod GivenAlone
 pub mod AtMaster
 pub mod ClientEvents
 pub mod ClientsInOrder
+pub mod KeepsBehind

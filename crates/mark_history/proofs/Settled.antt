@@ -7,7 +7,6 @@ use Rattle.std.proofs.Math.Logic.{⊎_elim}
 use Rattle.std.proofs.lemmas.Bool.{cases_eq}
 use Rattle.std.proofs.lemmas.Bool.Decides.{nat_tests}
 use Rattle.std.proofs.lemmas.List.Elements.{All-contains, All-contains_itself, All-head, All-tail, Contains-append_left}
-use Rattle.imap_types.specs.declared.request.Answer.{Answer}
 use Rattle.link_msg.specs.declared.counts.Counts.TheVariants.{Always, IfAnswered}
 use Rattle.link_msg.specs.declared.how.How.{How}
 use Rattle.mur_base.specs.declared.point.AskId.{AskId}
@@ -27,7 +26,6 @@ use Rattle.mark_history.proofs.MarkLaw.{holds}
 use Rattle.mark_history.proofs.Tally.{Fit, acts, command_of, conn_of, fits, of_equal, same_id}
 use Rattle.mark_history.proofs.TakenBack.{last_none, none_untold}
 use Rattle.mark_history.proofs.Tellings.{has_tellings, tells_client}
-use Rattle.mark_history.proofs.Without.{acts_by}
 
 -- by the last mark of the open command
 unfoldable pub settled_by : Option MarkKind → ℕ → ℕ → ℕ
@@ -96,8 +94,9 @@ abbrev IsReplied : (ℕ → ℕ) → Mark → Type 0
 IsReplied said mark = command_of mark ≤ said (conn_of mark)
 
 module _ (said told : ℕ → ℕ) where
-  last_there : (earlier : Option MarkKind) (marks acting : List Mark) → LeavesOut said marks acting → Fit told acting → All (IsReplied said) acting → (k : ℕ) (mark : Mark)
-      → k < length marks → get_or marks k mark ≡ mark → mark.kind ≡ Home Always → told (conn_of mark) < command_of mark → IsLastAlways said earlier marks mark
+  last_there : (earlier : Option MarkKind) (marks acting : List Mark) → LeavesOut said marks acting → Fit told acting → All (IsReplied said) acting
+      → (k : ℕ) (mark : Mark) → k < length marks → get_or marks k mark ≡ mark → mark.kind ≡ Home Always → told (conn_of mark) < command_of mark
+      → IsLastAlways said earlier marks mark
   unfolding last_from Fit
   last_there earlier marks acting no_marks fit all k mark within at always high = absurd (omega (arith, within))
   last_there earlier marks acting (stays first more rest next leaves) fit all zero mark within at always high =

@@ -34,4 +34,5 @@ StepKeeps config before stopped heard world event =
 
 pub step_keeps : (config : Config) (before : Tale) (stopped : ℕ → Stop) (heard : ℕ → Heard) (world : World) (event : Event)
     → KeepsOn config before stopped heard world → StepKeeps config before stopped heard world event
+unfolding behind
 step_keeps config before stopped heard world event keeps = (behind config before stopped heard world keeps, λ none. keeps.grows)

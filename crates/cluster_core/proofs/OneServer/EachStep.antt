@@ -112,7 +112,8 @@ kept_from config steps before (event ∷ rest) each e law moves =
     let one = each.next before event rest e law moves in
     let all = kept_from config steps (before ++ event ∷ []) rest each (e ∙ sym (append_assoc before (event ∷ []) rest)) one.law (one.moving ∙ moves) in
     let more =
-    talks_follow (said_behind config before law) (said_behind config (before ++ event ∷ []) one.law) all.talk (step_goes_on config before event law one) all.more in
+    talks_follow (said_behind config before law) (said_behind config (before ++ event ∷ []) one.law) all.talk (step_goes_on config before event law one)
+    all.more in
     record {
       talk = all.talk;
       more = more;

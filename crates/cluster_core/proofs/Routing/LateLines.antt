@@ -36,8 +36,8 @@ use Rattle.cluster_core.specs.Headline.Asks.IsNeeded.{to_list, is_put_off, is_un
 use Rattle.cluster_core.specs.Headline.Asks.IsRightLine.{is_noop, is_update}
 use Rattle.cluster_core.specs.Headline.OneNode.{ChangesLinks, OnlyWorks, WorksBy, leaves_on, node_of, relinked, relinks, up_on, worker}
 use Rattle.cluster_core.specs.Heard.{heard}
-use Rattle.cluster_core.specs.Numbers.{NumbersFit, NumbersFitAll}
-use Rattle.cluster_core.specs.World.{client_at, front_at, master_of, node_at, start, steps_by}
+use Rattle.cluster_core.specs.Numbers.{NumbersFitAll}
+use Rattle.cluster_core.specs.World.{client_at, front_at, master_of, node_at, start}
 use Rattle.cluster_core.specs.declared.world.Client.{Client}
 use Rattle.cluster_core.specs.declared.world.World.{World}
 use Rattle.cluster_core.proofs.Asking.AsksLaw.{know_first, step_rightly}
@@ -68,8 +68,8 @@ module _ (config : Config) (came : ℕ → Heard) (world : World) (law : KeepsLa
     (connection : Connection) (at : IsAt world conn node front connection) (client : Client) (is : client_at world conn ≡ Some client)
     (there : client.at ≡ node) where
   -- where its client is connected one frontend has it
-  counted_at : (here : List ℕ) (other : Front) (it : Connection) (its : Client) → IsAt world conn here other it → client_at world conn ≡ Some its → its.at ≡ here
-      → it.answered ≡ length (law.story.told conn) → connection.answered ≡ length (law.story.told conn)
+  counted_at : (here : List ℕ) (other : Front) (it : Connection) (its : Client) → IsAt world conn here other it → client_at world conn ≡ Some its
+      → its.at ≡ here → it.answered ≡ length (law.story.told conn) → connection.answered ≡ length (law.story.told conn)
   counted_at here other it its is_at found its_at count =
       let clients : client ≡ its = same_client (sym is ∙ found) in
       let nodes : node ≡ here = sym there ∙ ap (λ (c : Client). c.at) clients ∙ its_at in
@@ -203,7 +203,8 @@ module _ (config : Config) (are : AreNodes config.nodes) where
 
     still : (from to : List ℕ) → All (SentThen from) (on_link world.links from to)
     still from to =
-        All-weaker (IsSentSo config before from) (SentThen from) (λ m sent. still_sent config before event from m sent) (on_link world.links from to) (all from to)
+        All-weaker (IsSentSo config before from) (SentThen from) (λ m sent. still_sent config before event from m sent) (on_link world.links from to)
+        (all from to)
 
     rightly : AsksRightly config.nodes event world next
     rightly =
@@ -318,7 +319,7 @@ module _ (config : Config) (are : AreNodes config.nodes) (steps : List Event)
     then_parts : steps ≡ then_steps ++ after
     then_parts = whole_parts ∙ ap (λ s. s ++ last) whole_is ∙ append_assoc then_steps sent.later last
 
-    law_then : LawBehind config then_steps
+    abbrev law_then : LawBehind config then_steps
     law_then = laws then_steps after then_parts
 
     front_then : (front : Front) × (front_at (at then_steps) from ≡ Some front)
@@ -337,7 +338,8 @@ module _ (config : Config) (are : AreNodes config.nodes) (steps : List Event)
         let is = its_client (at then_steps) from other.conn (client_at (at then_steps) other.conn) refl client in
         let is_at : IsAt (at then_steps) other.conn from front_then.0 waits.connection = record { at = front_then.1; has = waits.there } in
         let count : (waits.connection).answered ≡ length (law_then.story.told other.conn) =
-        answered_told config (λ conn. heard config conn then_steps) (at then_steps) law_then other.conn from front_then.0 waits.connection is_at is.0 is.1 is.2 in
+        answered_told config (λ conn. heard config conn then_steps) (at then_steps) law_then other.conn from front_then.0 waits.connection is_at is.0 is.1
+        is.2 in
         let number : other.command ≡ length (law_then.story.told other.conn) + 1 = waits.number ∙ ap (λ n. n + 1) count in
         let numbered : IsNumbered other =
         subst (λ n. IsNumbered (record { conn = other.conn; command = n })) (sym number)
@@ -375,5 +377,5 @@ module _ (config : Config) (are : AreNodes config.nodes) (steps : List Event)
       → IsBarred config steps laws whole id line
   line_barred whole last parts from to line rest id first its sender there =
       barred whole last parts from line id its sender there
-      (All-head (IsSentSo config whole from) (Line line) rest (subst (All (IsSentSo config whole from)) first (all_sent config are steps laws whole last parts from to))
-      line id refl its)
+      (All-head (IsSentSo config whole from) (Line line) rest
+      (subst (All (IsSentSo config whole from)) first (all_sent config are steps laws whole last parts from to)) line id refl its)

@@ -86,4 +86,5 @@ module _ (config : Config) (steps : List Event) (talk : Talk) (whole : ℕ → L
       absurd (no_mailbox tells.tag tells.c (subst (λ (i : AskId). IsOf config came world law i tells.tag (tells.c).it) its tells.asked))
   takes_noop (at_master line is its mine) =
       by_line line is mine
-      (line_tells config came world law taken.from taken.to line taken.rest id (taken.comes ∙ ap (λ (m : LinkMsg). m ∷ taken.rest) is) its (is_on line is its) mine fits).is_line
+      (line_tells config came world law taken.from taken.to line taken.rest id (taken.comes ∙ ap (λ (m : LinkMsg). m ∷ taken.rest) is) its
+      (is_on line is its) mine fits).is_line

@@ -39,7 +39,7 @@ use Rattle.mur_model.specs.History.{GoesOn as ListsGoOn, Talk}
 use Rattle.node_step.specs.NodeStep.{as_back, as_front, as_master}
 use Rattle.node_step.specs.declared.node.NodeState.{NodeState}
 use Rattle.node_step.specs.declared.node.NodeState.TheVariants as state
-use Rattle.node_step.proofs.NodeKinds.{a_back, a_front, a_master}
+use Rattle.node_step.proofs.NodeKinds.{a_back, a_front}
 use Rattle.schedule_text.specs.declared.event.Event.{Event}
 use Rattle.schedule_text.specs.declared.event.Event.TheVariants.{Deliver}
 use Rattle.cluster_core.specs.declared.world.World.{World}
@@ -54,6 +54,7 @@ use Rattle.cluster_core.specs.Headline.Routing.StandsAt.{at_frontend, not_reache
 use Rattle.cluster_core.specs.History.{history_of}
 use Rattle.cluster_core.specs.Numbers.{NumbersFitAll}
 use Rattle.cluster_core.proofs.Keeps.AlwaysRuns.{run_holds}
+use Rattle.cluster_core.proofs.Nodes.Comes.{a_master}
 use Rattle.cluster_core.proofs.Runs.OneNodeLaw.{one_more_step}
 use Rattle.cluster_core.proofs.OneServer.EachStep.{LawBehind, said_behind}
 use Rattle.cluster_core.proofs.OneServer.MarksGoOn.{run_goes_on, run_steps-append, steps_made}
@@ -153,7 +154,8 @@ module _ (config : Config) (are : AreNodes config.nodes) (steps : List Event)
       absurd (let me : taken.from ≡ master_of config = its.nodes.only taken.from master (ap as_master there ∙ a_master master) in
       let none = ((run_holds config taken.before).masters (master_of config) its.master its.nodes.is_there).selfless in
       let no : [] ≡ taken.message ∷ taken.rest =
-      sym none ∙ ap (λ f. on_link (at taken.before).links f (master_of config)) (sym me) ∙ ap (on_link (at taken.before).links taken.from) (sym mine) ∙ taken.comes in cc)
+      sym none ∙ ap (λ f. on_link (at taken.before).links f (master_of config)) (sym me) ∙ ap (on_link (at taken.before).links taken.from) (sym mine)
+      ∙ taken.comes in cc)
 
   sender : (taken : Taken config steps) → taken.to ≡ master_of config
       → ((front : Front) × (front_at (at taken.before) taken.from ≡ Some front)) ⊎ IsSome (home_at (at taken.before) taken.from)
@@ -168,7 +170,8 @@ module _ (config : Config) (are : AreNodes config.nodes) (steps : List Event)
   barred : (taken : Taken config steps) (id : AskId) (line : List ℕ) → taken.message ≡ Line line → line_ask line ≡ Some id → taken.to ≡ master_of config
       → (front : Front) → front_at (at taken.before) taken.from ≡ Some front → IsBarred config steps laws taken.before id line
   barred taken id line is its mine front there =
-      line_barred config are steps laws fit taken.before _ taken.parts taken.from (master_of config) line taken.rest id (line_there taken line is mine) its front there
+      line_barred config are steps laws fit taken.before _ taken.parts taken.from (master_of config) line taken.rest id (line_there taken line is mine) its
+      front there
 
   -- of a backend: its command isn't over
   line_on : (taken : Taken config steps) (id : AskId) (line : List ℕ) → taken.message ≡ Line line → line_ask line ≡ Some id → taken.to ≡ master_of config
@@ -446,12 +449,12 @@ module _ (config : Config) (are : AreNodes config.nodes) (steps : List Event)
       (λ (front : (it : Front) × (front_at (at taken.before) taken.from ≡ Some it)).
       record { line = is ∙ ap Line (barred taken id line is its mine front.0 front.1).line_is; to = mine })
       (λ (home : IsSome (home_at (at taken.before) taken.from)).
-      takes_noop config steps talk all_asked more taken (laws taken.before _ taken.parts) (each_more taken.before _ taken.parts) (fit taken.before _ taken.parts) id
-      is_list (λ other e told. line_on taken id other e told mine home) (at_master line is its mine))
+      takes_noop config steps talk all_asked more taken (laws taken.before _ taken.parts) (each_more taken.before _ taken.parts)
+      (fit taken.before _ taken.parts) id is_list (λ other e told. line_on taken id other e told mine home) (at_master line is its mine))
       (sender taken mine)
   noop_of taken id is_list (at_home ask is its none home) =
-      takes_noop config steps talk all_asked more taken (laws taken.before _ taken.parts) (each_more taken.before _ taken.parts) (fit taken.before _ taken.parts) id
-      is_list (λ other e told. (let no : Ask ask ≡ Line other = sym is ∙ e in cc)) (at_home ask is its none home)
+      takes_noop config steps talk all_asked more taken (laws taken.before _ taken.parts) (each_more taken.before _ taken.parts)
+      (fit taken.before _ taken.parts) id is_list (λ other e told. (let no : Ask ask ≡ Line other = sym is ∙ e in cc)) (at_home ask is its none home)
 
   -- a LIST of names that was answered OK stands where the master takes its NOOP
   abbrev NotAlone : Mark → Type 0
