@@ -6,6 +6,7 @@ use Rattle.std.specs.Ordering.{nat_cmp}
 use Rattle.cluster_core.specs.World.{acts, client_at, client_does, comes, comes_to, deliver_first, is_lost, node_at, not_lost, opens, taken_from_link, takes, with_acted, with_client, with_written}
 use Rattle.cluster_core.specs.declared.world.Client.{Client}
 use Rattle.cluster_core.specs.declared.world.World.{World}
+use Rattle.feed_links.proofs.Parts.{IsCutShort, nothing_lost}
 use Rattle.feed_links.specs.Lines.{message_to, messages_to}
 use Rattle.link_msg.specs.declared.message.LinkMsg.{LinkMsg}
 use Rattle.link_msg.specs.declared.out.Out.{Out}
@@ -20,11 +21,21 @@ use Rattle.node_step.specs.declared.input.NodeInput.TheVariants.{Opened, Piece, 
 use Rattle.node_step.specs.declared.node.NodeState.{NodeState}
 use Rattle.schedule_text.specs.declared.event.Event.{Event}
 use Rattle.schedule_text.specs.declared.event.Event.TheVariants.{Open, Data, Hang, Deliver, Cut, Join}
-use Rattle.cluster_core.proofs.Links.Thinned.{IsShort, IsThinned, all_there, kept_first, same_thinned}
+use Rattle.cluster_core.proofs.Links.Thinned.{IsThinned, same_thinned}
 use Rattle.cluster_core.proofs.Nodes.AllCome.{all_come, all_come_to, all_first, all_of_client, all_open, all_takes}
 use Rattle.cluster_core.proofs.Nodes.Carried.{IsCarried, all_carried, given_all, given_out, made, mark_made, marks_made}
 
 -- ---- what is lost of the outputs of a node
+
+kept_first : (kept lost : List LinkMsg) → IsCutShort kept (kept ++ lost)
+kept_first kept lost = record {
+  kept = kept;
+  lost = lost;
+  behind = [];
+  whole_is = ap (λ l. kept ++ l) (sym (append-nil lost));
+  part_is = sym (append-nil kept);
+  ends = tt;
+}
 
 module _ (broken : Broken) (node : List ℕ) where
   -- an output that is no message goes out
@@ -147,16 +158,16 @@ module _ (world : World) (node : List ℕ) (acted : Acted) where
       (λ (ne : a ≢ node). (λ whole. real_else a b ne ∙ sym (full_else a b ne)))
       (same_or_other (slice_cmp nat_cmp) names_apart a node)
 
-  own_short : (b : List ℕ) (cut : Bool) → is_broken world.broken node b ≡ cut → IsShort (on_link (acts world node acted).links node b) (on_link all.links node b)
+  own_short : (b : List ℕ) (cut : Bool) → is_broken world.broken node b ≡ cut → IsCutShort (on_link (acts world node acted).links node b) (on_link all.links node b)
   own_short b true e =
-      subst (λ l. IsShort l (on_link all.links node b)) (sym (acts_cut b e))
-      (subst (IsShort (on_link world.links node b)) (sym (full_own b)) (kept_first (on_link world.links node b) (messages_to b acted.outs)))
-  own_short b false e = subst (λ l. IsShort l (on_link all.links node b)) (sym (own_whole b e)) (all_there (on_link all.links node b))
+      subst (λ l. IsCutShort l (on_link all.links node b)) (sym (acts_cut b e))
+      (subst (IsCutShort (on_link world.links node b)) (sym (full_own b)) (kept_first (on_link world.links node b) (messages_to b acted.outs)))
+  own_short b false e = subst (λ l. IsCutShort l (on_link all.links node b)) (sym (own_whole b e)) (nothing_lost (on_link all.links node b))
 
-  short_at : (a b : List ℕ) → IsShort (on_link (acts world node acted).links a b) (on_link all.links a b)
+  short_at : (a b : List ℕ) → IsCutShort (on_link (acts world node acted).links a b) (on_link all.links a b)
   short_at a b = ⊎_elim
-      (λ (e : a ≡ node). subst (λ x. IsShort (on_link (acts world node acted).links x b) (on_link all.links x b)) (sym e) (own_short b (is_broken world.broken node b) refl))
-      (λ (ne : a ≢ node). subst (λ l. IsShort l (on_link all.links a b)) (full_else a b ne ∙ sym (real_else a b ne)) (all_there (on_link all.links a b)))
+      (λ (e : a ≡ node). subst (λ x. IsCutShort (on_link (acts world node acted).links x b) (on_link all.links x b)) (sym e) (own_short b (is_broken world.broken node b) refl))
+      (λ (ne : a ≢ node). subst (λ l. IsCutShort l (on_link all.links a b)) (full_else a b ne ∙ sym (real_else a b ne)) (nothing_lost (on_link all.links a b)))
       (same_or_other (slice_cmp nat_cmp) names_apart a node)
 
   pub acts_thinned : IsThinned all (acts world node acted)
