@@ -1,5 +1,5 @@
 -- What the master sends a node from which nothing comes to it is about no command: lines of the node's stream.
-use Rattle.std.proofs.Common.{◌≡◌, ◌≢◌, ℕ, nat_eq, Bool, true, false, cond, if◌then◌else◌, List, [], ◌∷◌, ◌++◌, None, Some, filter, refl, sym, ◌∙◌, ap, subst, All}
+use Rattle.std.proofs.Common.{◌≡◌, ◌≢◌, ◌&&◌, ℕ, nat_eq, Bool, true, false, not, cond, if◌then◌else◌, List, [], ◌∷◌, ◌++◌, None, Some, filter, refl, sym, ◌∙◌, ap, subst, All}
 use Rattle.std.proofs.Math.Logic.{⊎_elim}
 use Rattle.std.proofs.lemmas.List.Elements.{All-head, All-tail}
 use Rattle.std.specs.Cmp.Lexicographic.{pointwise}
@@ -86,6 +86,7 @@ reply_nobodys master from node tag reply another nobodys =
 
 step_nobodys : (master : Master) (from : Sender) (node : List ℕ) (next : Planned) → IsOfAnother node from → TellNobody master.streams → StepIs master from next
     → AreNobodys (messages_to node next.outs)
+unfolding bad_step
 step_nobodys master from node next another nobodys (is_bad tag tagged) = reply_nobodys master from node tag bad_reply another nobodys
 step_nobodys master from node next another nobodys (is_taken tag it tagged has may) =
     subst AreNobodys (sym (settled_messages node (replied master from tag (reply_to master.table from it)) from tag (stream_step it)))

@@ -182,6 +182,13 @@ module _ (world : World) (node : List ℕ) (acted : Acted) where
     whole = λ a b e. whole_at a b (ap (λ (broken : Broken). is_broken broken a b) (sym full.broken) ∙ e);
   }
 
+  -- so much more is on its links where nothing is lost
+  pub own_sent : (b : List ℕ) → on_link all.links node b ≡ on_link world.links node b ++ messages_to b acted.outs
+  own_sent b = full_own b
+
+  pub else_same : (a b : List ℕ) → a ≢ node → on_link (acts world node acted).links a b ≡ on_link all.links a b
+  else_same a b ne = real_else a b ne ∙ sym (full_else a b ne)
+
 -- ---- what comes to a node, and what an event brings it
 
 thinned_by : (world : World) (node : List ℕ) (input : NodeInput) (found : Option NodeState) → IsThinned (all_come_to world node input found) (comes_to world node input found)
@@ -191,6 +198,30 @@ thinned_by world node input (Some it) = acts_thinned world node (node_takes it i
 
 pub comes_thinned : (world : World) (node : List ℕ) (input : NodeInput) → IsThinned (all_come world node input) (comes world node input)
 comes_thinned world node input = thinned_by world node input (node_at world node)
+
+-- of the links of other nodes
+else_by : (world : World) (node : List ℕ) (input : NodeInput) (found : Option NodeState) (a b : List ℕ) → a ≢ node
+    → on_link (comes_to world node input found).links a b ≡ on_link (all_come_to world node input found).links a b
+unfolding all_come_to comes_to
+else_by world node input None a b ne = refl
+else_by world node input (Some it) a b ne = else_same world node (node_takes it input) a b ne
+
+pub comes_else : (world : World) (node : List ℕ) (input : NodeInput) (a b : List ℕ) → a ≢ node
+    → on_link (comes world node input).links a b ≡ on_link (all_come world node input).links a b
+comes_else world node input a b ne = else_by world node input (node_at world node) a b ne
+
+-- of a broken link of its own
+pub record CutOwn (world : World) (node b : List ℕ) (input : NodeInput) (it : NodeState) : Type 0 where
+  pub left : on_link (comes world node input).links node b ≡ on_link world.links node b
+  pub sent : on_link (all_come world node input).links node b ≡ on_link world.links node b ++ messages_to b (node_takes it input).outs
+
+pub cut_own : (world : World) (node b : List ℕ) (input : NodeInput) (it : NodeState) → node_at world node ≡ Some it → is_broken world.broken node b ≡ true
+    → CutOwn world node b input it
+unfolding all_come_to comes_to
+cut_own world node b input it there cut = record {
+  left = ap (λ found. on_link (comes_to world node input found).links node b) there ∙ acts_cut world node (node_takes it input) b cut;
+  sent = ap (λ found. on_link (all_come_to world node input found).links node b) there ∙ own_sent world node (node_takes it input) b;
+}
 
 opens_thinned : (world : World) (node : List ℕ) (conn : ℕ) (found : Option Client) → IsThinned (all_open world node conn found) (opens world node conn found)
 unfolding all_open opens
