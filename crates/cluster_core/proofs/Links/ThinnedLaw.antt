@@ -52,9 +52,10 @@ use Rattle.node_step.specs.NodeStep.{as_front, as_back}
 use Rattle.route_links.specs.Answered.{ok_of}
 use Rattle.route_links.specs.Barriers.{Place as Barrier, Place as barrier}
 use Rattle.cluster_core.proofs.Commands.AllReached.{AreMarkedSo}
+use Rattle.cluster_core.proofs.Commands.Moving.{IsSeenBy}
 use Rattle.cluster_core.proofs.Commands.Place.{Place, Place as place}
 use Rattle.cluster_core.proofs.Commands.Standing.{Fixed, HasBegunSo, IsLeft, Stands, next_id}
-use Rattle.cluster_core.proofs.Connections.ConnectionLaw.{CanRestore, IsDroppedAt, IsInPlaceOf, IsMarkedAt, IsStanding, PlacesStay, session_at}
+use Rattle.cluster_core.proofs.Connections.ConnectionLaw.{CanRestore, IsDroppedAt, IsInPlaceOf, IsMarkedAt, IsStanding, client_with, session_at}
 use Rattle.cluster_core.proofs.Connections.KeepsLaw.{ConnectionIs, FeedsHold, IsAt, IsFedAt, IsGone, IsTakenBack, IsUntold, KeepsBehind, KeepsLaw, KeepsOn, KnowsBackends, SaidOn, TellsBackends}
 use Rattle.cluster_core.proofs.Connections.KeepsLaw.{fixed_of, murder_of}
 use Rattle.cluster_core.proofs.Connections.KeepsLaw.ConnectionIs.{is_nobody, is_elsewhere, is_open, is_cut_off, is_closed}
@@ -145,9 +146,6 @@ module _ (fixed : Fixed) (world next : World) (apart : BreaksApart fixed.master 
     abbrev inputs : List Input
     inputs = inputs_in fixed.setting bytes
 
-    abbrev its : LinkMsg → Bool
-    its = is_about (length told + 1) (of_connection conn)
-
     abbrev StandsAt : List Answer → Sess → Place → Type 0
     StandsAt said session here = Stands fixed node conn inputs (begun bytes) connection told said session here
 
@@ -183,18 +181,18 @@ module _ (fixed : Fixed) (world next : World) (apart : BreaksApart fixed.master 
         → StandsAt told connection.session (place.is_barred barrier.nowhere) → ConnectionThen conn silent (client bytes false)
     back answer table cut placed here e was_placed marked restores stood more stands =
         let own : AskId = next_id conn told in
-        let ok_placed = subst (IsInPlaceOf fixed world node front.replica own) e was_placed in
-        let saw = subst (IsMarkedAt story.talk.moving world.marks own) e marked in
+        let ok_placed : IsInPlaceOf fixed world node front.replica own (place.is_barred (barrier.answered table)) = subst (IsInPlaceOf fixed world node front.replica own) e was_placed in
+        let saw : IsSeenBy story.talk.moving world.marks own table = subst (IsMarkedAt story.talk.moving world.marks own) e marked in
         let before : story.before conn ≡ connection.session = restored answer more (subst (CanRestore story conn connection) e restores) in
         goes_back (record {
-          can = record { answer = answer; untold = more; seen = last_kind own world.marks _ saw.saw };
+          can = record { answer = answer; untold = more; seen = last_kind own world.marks (record { step = saw.step; ask = own; kind = Home IfAnswered }) saw.saw };
           node = node;
           front = front;
           connection = connection;
           at = at_then conn node front connection at;
           waits = awaited_so fixed.master connection (barred_waits fixed node conn inputs (begun bytes) connection told (story.talk.answers conn) (story.course.sessions conn) here
               (barrier.answered table) e stood);
-          client = _;
+          client = client_with node inputs told;
           there = standing.client;
           was = ok_placed.message fixed.master node ∙ ap (λ s. cond s (ok_of own ∷ []) []) (same_itself fixed.master node);
           none = placed.message fixed.master node;
@@ -394,7 +392,7 @@ module _ (config : Config) (heard : ℕ → Heard) (world next : World) (apart :
 
   -- SOME MAY BE
 
-  is_back : (conn : ℕ) → ConnectionThen (fixed_of config) world next apart thin law.story conn (law.stops conn) (heard conn) → Bool
+  abbrev is_back : (conn : ℕ) → ConnectionThen (fixed_of config) world next apart thin law.story conn (law.stops conn) (heard conn) → Bool
   is_back conn (as_before is) = false
   is_back conn (goes_back back) = true
 
@@ -469,6 +467,7 @@ module _ (config : Config) (heard : ℕ → Heard) (world next : World) (apart :
       })
 
   pub thinned_behind : KeepsBehind config law.story law.stops heard next
+  unfolding back_law
   thinned_behind = record {
     law = back_law;
     requests = subst (GoesOn law.story.talk.requests) (sym went.requests) (same_lists law.story.talk.requests);
