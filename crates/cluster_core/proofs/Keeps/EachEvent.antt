@@ -26,7 +26,7 @@ use Rattle.cluster_core.specs.declared.world.World.{World}
 use Rattle.cluster_core.specs.Headline.Outside.{table_at, table_by}
 use Rattle.cluster_core.proofs.Commands.Moving.{MovesBy}
 use Rattle.cluster_core.proofs.Connections.ClientEvents.{Keeps, begins, bytes_keep, hangs_keep, heard_then, idle_keeps, opens_keeps}
-use Rattle.cluster_core.proofs.Connections.KeepsBehind.{behind}
+use Rattle.cluster_core.proofs.Connections.KeepsBehind.{StepKeeps, step_keeps}
 use Rattle.cluster_core.proofs.Connections.KeepsLaw.{KeepsBehind, KeepsLaw, KeepsOn}
 use Rattle.cluster_core.proofs.Connections.KeepsStill.{same_kept, stepped_law}
 use Rattle.cluster_core.proofs.Keeps.Deliver.{StandsBeside, delivered_keeps}
@@ -99,11 +99,11 @@ MovesWhole config moving world event = MovesBy moving (world.steps + 1) (table_a
 
 -- a step of this event keeps the law
 abbrev pub KeepsThen : (config : Config) (heard : ℕ → Heard) (world : World) → KeepsLaw config heard world → Event → Type 0
-KeepsThen config heard world law event = KeepsBehind config law.story law.stops (heard_then config heard event) (steps_by world event)
+KeepsThen config heard world law event = StepKeeps config law.story law.stops (heard_then config heard event) (steps_by world event) event
 
 -- and takes no reply back
-abbrev StepKeeps : (config : Config) (heard : ℕ → Heard) (world : World) → KeepsLaw config heard world → Event → Type 0
-StepKeeps config heard world law event = KeepsOn config law.story law.stops (heard_then config heard event) (steps_by world event)
+abbrev KeepsAll : (config : Config) (heard : ℕ → Heard) (world : World) → KeepsLaw config heard world → Event → Type 0
+KeepsAll config heard world law event = KeepsOn config law.story law.stops (heard_then config heard event) (steps_by world event)
 
 -- ---- a message is delivered, if there is one
 
@@ -180,7 +180,7 @@ whole_keeps config heard world Heal is law beside timely fits moves = still_keep
 -- but for what is lost
 lost_keeps : (config : Config) (heard : ℕ → Heard) (world : World) (event : Event) → IsNoCut event → (law : KeepsLaw config heard world) → StandsBeside config world
     → LinksStand config (steps_by world event) → IsTimely (master_of config) (stepped world) event → NumbersFit (heard_then config heard event)
-    → MovesThen config law.story.talk.moving world event → StepKeeps config heard world law event
+    → MovesThen config law.story.talk.moving world event → KeepsAll config heard world law event
 lost_keeps config heard world event is law beside then timely fits moves =
     let me : List ℕ = master_of config in
     let thin = takes_thinned (stepped world) event is in
@@ -196,7 +196,7 @@ module _ (config : Config) (heard : ℕ → Heard) (world : World) (event : Even
   same : heard_then config heard event ≡ heard
   same = same_heard (λ conn. unheard config conn (heard conn) event none)
 
-  step_on : ((then : KeepsLaw config heard (stepped world)) → KeepsOn config then.story then.stops heard (steps_by world event)) → StepKeeps config heard world law event
+  step_on : ((then : KeepsLaw config heard (stepped world)) → KeepsOn config then.story then.stops heard (steps_by world event)) → KeepsAll config heard world law event
   step_on keeps =
       let step = stepped_law config heard world law in
       subst (λ (h : ℕ → Heard). KeepsOn config law.story law.stops h (steps_by world event)) (sym same)
@@ -205,7 +205,7 @@ module _ (config : Config) (heard : ℕ → Heard) (world : World) (event : Even
 
   -- a cut may take replies back
   step_behind : ((then : KeepsLaw config heard (stepped world)) → KeepsBehind config then.story then.stops heard (steps_by world event))
-      → KeepsThen config heard world law event
+      → KeepsBehind config law.story law.stops (heard_then config heard event) (steps_by world event)
   step_behind keeps =
       let step = stepped_law config heard world law in
       subst (λ (h : ℕ → Heard). KeepsBehind config law.story law.stops h (steps_by world event)) (sym same)
@@ -243,7 +243,7 @@ late_world world from to me message rest first its =
     ap (deliver_first (stepped world) from to) first ∙ ap (λ t. comes (taken_from_link (stepped world) from t) t (From from message)) its
 
 late_step : (config : Config) (heard : ℕ → Heard) (world : World) (law : KeepsLaw config heard world) → StandsBeside config world
-    → NumbersFit heard → (from to : List ℕ) → IsLate config world from to → StepKeeps config heard world law (Deliver from to)
+    → NumbersFit heard → (from to : List ℕ) → IsLate config world from to → KeepsAll config heard world law (Deliver from to)
 late_step config heard world law beside fits from to late =
     let me : List ℕ = master_of config in
     let first : on_link world.links from me ≡ late.message ∷ late.rest = ap (on_link world.links from) (sym late.its) ∙ late.first in
@@ -251,7 +251,7 @@ late_step config heard world law beside fits from to late =
     subst (KeepsOn config begun.story begun.stops heard) (sym (late_world world from to me late.message late.rest late.first late.its))
     (⊎_elim
     (λ (front : (it : Front) × (front_at world from ≡ Some it)).
-    late_keeps config heard (stepped world) begun (stepped_links config world beside.links) fits from front.0 late.message late.rest front.1 late.cut first)
+    late_keeps config heard (stepped world) begun fits from front.0 late.message late.rest front.1 late.cut first)
     (λ (home : (it : BackNode) × (home_at world from ≡ Some it)).
     absurd (let no : true ≡ false = sym late.cut ∙ beside.links.from_master from (subst IsSome (sym home.1) refl) in true_false no))
     (beside.senders from late.message late.rest first)))
@@ -261,7 +261,7 @@ late_step config heard world law beside fits from to late =
 
 deliver_step : (config : Config) (heard : ℕ → Heard) (world : World) (from to : List ℕ) (law : KeepsLaw config heard world) → StandsBeside config world
     → LinksStand config (steps_by world (Deliver from to)) → NumbersFit (heard_then config heard (Deliver from to))
-    → MovesThen config law.story.talk.moving world (Deliver from to) → StepKeeps config heard world law (Deliver from to)
+    → MovesThen config law.story.talk.moving world (Deliver from to) → KeepsAll config heard world law (Deliver from to)
 deliver_step config heard world from to law beside then fits moves = ⊎_elim
     (λ (late : IsLate config world from to).
     late_step config heard world law beside (subst NumbersFit (same_heard (λ conn. unheard config conn (heard conn) (Deliver from to) tt)) fits) from to late)
@@ -273,7 +273,7 @@ still_behind : (config : Config) (heard : ℕ → Heard) (world : World) (event 
     → LinksStand config (steps_by world event) → IsTimely (master_of config) (stepped world) event → NumbersFit (heard_then config heard event)
     → MovesThen config law.story.talk.moving world event → KeepsThen config heard world law event
 still_behind config heard world event is law beside then timely fits moves =
-    behind config law.story law.stops (heard_then config heard event) (steps_by world event)
+    step_keeps config law.story law.stops (heard_then config heard event) (steps_by world event) event
     (lost_keeps config heard world event is law beside then timely fits moves)
 
 -- EVERY EVENT KEEPS THE LAW: a link joins two nodes
@@ -286,14 +286,17 @@ EventKeeps = (config : Config) (heard : ℕ → Heard) (world : World) (event : 
 pub event_keeps : EventKeeps
 unfolding takes
 event_keeps config heard world (Cut one other kept left) law beside apart then fits moves =
-    step_behind config heard world (Cut one other kept left) law tt
-    (λ begun. cut_keeps config heard (stepped world) begun one other kept left (stepped_links config world beside.links) then)
+    (
+      step_behind config heard world (Cut one other kept left) law tt
+          (λ begun. cut_keeps config heard (stepped world) begun one other kept left (stepped_links config world beside.links) then),
+      λ none. absurd none,
+    )
 event_keeps config heard world (Join one other) law beside apart then fits moves =
-    behind config law.story law.stops (heard_then config heard (Join one other)) (steps_by world (Join one other))
+    step_keeps config law.story law.stops (heard_then config heard (Join one other)) (steps_by world (Join one other)) (Join one other)
     (step_on config heard world (Join one other) law tt
     (λ begun. join_keeps config heard (stepped world) begun one other (stepped_links config world beside.links) apart))
 event_keeps config heard world (Deliver from to) law beside apart then fits moves =
-    behind config law.story law.stops (heard_then config heard (Deliver from to)) (steps_by world (Deliver from to))
+    step_keeps config law.story law.stops (heard_then config heard (Deliver from to)) (steps_by world (Deliver from to)) (Deliver from to)
     (deliver_step config heard world from to law beside then fits moves)
 event_keeps config heard world (Open node conn) law beside apart then fits moves =
     still_behind config heard world (Open node conn) tt law beside then tt fits moves

@@ -371,6 +371,7 @@ module _ (config : Config) (heard : ℕ → Heard) (world : World) (law : KeepsL
   ended_law = (relinked_keeps config heard world ended ended_relinks law ended_feeds).law
 
   cut_so : KeepsBehind config law.story law.stops heard next
+  unfolding ended_law relinked_keeps
   cut_so =
       thinned_behind config heard ended next (apart_before me ended next refl refl (breaks_apart config next then)) cut_thinned ended_law
 
