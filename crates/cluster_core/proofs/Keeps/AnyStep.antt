@@ -1,7 +1,6 @@
 -- EVERY EVENT OF A RUN KEEPS THE LAW.
 use Rattle.std.proofs.Common.{◌≡◌, ◌≢◌, inl, inr, ℕ, List, [], ◌∷◌, ◌++◌, Option, None, Some, refl, sym, ◌∙◌, ap, subst}
 use Rattle.std.specs.List.{AllByRecursion}
-use Rattle.std.specs.Option.{IsSome}
 use Rattle.cluster_core.specs.Headline.OneNode.{node_of}
 use Rattle.cluster_core.specs.World.{client_at, front_at, master_of, home_at, node_at, start, steps_by}
 use Rattle.cluster_core.specs.declared.world.Client.{Client}
@@ -25,8 +24,6 @@ use Rattle.node_step.proofs.NodeKinds.{a_back, a_front, front_is}
 use Rattle.cluster_core.proofs.Answers.Ends.{OwnsClients}
 use Rattle.cluster_core.proofs.Links.Stand.{LinksStand}
 use Rattle.cluster_core.proofs.Links.StandLaw.{links_stand}
-use Rattle.cluster_core.proofs.Links.Tells.{ArePartedAt, front_with_home, kind_of}
-use Rattle.cluster_core.proofs.Links.TellsLaw.{LinksTell, TellsParted, links_tell}
 use Rattle.cluster_core.proofs.Nodes.Comes.{a_master}
 use Rattle.cluster_core.proofs.Answers.AnswerComes.{NamesBackend}
 use Rattle.cluster_core.proofs.Answers.FrontTakes.{MessageNamesBackend}
@@ -50,7 +47,6 @@ use Rattle.cluster_core.specs.Numbers.{NumbersFitAll}
 pub record HoldsBeside (config : Config) (world : World) : Type 0 where
   pub always : HoldsAlways world
   pub quiet : WorldIsQuiet (master_of config) world
-  pub tell : LinksTell world
   pub own : HaveOwnClients world
   pub links : LinksStand config world
   pub links_then : (event : Event) → LinksStand config (steps_by world event)
@@ -76,18 +72,14 @@ module _ (config : Config) (heard : ℕ → Heard) (world : World) (law : KeepsL
       let none = (beside.always.masters (master_of config) law.master law.nodes.is_there).selfless in
       let no : [] ≡ message ∷ rest = sym none ∙ ap (λ f. on_link world.links f (master_of config)) (sym its) ∙ first in cc)
 
-  -- the first message of a link tells of the link between a frontend and a backend
-  told_by : (from to : List ℕ) (front : Front) (message : LinkMsg) → front_at world to ≡ Some front → ArePartedAt world from to → IsSome (home_at world from)
-  told_by from to front message there parted = front_with_home world from to (ap kind_of (front_is (node_at world to) front there)) parted
-
   names_by : (from to : List ℕ) (front : Front) → front_at world to ≡ Some front → (message : LinkMsg) (rest : List LinkMsg)
-      → on_link world.links from to ≡ message ∷ rest → TellsParted world from to message → MessageNamesBackend (home_at world) from message
-  names_by from to front there (Answer answer) rest first tells =
+      → on_link world.links from to ≡ message ∷ rest → MessageNamesBackend (home_at world) from message
+  names_by from to front there (Answer answer) rest first =
       body_names (home_at world) answer.body (λ server. quiet_moves_none (master_of config) world from to answer rest server beside.quiet first)
-  names_by from to front there (Line bytes) rest first tells = tt
-  names_by from to front there (Ask ask) rest first tells = tt
-  names_by from to front there Up rest first tells = told_by from to front Up there tells
-  names_by from to front there End rest first tells = told_by from to front End there tells
+  names_by from to front there (Line bytes) rest first = tt
+  names_by from to front there (Ask ask) rest first = tt
+  names_by from to front there Up rest first = tt
+  names_by from to front there End rest first = tt
 
   owns_by : (node : List ℕ) (front : Front) → front_at world node ≡ Some front → OwnsClients world node front
   owns_by node front there conn connection has =
@@ -98,8 +90,7 @@ module _ (config : Config) (heard : ℕ → Heard) (world : World) (law : KeepsL
     watchers = λ master at. (beside.always.masters (master_of config) master at).watchers;
     links = beside.links;
     owns = owns_by;
-    names = λ from to front there message rest first.
-        names_by from to front there message rest first (subst (AllByRecursion (TellsParted world from to)) first (beside.tell from to)).0;
+    names = λ from to front there message rest first. names_by from to front there message rest first;
     ends = λ from to rest first none. (subst (AllByRecursion IsQuiet) first (beside.quiet.calm none from to)).0;
     senders = λ from message rest first. sender_by from message rest first (node_at world from) refl;
   }
@@ -107,7 +98,8 @@ module _ (config : Config) (heard : ℕ → Heard) (world : World) (law : KeepsL
 -- EVERY EVENT KEEPS THE LAW
 pub any_step_keeps : (config : Config) → AnyStepKeeps config (HoldsBeside config)
 any_step_keeps config came world event law beside fits moves =
-    event_keeps config came world event law (stands config came world law beside) (beside.links_then event) fits moves
+    event_keeps config came world event law (stands config came world law beside) (λ one other lost. (beside.always.cut one other lost).1) (beside.links_then event)
+    fits moves
 
 -- ---- a run
 
@@ -119,7 +111,6 @@ run_beside : (config : Config) (before : List Event) → AreNodes config.nodes �
 run_beside config before are = record {
   always = run_holds config before;
   quiet = never_moved config before are;
-  tell = links_tell config before are;
   own = run_own (start config) before (start_own config);
   links = links_stand config before are;
   links_then = λ event. subst (LinksStand config) (one_more_step (start config) before event) (links_stand config (before ++ event ∷ []) are);

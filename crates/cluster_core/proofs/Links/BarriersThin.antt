@@ -4,14 +4,13 @@ use Rattle.std.specs.List.{AllByRecursion}
 use Rattle.std.proofs.lemmas.List.Elements.{filter-append}
 use Rattle.feed_core.specs.declared.replica.Replica.{Replica}
 use Rattle.feed_links.proofs.FeedLaw.{both}
-use Rattle.feed_links.proofs.Parts.{IsPart, part_has}
+use Rattle.feed_links.proofs.Parts.{IsCutShort, IsPart, cut_part, lost_between, part_has}
 use Rattle.link_msg.specs.declared.message.LinkMsg.{LinkMsg}
 use Rattle.link_msg.specs.declared.message.LinkMsg.TheVariants.{End}
 use Rattle.mur_base.specs.declared.point.AskId.{AskId}
 use Rattle.node_record.specs.Table.{MailboxTable}
 use Rattle.route_links.specs.Answered.{noop_of, ok_of}
 use Rattle.route_links.specs.Barriers.{AreOfOthers, AsksMaster, AwaitsOk, HasNoBarrier, IsOfOther}
-use Rattle.cluster_core.proofs.Links.Thinned.{IsShort, all_of, behind_same, lacks_all, short_part}
 
 -- ---- lists
 
@@ -80,10 +79,10 @@ first_others ask [] other all = tt
 first_others ask (message ∷ one) other all = (all.0, first_others ask one other all.1)
 
 -- the message of the barrier, and what stands before and behind it
-module _ (ask : AskId) (is : LinkMsg → Bool) (ends_no : is End ≡ false) (part whole before behind : List LinkMsg) (x : LinkMsg) (short : IsShort part whole)
+module _ (ask : AskId) (is : LinkMsg → Bool) (ends_no : is End ≡ false) (part whole before behind : List LinkMsg) (x : LinkMsg) (short : IsCutShort part whole)
     (own : is x ≡ true) (whole_is : whole ≡ before ++ x ∷ behind) (before_others : AreOfOthers ask before) where
-  cut_at : Splits short.kept (short.lost ++ short.tail) before behind x
-  cut_at = splits short.kept (short.lost ++ short.tail) before behind x (sym short.was ∙ whole_is)
+  cut_at : Splits short.kept (short.lost ++ short.behind) before behind x
+  cut_at = splits short.kept (short.lost ++ short.behind) before behind x (sym short.whole_is ∙ whole_is)
 
   none_of_tail : (tail : List LinkMsg) → AllByRecursion (λ message. message ≡ End) tail → filter is tail ≡ []
   none_of_tail [] all = refl
@@ -93,8 +92,8 @@ module _ (ask : AskId) (is : LinkMsg → Bool) (ends_no : is End ≡ false) (par
   -- it is still on its way
   pub record StillThere : Type 0 where
     pub mid : List LinkMsg
-    pub part_is : part ≡ before ++ x ∷ (mid ++ short.tail)
-    pub behind_is : behind ≡ mid ++ (short.lost ++ short.tail)
+    pub part_is : part ≡ before ++ x ∷ (mid ++ short.behind)
+    pub behind_is : behind ≡ mid ++ (short.lost ++ short.behind)
 
   pub still_there : filter is whole ≡ x ∷ [] → filter is part ≡ x ∷ [] → StillThere
   still_there all left = by cut_at
@@ -106,19 +105,19 @@ module _ (ask : AskId) (is : LinkMsg → Bool) (ends_no : is End ≡ false) (par
       -- of what is kept
       kept_has : filter is short.kept ≡ x ∷ []
       kept_has =
-          sym (append-nil-left (filter is short.kept) (filter is short.tail) (none_of_tail short.tail short.ends))
-          ∙ sym (filter-append is short.kept short.tail) ∙ ap (filter is) (sym short.is) ∙ left
+          sym (append-nil-left (filter is short.kept) (filter is short.behind) (none_of_tail short.behind short.ends))
+          ∙ sym (filter-append is short.kept short.behind) ∙ ap (filter is) (sym short.part_is) ∙ left
         where
           append-nil-left : (one two : List LinkMsg) → two ≡ [] → one ++ two ≡ one
           append-nil-left [] two e = e
           append-nil-left (y ∷ one) two e = ap (λ l. y ∷ l) (append-nil-left one two e)
 
-      by : Splits short.kept (short.lost ++ short.tail) before behind x → StillThere
+      by : Splits short.kept (short.lost ++ short.behind) before behind x → StillThere
       by (in_kept mid one two) =
-          record { mid = mid; part_is = short.is ∙ ap (λ l. l ++ short.tail) one ∙ append_same before mid short.tail; behind_is = two }
+          record { mid = mid; part_is = short.part_is ∙ ap (λ l. l ++ short.behind) one ∙ append_same before mid short.behind; behind_is = two }
       by (in_rest mid one two) =
           absurd (none_has is mid behind x own
-          (ap (filter is) (sym two) ∙ not_twice is x x short.kept (short.lost ++ short.tail) [] (ap (filter is) (sym short.was) ∙ all) kept_has))
+          (ap (filter is) (sym two) ∙ not_twice is x x short.kept (short.lost ++ short.behind) [] (ap (filter is) (sym short.whole_is) ∙ all) kept_has))
 
   -- it is gone: nothing of the command is left
   pub gone_now : filter is part ≡ [] → AreOfOthers ask part
@@ -128,23 +127,23 @@ module _ (ask : AskId) (is : LinkMsg → Bool) (ends_no : is End ≡ false) (par
       append_same [] two three = refl
       append_same (y ∷ one) two three = ap (λ l. y ∷ l) (append_same one two three)
 
-      by : Splits short.kept (short.lost ++ short.tail) before behind x → AreOfOthers ask part
+      by : Splits short.kept (short.lost ++ short.behind) before behind x → AreOfOthers ask part
       by (in_kept mid one two) =
-          absurd (none_has is before (mid ++ short.tail) x own
-          (ap (filter is) (sym (short.is ∙ ap (λ l. l ++ short.tail) one ∙ append_same before mid short.tail)) ∙ none))
+          absurd (none_has is before (mid ++ short.behind) x own
+          (ap (filter is) (sym (short.part_is ∙ ap (λ l. l ++ short.behind) one ∙ append_same before mid short.behind)) ∙ none))
       by (in_rest mid one two) =
-          subst (AreOfOthers ask) (sym short.is)
-          (both (IsOfOther ask) short.kept short.tail (first_others ask short.kept mid (subst (AreOfOthers ask) one before_others)) (ends_others ask short.tail short.ends))
+          subst (AreOfOthers ask) (sym short.part_is)
+          (both (IsOfOther ask) short.kept short.behind (first_others ask short.kept mid (subst (AreOfOthers ask) one before_others)) (ends_others ask short.behind short.ends))
 
 -- ---- a barrier
 
-module _ (ask : AskId) (is : LinkMsg → Bool) (ends_no : is End ≡ false) (up down some_up some_down : List LinkMsg) (replica : Replica) (ups : IsShort some_up up)
-    (downs : IsShort some_down down) where
+module _ (ask : AskId) (is : LinkMsg → Bool) (ends_no : is End ≡ false) (up down some_up some_down : List LinkMsg) (replica : Replica) (ups : IsCutShort some_up up)
+    (downs : IsCutShort some_down down) where
   ups_others : AreOfOthers ask up → AreOfOthers ask some_up
-  ups_others all = part_has (IsOfOther ask) (short_part some_up up ups) all
+  ups_others all = part_has (IsOfOther ask) (cut_part some_up up ups) all
 
   downs_others : AreOfOthers ask down → AreOfOthers ask some_down
-  downs_others all = part_has (IsOfOther ask) (short_part some_down down downs) all
+  downs_others all = part_has (IsOfOther ask) (cut_part some_down down downs) all
 
   pub still_none : HasNoBarrier ask up down → HasNoBarrier ask some_up some_down
   still_none none = record { up_others = ups_others none.up_others; down_others = downs_others none.down_others }
@@ -156,10 +155,10 @@ module _ (ask : AskId) (is : LinkMsg → Bool) (ends_no : is End ≡ false) (up 
     pub still_asks : filter is some_up ≡ noop_of ask ∷ [] → AsksMaster ask some_up some_down
     still_asks left =
         let there = still_there ask is ends_no some_up up asks.before asks.behind (noop_of ask) ups own_noop asks.up_is asks.before_others all left in
-        let part = subst (λ l. IsPart (there.mid ++ ups.tail) l) (sym there.behind_is) (behind_same there.mid (lacks_all ups.lost (all_of ups.tail))) in
+        let part = subst (IsPart (there.mid ++ ups.behind)) (sym there.behind_is) (lost_between there.mid ups.lost ups.behind) in
         record {
           before = asks.before;
-          behind = there.mid ++ ups.tail;
+          behind = there.mid ++ ups.behind;
           up_is = there.part_is;
           before_others = asks.before_others;
           behind_others = part_has (IsOfOther ask) part asks.behind_others;
@@ -180,10 +179,10 @@ module _ (ask : AskId) (is : LinkMsg → Bool) (ends_no : is End ≡ false) (up 
     pub still_awaits : filter is some_down ≡ ok_of ask ∷ [] → AwaitsOk ask table some_up some_down replica
     still_awaits left =
         let there = still_there ask is ends_no some_down down awaits.before awaits.behind (ok_of ask) downs own_ok awaits.down_is awaits.before_others all left in
-        let part = subst (λ l. IsPart (there.mid ++ downs.tail) l) (sym there.behind_is) (behind_same there.mid (lacks_all downs.lost (all_of downs.tail))) in
+        let part = subst (IsPart (there.mid ++ downs.behind)) (sym there.behind_is) (lost_between there.mid downs.lost downs.behind) in
         record {
           before = awaits.before;
-          behind = there.mid ++ downs.tail;
+          behind = there.mid ++ downs.behind;
           down_is = there.part_is;
           before_others = awaits.before_others;
           behind_others = part_has (IsOfOther ask) part awaits.behind_others;

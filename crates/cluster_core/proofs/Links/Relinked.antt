@@ -9,8 +9,8 @@ use Rattle.feed_core.specs.declared.replica.Replica.{Replica}
 use Rattle.feed_links.proofs.Names.{same_name}
 use Rattle.front_core.proofs.OneConnection.Places.{PlacesStay as MessagesStay, of_connection}
 use Rattle.front_core.proofs.OneConnection.Readings.{inputs_in}
-use Rattle.front_core.specs.Front.{connection_at, waits_for}
-use Rattle.front_core.specs.Stages.{asks_at, has_asked}
+use Rattle.front_core.specs.Front.{awaited, connection_at}
+use Rattle.front_core.specs.Stages.{awaits, waits_at}
 use Rattle.front_core.specs.declared.connection.Connection.{Connection}
 use Rattle.front_core.specs.declared.front.Front.{Front}
 use Rattle.imap_talk.specs.Heard.{Heard}
@@ -40,10 +40,10 @@ use Rattle.cluster_core.proofs.Commands.Standing.{Fixed, Stands, WaitsAt, next_i
 use Rattle.cluster_core.proofs.Connections.ConnectionLaw.{IsDroppedAt, IsInNoneOf, IsInPlaceOf, IsMarkedAt, says_same}
 use Rattle.cluster_core.proofs.Connections.KeepsLaw.{ConnectionIs, FeedsHold, IsAt, IsGone, IsUntold, KeepsLaw, KeepsOn, fixed_of, murder_of}
 use Rattle.cluster_core.proofs.Connections.KeepsLaw.ConnectionIs.{is_nobody, is_elsewhere, is_open, is_cut_off, is_closed}
-use Rattle.cluster_core.proofs.Feeds.Beside.{still_fed, still_feeds}
+use Rattle.cluster_core.proofs.Links.Unbarred.{barred_waits}
 use Rattle.cluster_core.proofs.Nodes.Stay.{same_nodes}
 use Rattle.cluster_core.proofs.Places.FrontWorlds.{in_none_alike, in_place_alike}
-use Rattle.cluster_core.proofs.Places.Stays.{HomesAlike, KeepsPlaces, barrier_alike, keeps_by}
+use Rattle.cluster_core.proofs.Places.Stays.{BarriersStay, HomesAlike, KeepsPlaces, keeps_by}
 
 -- ---- other links are broken, and more stands on links that is about nobody
 
@@ -53,29 +53,31 @@ pub record Relinks (me : List ℕ) (world next : World) : Type 0 where
   pub marks : next.marks ≡ world.marks
   pub steps : next.steps ≡ world.steps
   pub messages : (conn : ℕ) → MessagesStay (of_connection conn) world.links next.links
-  pub up : (any : List ℕ) → on_link next.links any me ≡ on_link world.links any me
-  pub down : (any : List ℕ) → on_link next.links me any ≡ on_link world.links me any
+  pub homes : HomesAlike me (home_at world) world.links next.links
+  pub barriers : (conn : ℕ) → BarriersStay me conn world.links next.links
   -- a link that was ever cut
   pub cut : next.broken ≡ [] → world.broken ≡ []
-  -- whose command waits for a server over a link that is broken
-  pub dropped : (conn : ℕ) (node server : List ℕ) (front : Front) → front_at world node ≡ Some front → waits_for (connection_at front conn) server ≡ true
+  -- whose command waits for a node over a link that is broken
+  pub dropped : (conn : ℕ) (node server : List ℕ) (front : Front) → front_at world node ≡ Some front → awaited me (connection_at front conn) server ≡ true
       → is_broken world.broken server node ≡ true → is_broken next.broken server node ≡ true
 
 no_barred : (tag : Tag) (it : Listing) (was : Sess) (told said : List Answer) (session : Sess) (server : List ℕ) (here : Place) → here ≡ place.is_dropped server
     → KnowsNames tag it was told said session here → ⊥
 no_barred tag it was told said session server here e (KnowsNames.not_yet same session_is at) =
     (let no : place.is_dropped server ≡ place.is_barred barrier.asked = sym e ∙ at in cc)
+no_barred tag it was told said session server here e (KnowsNames.is_gone same session_is at) =
+    (let no : place.is_dropped server ≡ place.is_barred barrier.nowhere = sym e ∙ at in cc)
 no_barred tag it was told said session server here e (KnowsNames.is_listed table same session_is at) =
     (let no : place.is_dropped server ≡ place.is_barred (barrier.answered table) = sym e ∙ at in cc)
 
 -- a command that is dropped waits for its server
 dropped_waits : (fixed : Fixed) (front : List ℕ) (conn : ℕ) (inputs : List Input) (held : Option (List ℕ)) (connection : Connection) (told said : List Answer)
     (session : Sess) (server : List ℕ) (here : Place) → here ≡ place.is_dropped server → Stands fixed front conn inputs held connection told said session here
-    → has_asked connection.stage server ≡ true
-unfolding has_asked
+    → awaits fixed.master connection.stage server ≡ true
+unfolding awaits
 dropped_waits fixed front conn inputs held connection told said session server here e (Stands.waits waiting) =
     let home : waiting.c.waiting.at ≡ Home server = subst (WaitsAt waiting.c.waiting.at) e waiting.at in
-    ap (λ s. has_asked s server) waiting.stage ∙ ap (λ a. asks_at a server) home ∙ same_name server
+    ap (λ s. awaits fixed.master s server) waiting.stage ∙ ap (λ a. waits_at fixed.master a server) home ∙ same_name server
 dropped_waits fixed front conn inputs held connection told said session server here e (Stands.lists listing) =
     absurd (no_barred listing.tag listing.listing connection.session told said session server here e listing.knows)
 dropped_waits fixed front conn inputs held connection told said session server here e (Stands.reads a b c d f g at) =
@@ -85,7 +87,13 @@ dropped_waits fixed front conn inputs held connection told said session server h
 dropped_waits fixed front conn inputs held connection told said session server here e (Stands.finished passed more request before last a b c d f g at) =
     (let no : place.is_dropped server ≡ place.nowhere = sym e ∙ at in cc)
 
-module _ (config : Config) (heard : ℕ → Heard) (world next : World) (is : Relinks (master_of config) world next) (law : KeepsLaw config heard world) where
+awaited_by : (master : List ℕ) (found : Option Connection) (connection : Connection) (node : List ℕ) → found ≡ Some connection
+    → awaits master connection.stage node ≡ true → awaited master found node ≡ true
+unfolding awaited
+awaited_by master found connection node has waits = ap (λ c. awaited master c node) has ∙ waits
+
+module _ (config : Config) (heard : ℕ → Heard) (world next : World) (is : Relinks (master_of config) world next) (law : KeepsLaw config heard world)
+    (feeds : FeedsHold config next law.master) where
   abbrev me : List ℕ
   me = master_of config
 
@@ -101,13 +109,8 @@ module _ (config : Config) (heard : ℕ → Heard) (world next : World) (is : Re
   clients : (conn : ℕ) → client_at next conn ≡ client_at world conn
   clients conn = ap (λ c. value_at nat_cmp c conn) is.clients
 
-  alike : HomesAlike me (home_at world) world.links next.links
-  alike = λ name node at. (is.up name, is.down name)
-
   keeps : (conn : ℕ) → KeepsPlaces me (home_at world) conn world.links next.links
-  keeps conn = keeps_by me (home_at world) conn world.links next.links (is.messages conn) alike (λ front replica command at was.
-      barrier_alike (record { conn = conn; command = command }) at (on_link world.links front me) (on_link world.links me front) (on_link next.links front me)
-      (on_link next.links me front) replica (is.up front) (is.down front) was)
+  keeps conn = keeps_by me (home_at world) conn world.links next.links (is.messages conn) is.homes (is.barriers conn)
 
   placed_then : (front : List ℕ) (replica : Replica) (conn command : ℕ) (here : Place)
       → IsInPlaceOf fixed world front replica (record { conn = conn; command = command }) here
@@ -142,16 +145,23 @@ module _ (config : Config) (heard : ℕ → Heard) (world next : World) (is : Re
     cut = λ lost none. gone.cut lost (is.cut none);
   }
 
-  dropped_by : (conn : ℕ) (node : List ℕ) (front : Front) (connection : Connection) (here : Place) → IsAt world conn node front connection
-      → ((server : List ℕ) → here ≡ place.is_dropped server → has_asked connection.stage server ≡ true) → IsDroppedAt world node here → IsDroppedAt next node here
-  unfolding waits_for
-  dropped_by conn node front connection place.nowhere at waits cut = tt
-  dropped_by conn node front connection (place.is_asked server ask) at waits cut = tt
-  dropped_by conn node front connection (place.is_answered server answer) at waits cut = tt
-  dropped_by conn node front connection (place.is_dropped server) at waits cut =
-      is.dropped conn node server front at.at (ap (λ c. waits_for c server) at.has ∙ waits server refl) cut
-  dropped_by conn node front connection (place.is_at loc name) at waits cut = tt
-  dropped_by conn node front connection (place.is_barred barrier) at waits cut = tt
+  dropped_by : (conn : ℕ) (node : List ℕ) (front : Front) (connection : Connection) (inputs : List Input) (held : Option (List ℕ)) (told said : List Answer)
+      (session : Sess) (here : Place) → IsAt world conn node front connection → Stands fixed node conn inputs held connection told said session here
+      → IsDroppedAt me world node here → IsDroppedAt me next node here
+  dropped_by conn node front connection inputs held told said session place.nowhere at stands cut = tt
+  dropped_by conn node front connection inputs held told said session (place.is_asked server ask) at stands cut = tt
+  dropped_by conn node front connection inputs held told said session (place.is_answered server answer) at stands cut = tt
+  dropped_by conn node front connection inputs held told said session (place.is_dropped server) at stands cut =
+      is.dropped conn node server front at.at
+      (awaited_by me (connection_at front conn) connection server at.has
+      (dropped_waits fixed node conn inputs held connection told said session server (place.is_dropped server) refl stands)) cut
+  dropped_by conn node front connection inputs held told said session (place.is_at loc name) at stands cut = tt
+  dropped_by conn node front connection inputs held told said session (place.is_barred barrier.nowhere) at stands cut =
+      is.dropped conn node me front at.at
+      (awaited_by me (connection_at front conn) connection me at.has
+      (barred_waits fixed node conn inputs held connection told said session (place.is_barred barrier.nowhere) barrier.nowhere refl stands)) cut
+  dropped_by conn node front connection inputs held told said session (place.is_barred barrier.asked) at stands cut = tt
+  dropped_by conn node front connection inputs held told said session (place.is_barred (barrier.answered table)) at stands cut = tt
 
   connection_then : (conn : ℕ) (stop : Stop) (h : Heard) → ConnectionIs fixed conn world law.story stop h → ConnectionIs fixed conn next law.story stop h
   connection_then conn _ _ (is_nobody none others untold) =
@@ -166,9 +176,9 @@ module _ (config : Config) (heard : ℕ → Heard) (world next : World) (is : Re
         here = standing.here;
         placed = placed_then node front.replica conn _ standing.here standing.placed;
         marked = marked_then (next_id conn (law.story.told conn)) standing.here standing.marked;
-        dropped = dropped_by conn node front connection standing.here at
-            (λ server e. dropped_waits fixed node conn (inputs_in fixed.setting bytes) (begun bytes) connection (law.story.told conn) (law.story.talk.answers conn)
-            (law.story.course.sessions conn) server standing.here e standing.stands) standing.dropped;
+        dropped = dropped_by conn node front connection (inputs_in fixed.setting bytes) (begun bytes) (law.story.told conn) (law.story.talk.answers conn)
+            (law.story.course.sessions conn) standing.here at standing.stands standing.dropped;
+        restores = standing.restores;
         stands = standing.stands;
       })
   connection_then conn _ _ (is_cut_off bytes node front connection at gone unanswered) =
@@ -184,15 +194,9 @@ module _ (config : Config) (heard : ℕ → Heard) (world next : World) (is : Re
       (record {
         master = refl;
         nodes = homes;
-        up = λ name node at. subst (λ m. on_link next.links name m ≡ on_link world.links name m) (sym law.nodes.me) (is.up name);
-        down = λ name node at. subst (λ m. on_link next.links m name ≡ on_link world.links m name) (sym law.nodes.me) (is.down name);
+        up = λ name node at. subst (λ m. on_link next.links name m ≡ on_link world.links name m) (sym law.nodes.me) (is.homes name node at).0;
+        down = λ name node at. subst (λ m. on_link next.links m name ≡ on_link world.links m name) (sym law.nodes.me) (is.homes name node at).1;
       }) law.many
-
-  feeds_then : FeedsHold config next law.master
-  feeds_then =
-      still_feeds config world law.master law.nodes law.feeds next (λ server. ap is_some (homes server))
-      (λ any front there. still_fed config world law.master law.nodes law.feeds next any front (sym (fronts any) ∙ there) (is.up any) (is.down any)
-      (λ server. ap is_some (homes server)))
 
   told_then : AreMarkedSo (setting_of config) next.broken next.steps next.marks law.story
   told_then =
@@ -210,7 +214,7 @@ module _ (config : Config) (heard : ℕ → Heard) (world next : World) (is : Re
       stops = law.stops;
       given = law.given;
       many = many_then;
-      feeds = feeds_then;
+      feeds = feeds;
       is_told = told_then;
       requests = law.requests;
       connections = λ conn. connection_then conn (law.stops conn) (heard conn) (law.connections conn);

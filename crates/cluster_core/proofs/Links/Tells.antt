@@ -1,8 +1,7 @@
 -- Which nodes' links may break, by what each is. It stays that whatever comes to a node.
-use Rattle.std.proofs.Common.{◌≡◌, ◌≢◌, ◌⊎◌, inl, inr, ◌&&◌, ℕ, Bool, true, false, not, List, Option, None, Some, refl, sym, ◌∙◌, ap}
+use Rattle.std.proofs.Common.{◌≡◌, ◌≢◌, ◌&&◌, ℕ, Bool, true, false, not, List, Option, None, Some, refl, sym, ◌∙◌, ap}
 use Rattle.std.proofs.Math.Logic.{⊎_elim}
 use Rattle.std.specs.Cmp.Lexicographic.{slice_cmp}
-use Rattle.std.specs.Option.{IsSome}
 use Rattle.std.specs.Ordering.{is_eq, nat_cmp}
 use Rattle.cluster_core.specs.World.{are_parted, comes, may_cut, may_part, node_at}
 use Rattle.cluster_core.specs.declared.world.World.{World}
@@ -11,7 +10,7 @@ use Rattle.mur_base.proofs.MapLaws.{names_apart, same_or_other}
 use Rattle.mur_base.specs.Map.{value_at}
 use Rattle.mur_config.specs.declared.node.Kind.{Kind}
 use Rattle.mur_config.specs.declared.node.Kind.TheVariants.{Master as master_kind, Frontend, Backend}
-use Rattle.node_step.specs.NodeStep.{as_back, as_master, back_takes, front_takes, master_takes, takes as node_takes}
+use Rattle.node_step.specs.NodeStep.{back_takes, front_takes, master_takes, takes as node_takes}
 use Rattle.node_step.specs.declared.input.NodeInput.{NodeInput}
 use Rattle.node_step.specs.declared.input.NodeInput.TheVariants.{Opened, Piece, Hung, From}
 use Rattle.node_step.specs.declared.node.NodeState.{NodeState}
@@ -92,34 +91,6 @@ pub one_there : (world : World) (one other : List ℕ) → ArePartedAt world one
 unfolding may_part
 one_there world one other parted none =
     (let no : false ≡ true = sym (ap (λ n. may_part n (node_at world other)) none) ∙ parted in cc)
-
--- where the other is a frontend, it is a backend or the master
-is_served : (it : Option NodeState) → are_kinds (kind_of it) (Some Frontend) ≡ true → IsSome (as_back it) ⊎ IsSome (as_master it)
-unfolding are_kinds as_back as_master
-is_served None e = cc
-is_served (Some (state.Front front)) e = cc
-is_served (Some (state.Back home)) e = inl refl
-is_served (Some (state.Master master)) e = inr refl
-
-pub front_is_served : (world : World) (one other : List ℕ) → kind_of (node_at world other) ≡ Some Frontend → ArePartedAt world one other
-    → IsSome (as_back (node_at world one)) ⊎ IsSome (as_master (node_at world one))
-front_is_served world one other is parted =
-    is_served (node_at world one)
-    (ap (are_kinds (kind_of (node_at world one))) (sym is) ∙ sym (part_by (node_at world one) (node_at world other)) ∙ parted)
-
--- where it is the master, the other is a frontend
-is_front_kind : (kind : Option Kind) → are_kinds (Some master_kind) kind ≡ true → kind ≡ Some Frontend
-unfolding are_kinds
-is_front_kind (Some Frontend) e = refl
-is_front_kind (Some Backend) e = cc
-is_front_kind (Some master_kind) e = cc
-is_front_kind None e = cc
-
-pub masters_front : (world : World) (one other : List ℕ) → kind_of (node_at world one) ≡ Some master_kind → ArePartedAt world one other
-    → kind_of (node_at world other) ≡ Some Frontend
-masters_front world one other is parted =
-    is_front_kind (kind_of (node_at world other))
-    (ap (λ k. are_kinds k (kind_of (node_at world other))) (sym is) ∙ sym (part_by (node_at world one) (node_at world other)) ∙ parted)
 
 -- ---- whatever comes to a node
 

@@ -1,11 +1,8 @@
 -- A world of which messages are gone that were on broken links: each queue has what it had, in its order, but for some messages that stood together, with End
 -- alone behind them, and a link that isn't broken has all.
-use Rattle.std.proofs.Common.{◌≡◌, ℕ, Bool, true, false, cond, List, [], ◌∷◌, ◌++◌, Option, None, Some, filter, refl, sym, ◌∙◌, ap, subst, append-nil}
-use Rattle.std.specs.List.{AllByRecursion}
+use Rattle.std.proofs.Common.{◌≡◌, ℕ, Bool, true, false, cond, List, [], ◌∷◌, ◌++◌, Option, None, Some, filter, refl, sym, ◌∙◌, ap}
 use Rattle.cluster_core.specs.declared.world.World.{World}
-use Rattle.feed_links.proofs.Parts.{IsPart, has_it, is_none, lacks_it}
-use Rattle.link_msg.specs.declared.message.LinkMsg.{LinkMsg}
-use Rattle.link_msg.specs.declared.message.LinkMsg.TheVariants.{End}
+use Rattle.feed_links.proofs.Parts.{IsCutShort, IsPart, cut_part, has_it, is_none, lacks_it, nothing_lost}
 use Rattle.link_queue.proofs.Placed.{Carried, IsFound}
 use Rattle.link_queue.proofs.Wires.{same_itself, same_names}
 use Rattle.link_queue.specs.Broken.{is_broken}
@@ -14,20 +11,6 @@ use Rattle.link_queue.specs.Links.{Links, on_link, same_link}
 -- ---- a part of a list, in its order
 
 module _ {M : Type 0} where
-  pub all_of : (list : List M) → IsPart list list
-  all_of [] = is_none
-  all_of (x ∷ list) = has_it x (all_of list)
-
-  -- the same stands before both
-  pub behind_same : (before : List M) {part whole : List M} → IsPart part whole → IsPart (before ++ part) (before ++ whole)
-  behind_same [] is = is
-  behind_same (x ∷ before) is = has_it x (behind_same before is)
-
-  -- these aren't in it
-  pub lacks_all : (lost : List M) {part whole : List M} → IsPart part whole → IsPart part (lost ++ whole)
-  lacks_all [] is = is
-  lacks_all (x ∷ lost) is = lacks_it x (lacks_all lost is)
-
   -- of a kind
   has_by : (is : M → Bool) (x : M) (own : Bool) → is x ≡ own → (part whole : List M) → IsPart (filter is part) (filter is whole)
       → IsPart (filter is (x ∷ part)) (filter is (x ∷ whole))
@@ -62,28 +45,6 @@ module _ {M : Type 0} where
       is_here (ap (λ m. m ∷ part) same ∙ ap (λ l. message ∷ l) none)
   part_of_one message (lacks_it x is) e = is_gone (part_of_none is (let left : _ ≡ [] = cc in left))
 
--- ---- a queue of which messages are gone that stood together; behind them End alone is left
-
-pub record IsShort (part whole : List LinkMsg) : Type 0 where
-  pub kept : List LinkMsg
-  pub lost : List LinkMsg
-  pub tail : List LinkMsg
-  pub ends : AllByRecursion (λ message. message ≡ End) tail
-  pub is : part ≡ kept ++ tail
-  pub was : whole ≡ kept ++ (lost ++ tail)
-
-pub all_there : (queue : List LinkMsg) → IsShort queue queue
-all_there queue = record { kept = queue; lost = []; tail = []; ends = tt; is = sym (append-nil queue); was = sym (append-nil queue) }
-
-pub kept_first : (kept lost : List LinkMsg) → IsShort kept (kept ++ lost)
-kept_first kept lost =
-    record { kept = kept; lost = lost; tail = []; ends = tt; is = sym (append-nil kept); was = ap (λ l. kept ++ l) (sym (append-nil lost)) }
-
-pub short_part : (part whole : List LinkMsg) → IsShort part whole → IsPart part whole
-short_part part whole short =
-    subst (λ l. IsPart l whole) (sym short.is)
-    (subst (IsPart (short.kept ++ short.tail)) (sym short.was) (behind_same short.kept (lacks_all short.lost (all_of short.tail))))
-
 -- ---- worlds
 
 -- all but the links is as it was, and of the links a part is left: all that was on a link that isn't broken
@@ -94,7 +55,7 @@ pub record IsThinned (world next : World) : Type 0 where
   pub broken : next.broken ≡ world.broken
   pub marks : next.marks ≡ world.marks
   pub steps : next.steps ≡ world.steps
-  pub short : (a b : List ℕ) → IsShort (on_link next.links a b) (on_link world.links a b)
+  pub short : (a b : List ℕ) → IsCutShort (on_link next.links a b) (on_link world.links a b)
   pub whole : (a b : List ℕ) → is_broken world.broken a b ≡ false → on_link next.links a b ≡ on_link world.links a b
 
 pub same_thinned : (world : World) → IsThinned world world
@@ -105,12 +66,12 @@ same_thinned world = record {
   broken = refl;
   marks = refl;
   steps = refl;
-  short = λ a b. all_there (on_link world.links a b);
+  short = λ a b. nothing_lost (on_link world.links a b);
   whole = λ a b e. refl;
 }
 
 pub parts_of : (world next : World) → IsThinned world next → (a b : List ℕ) → IsPart (on_link next.links a b) (on_link world.links a b)
-parts_of world next thin a b = short_part (on_link next.links a b) (on_link world.links a b) (thin.short a b)
+parts_of world next thin a b = cut_part (on_link next.links a b) (on_link world.links a b) (thin.short a b)
 
 -- ---- the one message of a kind
 

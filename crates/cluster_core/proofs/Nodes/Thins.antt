@@ -6,6 +6,7 @@ use Rattle.std.specs.Ordering.{nat_cmp}
 use Rattle.cluster_core.specs.World.{acts, client_at, client_does, comes, comes_to, deliver_first, is_lost, node_at, not_lost, opens, taken_from_link, takes, with_acted, with_client, with_written}
 use Rattle.cluster_core.specs.declared.world.Client.{Client}
 use Rattle.cluster_core.specs.declared.world.World.{World}
+use Rattle.feed_links.proofs.Parts.{IsCutShort, nothing_lost}
 use Rattle.feed_links.specs.Lines.{message_to, messages_to}
 use Rattle.link_msg.specs.declared.message.LinkMsg.{LinkMsg}
 use Rattle.link_msg.specs.declared.out.Out.{Out}
@@ -20,11 +21,21 @@ use Rattle.node_step.specs.declared.input.NodeInput.TheVariants.{Opened, Piece, 
 use Rattle.node_step.specs.declared.node.NodeState.{NodeState}
 use Rattle.schedule_text.specs.declared.event.Event.{Event}
 use Rattle.schedule_text.specs.declared.event.Event.TheVariants.{Open, Data, Hang, Deliver, Cut, Join}
-use Rattle.cluster_core.proofs.Links.Thinned.{IsShort, IsThinned, all_there, kept_first, same_thinned}
+use Rattle.cluster_core.proofs.Links.Thinned.{IsThinned, same_thinned}
 use Rattle.cluster_core.proofs.Nodes.AllCome.{all_come, all_come_to, all_first, all_of_client, all_open, all_takes}
 use Rattle.cluster_core.proofs.Nodes.Carried.{IsCarried, all_carried, given_all, given_out, made, mark_made, marks_made}
 
 -- ---- what is lost of the outputs of a node
+
+kept_first : (kept lost : List LinkMsg) → IsCutShort kept (kept ++ lost)
+kept_first kept lost = record {
+  kept = kept;
+  lost = lost;
+  behind = [];
+  whole_is = ap (λ l. kept ++ l) (sym (append-nil lost));
+  part_is = sym (append-nil kept);
+  ends = tt;
+}
 
 module _ (broken : Broken) (node : List ℕ) where
   -- an output that is no message goes out
@@ -147,16 +158,16 @@ module _ (world : World) (node : List ℕ) (acted : Acted) where
       (λ (ne : a ≢ node). (λ whole. real_else a b ne ∙ sym (full_else a b ne)))
       (same_or_other (slice_cmp nat_cmp) names_apart a node)
 
-  own_short : (b : List ℕ) (cut : Bool) → is_broken world.broken node b ≡ cut → IsShort (on_link (acts world node acted).links node b) (on_link all.links node b)
+  own_short : (b : List ℕ) (cut : Bool) → is_broken world.broken node b ≡ cut → IsCutShort (on_link (acts world node acted).links node b) (on_link all.links node b)
   own_short b true e =
-      subst (λ l. IsShort l (on_link all.links node b)) (sym (acts_cut b e))
-      (subst (IsShort (on_link world.links node b)) (sym (full_own b)) (kept_first (on_link world.links node b) (messages_to b acted.outs)))
-  own_short b false e = subst (λ l. IsShort l (on_link all.links node b)) (sym (own_whole b e)) (all_there (on_link all.links node b))
+      subst (λ l. IsCutShort l (on_link all.links node b)) (sym (acts_cut b e))
+      (subst (IsCutShort (on_link world.links node b)) (sym (full_own b)) (kept_first (on_link world.links node b) (messages_to b acted.outs)))
+  own_short b false e = subst (λ l. IsCutShort l (on_link all.links node b)) (sym (own_whole b e)) (nothing_lost (on_link all.links node b))
 
-  short_at : (a b : List ℕ) → IsShort (on_link (acts world node acted).links a b) (on_link all.links a b)
+  short_at : (a b : List ℕ) → IsCutShort (on_link (acts world node acted).links a b) (on_link all.links a b)
   short_at a b = ⊎_elim
-      (λ (e : a ≡ node). subst (λ x. IsShort (on_link (acts world node acted).links x b) (on_link all.links x b)) (sym e) (own_short b (is_broken world.broken node b) refl))
-      (λ (ne : a ≢ node). subst (λ l. IsShort l (on_link all.links a b)) (full_else a b ne ∙ sym (real_else a b ne)) (all_there (on_link all.links a b)))
+      (λ (e : a ≡ node). subst (λ x. IsCutShort (on_link (acts world node acted).links x b) (on_link all.links x b)) (sym e) (own_short b (is_broken world.broken node b) refl))
+      (λ (ne : a ≢ node). subst (λ l. IsCutShort l (on_link all.links a b)) (full_else a b ne ∙ sym (real_else a b ne)) (nothing_lost (on_link all.links a b)))
       (same_or_other (slice_cmp nat_cmp) names_apart a node)
 
   pub acts_thinned : IsThinned all (acts world node acted)
@@ -171,6 +182,13 @@ module _ (world : World) (node : List ℕ) (acted : Acted) where
     whole = λ a b e. whole_at a b (ap (λ (broken : Broken). is_broken broken a b) (sym full.broken) ∙ e);
   }
 
+  -- so much more is on its links where nothing is lost
+  pub own_sent : (b : List ℕ) → on_link all.links node b ≡ on_link world.links node b ++ messages_to b acted.outs
+  own_sent b = full_own b
+
+  pub else_same : (a b : List ℕ) → a ≢ node → on_link (acts world node acted).links a b ≡ on_link all.links a b
+  else_same a b ne = real_else a b ne ∙ sym (full_else a b ne)
+
 -- ---- what comes to a node, and what an event brings it
 
 thinned_by : (world : World) (node : List ℕ) (input : NodeInput) (found : Option NodeState) → IsThinned (all_come_to world node input found) (comes_to world node input found)
@@ -180,6 +198,30 @@ thinned_by world node input (Some it) = acts_thinned world node (node_takes it i
 
 pub comes_thinned : (world : World) (node : List ℕ) (input : NodeInput) → IsThinned (all_come world node input) (comes world node input)
 comes_thinned world node input = thinned_by world node input (node_at world node)
+
+-- of the links of other nodes
+else_by : (world : World) (node : List ℕ) (input : NodeInput) (found : Option NodeState) (a b : List ℕ) → a ≢ node
+    → on_link (comes_to world node input found).links a b ≡ on_link (all_come_to world node input found).links a b
+unfolding all_come_to comes_to
+else_by world node input None a b ne = refl
+else_by world node input (Some it) a b ne = else_same world node (node_takes it input) a b ne
+
+pub comes_else : (world : World) (node : List ℕ) (input : NodeInput) (a b : List ℕ) → a ≢ node
+    → on_link (comes world node input).links a b ≡ on_link (all_come world node input).links a b
+comes_else world node input a b ne = else_by world node input (node_at world node) a b ne
+
+-- of a broken link of its own
+pub record CutOwn (world : World) (node b : List ℕ) (input : NodeInput) (it : NodeState) : Type 0 where
+  pub left : on_link (comes world node input).links node b ≡ on_link world.links node b
+  pub sent : on_link (all_come world node input).links node b ≡ on_link world.links node b ++ messages_to b (node_takes it input).outs
+
+pub cut_own : (world : World) (node b : List ℕ) (input : NodeInput) (it : NodeState) → node_at world node ≡ Some it → is_broken world.broken node b ≡ true
+    → CutOwn world node b input it
+unfolding all_come_to comes_to
+cut_own world node b input it there cut = record {
+  left = ap (λ found. on_link (comes_to world node input found).links node b) there ∙ acts_cut world node (node_takes it input) b cut;
+  sent = ap (λ found. on_link (all_come_to world node input found).links node b) there ∙ own_sent world node (node_takes it input) b;
+}
 
 opens_thinned : (world : World) (node : List ℕ) (conn : ℕ) (found : Option Client) → IsThinned (all_open world node conn found) (opens world node conn found)
 unfolding all_open opens
