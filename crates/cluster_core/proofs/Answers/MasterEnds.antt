@@ -16,7 +16,7 @@ use Rattle.feed_links.specs.OneFeed.IsFed.{asks, is_told, comes_up, breaks_early
 use Rattle.front_core.proofs.OneConnection.Readings.{inputs_in, reading_of}
 use Rattle.front_core.specs.Answered.{end_by, end_comes, ends_at, reading_again, refused_behind}
 use Rattle.front_core.specs.Ended.{released}
-use Rattle.front_core.specs.Front.{Stepped, all_end, awaited, connection_at, end_at, end_if, one_ends, still, with_turned, without_up, ways_of}
+use Rattle.front_core.specs.Front.{Stepped, all_end, awaited, connection_at, deliver, end_at, end_if, one_ends, still, with_turned, without_up, ways_of}
 use Rattle.front_core.specs.Stages.{awaits}
 use Rattle.front_core.specs.Taken.{Turned, Ways, list_refused}
 use Rattle.front_core.specs.Ups.{Ups, going_down, is_up}
@@ -46,12 +46,14 @@ use Rattle.mur_model.proofs.HistoryGrows.{same_talk}
 use Rattle.mur_model.specs.declared.setting.Setting.{Setting}
 use Rattle.mur_model.specs.declared.store.Store.{Store}
 use Rattle.node_step.proofs.NodeKinds.{front_is}
+use Rattle.node_step.specs.declared.input.NodeInput.TheVariants.{From}
 use Rattle.node_step.specs.declared.node.NodeState.TheVariants as state
 use Rattle.session_core.specs.Relocated.{Refused}
 use Rattle.cluster_core.specs.Numbers.{HeardFits, NumbersFit}
-use Rattle.cluster_core.specs.World.{carry, carry_all, client_at, front_at, given_more, home_at, master_of, node_at, setting_of, taken_from_link}
+use Rattle.cluster_core.specs.World.{carry, carry_all, client_at, front_at, given_more, home_at, master_of, node_at, setting_of, taken_from_link, with_state}
 use Rattle.cluster_core.specs.declared.world.Client.{Client}
 use Rattle.cluster_core.specs.declared.world.World.{World}
+use Rattle.cluster_core.proofs.Answers.EndOrder.{in_order_keeps}
 use Rattle.cluster_core.proofs.Answers.Ends.{OwnsClients, front_twice, kept_then}
 use Rattle.cluster_core.proofs.Answers.GoesOn.{StandsSo}
 use Rattle.cluster_core.proofs.Answers.Keeps.{before_by, frontend_of, numbers_of}
@@ -77,6 +79,7 @@ use Rattle.cluster_core.proofs.Feeds.Noops.{AreApart, AreWellSent, IsWellSent, i
 use Rattle.cluster_core.proofs.Keeps.Numbers.{open_has_room}
 use Rattle.cluster_core.proofs.Links.Stand.{IsDown, LinksStand}
 use Rattle.cluster_core.proofs.Links.Stand.IsDown.{is_ending, has_ended}
+use Rattle.cluster_core.proofs.Nodes.AllCome.{all_come, front_all_come}
 use Rattle.cluster_core.proofs.Nodes.Carried.{is_made}
 use Rattle.cluster_core.proofs.Nodes.Comes.{FrontMoved, front_moved, with_front}
 use Rattle.cluster_core.proofs.Nodes.Stay.{same_nodes}
@@ -495,7 +498,27 @@ module _ (config : Config) (heard : ℕ → Heard) (world : World) (law : KeepsL
   unfolding carry_all
   between = record { there = moved.own; owns = owns; broken = ended.0; cut = cut; empty = empty }
 
-  -- the connections in their order
-  pub ended_so : (law_then : KeepsOn config law.story law.stops heard behind)
-      × EndsSome config heard fits to behind law_then.law (all_end now name (keys_of front.connections))
-  ended_so = (first_keeps, all_keep config heard fits to (keys_of front.connections) behind first_keeps.law now between)
+  abbrev conns : List ℕ
+  conns = keys_of front.connections
+
+  rest_ends : EndsSome config heard fits to behind first_keeps.law (all_end now name conns)
+  rest_ends = all_keep config heard fits to conns behind first_keeps.law now between
+
+  in_turn : KeepsOn config law.story law.stops heard (with_front base to (all_end now name conns))
+  in_turn =
+      subst (λ w. KeepsOn config law.story law.stops heard w) (front_twice base to (still now) (all_end now name conns))
+      (kept_then config heard law.story law.stops behind (with_front behind to (all_end now name conns)) first_keeps rest_ends.keeps)
+
+  end_keeps : KeepsOn config law.story law.stops heard (all_come base to (From name End))
+  unfolding deliver
+  end_keeps =
+      subst (λ w. KeepsOn config law.story law.stops heard w) (sym (front_all_come base to (From name End) front there))
+      (in_order_keeps config base to (all_end now name conns) (λ e. frontend.no_master (sym e)) rest_ends.well heard law.story law.stops in_turn)
+
+-- THE END OF THE LINK WITH THE MASTER KEEPS THE LAW
+pub master_end_stands : (config : Config) (heard : ℕ → Heard) (world : World) (law : KeepsLaw config heard world) → LinksStand config world → NumbersFit heard
+    → (to : List ℕ) (front : Front) (rest : List LinkMsg) → front_at world to ≡ Some front → on_link world.links (master_of config) to ≡ End ∷ rest
+    → OwnsClients world to front → world.broken ≢ []
+    → KeepsOn config law.story law.stops heard (all_come (taken_from_link world (master_of config) to) to (From (master_of config) End))
+master_end_stands config heard world law links fits to front rest there first owns cut =
+    end_keeps config heard world law links fits to front rest there first owns cut
