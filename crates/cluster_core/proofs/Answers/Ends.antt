@@ -17,6 +17,7 @@ use Rattle.feed_links.proofs.FeedLaw.{both}
 use Rattle.feed_links.proofs.Names.{other_name}
 use Rattle.front_core.proofs.AskOrder.{AsksNone, none_stay}
 use Rattle.front_core.proofs.OneConnection.Readings.{inputs_in}
+use Rattle.front_core.proofs.UpsLaws.{others_coming, others_going}
 use Rattle.front_core.specs.Answered.{end_by, end_comes, ends_at}
 use Rattle.front_core.specs.Ended.{released}
 use Rattle.front_core.specs.Front.{Stepped, all_end, awaited, behind_them, connection_at, deliver, end_at, end_if, one_ends, still, up_from, with_turned, with_up, without_up, ways_of}
@@ -173,7 +174,8 @@ up_stands config heard world law from to front there taken ne =
     let is : taken_by config heard world law from Up to ≡ with_front (taken_from_link world from to) to (still (with_up front from)) =
     front_all_come (taken_from_link world from to) to (From from Up) front there ∙ ap (with_front (taken_from_link world from to) to) does in
     subst (λ w. KeepsOn config law.story law.stops heard w) (sym is)
-    (relinked_stands config heard world law from to front Up there taken (coming_up front.ups from) ne tt)
+    (relinked_stands config heard world law from to front Up there taken (coming_up front.ups from) ne
+    (others_coming front.ups from (master_of config) (λ e. ne (sym e))) tt)
 
 -- ---- one connection ends
 
@@ -298,7 +300,8 @@ module _ (config : Config) (heard : ℕ → Heard) (world : World) (law : KeepsL
       (λ other ne. stops_else law.stops conn other ne) (λ other ne. record { in_place = λ f r c h i. i; in_none = λ i. i })
       there has (same_talk (talk_told story)) refl refl refl refl law.requests (λ other ne. refl) (λ shut. absurd (is_not_closed (heard conn) bytes e shut)) made
       (front_keeps_many config world law.master law.given story.course.store law.nodes law.many to front (turned_so front conn later turned.outs) there)
-      (feeds_alike config world next law.master moved.homes links (fronts_were world next to front (with_connection front conn later) there moved refl) law.feeds)
+      (feeds_alike config world next law.master moved.homes links (is_made world to (state.Front (with_connection front conn later)) turned.outs).broken
+      (fronts_were world next to front (with_connection front conn later) there moved refl) law.feeds)
       (subst (λ t. ConnectionIs fixed conn next story t (heard conn)) (sym (stops_here law.stops conn))
       (subst (λ h. ConnectionIs fixed conn next story is_lost h) (sym e) mine))
 
@@ -466,7 +469,8 @@ end_stands config heard world law from to front there taken ne owns cut =
     let now : Front = without_up front from in
     let behind : World = with_front base to (still now) in
     let conns : List ℕ = keys_of front.connections in
-    let first = relinked_stands config heard world law from to front End there taken (going_down front.ups from) ne tt in
+    let first = relinked_stands config heard world law from to front End there taken (going_down front.ups from) ne
+    (others_going front.ups from (master_of config) (λ e. ne (sym e))) tt in
     let rest = all_keep config heard from to ne conns behind first.law now (front_moved base to front (still now) there).own
     ((law.nodes).fronts to front there).master_is owns cut in
     subst (λ w. KeepsOn config law.story law.stops heard w)

@@ -54,26 +54,37 @@ FrontTakesKeep = (config : Config) (heard : ℕ → Heard) (world : World) (law 
 ask_is_none : (ask : FrontAsk) → IsLine (Ask ask) → ⊥
 ask_is_none ask is = (let no : Ask ask ≡ Line is.0 = is.1 in cc)
 
--- the master sends a frontend no ask
-no_ask_comes : (master : Master) (node : List ℕ) (broken reached : Bool) (up rest : List LinkMsg) (ask : FrontAsk) (replica : Replica)
-    → IsFed master node broken reached up (Ask ask ∷ rest) replica → ⊥
-no_ask_comes master node broken reached up rest ask replica (asks whole here before behind is one two lines four empty no_stream) = ask_is_none ask lines.0
-no_ask_comes master node broken reached up rest ask replica (is_told whole here one lines three four) = ask_is_none ask lines.0
-no_ask_comes master node broken reached up rest ask replica (comes_up whole here one is three) = (let no : Ask ask ∷ rest ≡ Up ∷ [] = is in cc)
-no_ask_comes master node broken reached up rest ask replica (breaks_early one two three ends is four five six) = (let no : Ask ask ∷ rest ≡ Up ∷ ends = is in cc)
-no_ask_comes master node broken reached up rest ask replica (is_parted one own lines few tag) =
-    ⊎_elim (λ line. ask_is_none ask line) (λ (e : Ask ask ≡ End). cc) lines.0
+ask_tells_none : (ask : FrontAsk) → TellsOfLink (Ask ask) → ⊥
+ask_tells_none ask tells = ⊎_elim (λ (up : Ask ask ≡ Up). cc) (λ (end : Ask ask ≡ End). cc) tells
+
+first_up : (message : LinkMsg) (rest ends : List LinkMsg) → message ∷ rest ≡ Up ∷ ends → message ≡ Up
+first_up message rest ends e = cc
+
+-- the master sends a frontend lines, but for what tells of their link
+pub master_says : (master : Master) (node : List ℕ) (broken reached : Bool) (up rest : List LinkMsg) (message : LinkMsg) (replica : Replica)
+    → IsFed master node broken reached up (message ∷ rest) replica → IsLine message ⊎ TellsOfLink message
+master_says master node broken reached up rest message replica (asks whole here before behind is one two lines four empty no_stream) = inl lines.0
+master_says master node broken reached up rest message replica (is_told whole here one lines three four) = inl lines.0
+master_says master node broken reached up rest message replica (comes_up whole here one is three) = inr (inl (first_up message rest [] is))
+master_says master node broken reached up rest message replica (breaks_early one two three ends is four five six) = inr (inl (first_up message rest ends is))
+master_says master node broken reached up rest message replica (is_parted one own lines few tag) = ⊎_elim (λ line. inl line) (λ end. inr (inr end)) lines.0
 
 module _ (config : Config) (heard : ℕ → Heard) (world : World) (law : KeepsLaw config heard world) where
   abbrev Keeps : List ℕ → List ℕ → LinkMsg → Type 0
   Keeps from to message = KeepsOn config law.story law.stops heard (taken_by config heard world law from message to)
 
+  -- what the master sends a frontend first
+  pub first_of_master : (to : List ℕ) (front : Front) (message : LinkMsg) (rest : List LinkMsg) → front_at world to ≡ Some front
+      → on_link world.links (master_of config) to ≡ message ∷ rest → IsLine message ⊎ TellsOfLink message
+  first_of_master to front message rest there first =
+      let me : List ℕ = master_of config in
+      master_says law.master to (is_broken world.broken me to) (is_up front.ups me) (on_link world.links to me) rest message front.replica
+      (subst (λ d. IsFed law.master to (is_broken world.broken me to) (is_up front.ups me) (on_link world.links to me) d front.replica) first
+      ((law.feeds).each to front there).fed)
+
   not_ask : (to : List ℕ) (front : Front) (ask : FrontAsk) → front_at world to ≡ Some front → IsTakenBy config heard world law (master_of config) (Ask ask) to → ⊥
   not_ask to front ask there taken =
-      no_ask_comes law.master to (is_broken world.broken (master_of config) to) (is_up front.ups (master_of config)) (on_link world.links to (master_of config))
-      taken.rest ask front.replica
-      (subst (λ d. IsFed law.master to (is_broken world.broken (master_of config) to) (is_up front.ups (master_of config))
-      (on_link world.links to (master_of config)) d front.replica) taken.first ((law.feeds).each to front there).fed)
+      ⊎_elim (λ line. ask_is_none ask line) (λ tells. ask_tells_none ask tells) (first_of_master to front (Ask ask) taken.rest there taken.first)
 
   line_by : LinksStand config world → (to : List ℕ) (front : Front) (bytes : List ℕ) (found : Option AskId) → front_at world to ≡ Some front
       → OwnsClients world to front → IsTakenBy config heard world law (master_of config) (Line bytes) to → NumbersFit heard

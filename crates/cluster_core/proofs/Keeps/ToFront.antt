@@ -8,7 +8,7 @@ use Rattle.back_node.specs.declared.node.BackNode.{BackNode}
 use Rattle.cluster_core.specs.World.{client_at, master_of, front_at, home_at, taken_from_link}
 use Rattle.feed_links.proofs.Names.{other_name}
 use Rattle.feed_links.specs.Lines.{messages_to}
-use Rattle.feed_links.specs.OneFeed.{AreNoops}
+use Rattle.feed_links.specs.OneFeed.{AreNoops, IsLine}
 use Rattle.front_core.specs.declared.connection.Connection.{Connection}
 use Rattle.front_core.specs.declared.connection.Stage.TheVariants.{Ended}
 use Rattle.front_core.specs.declared.front.Front.{Front}
@@ -45,7 +45,7 @@ use Rattle.cluster_core.proofs.Nodes.AllCome.{all_come}
 use Rattle.cluster_core.proofs.Places.FrontFirst.{about_ok, answer_tells, none_comes}
 use Rattle.cluster_core.proofs.Places.Stays.{same_name_or}
 use Rattle.cluster_core.proofs.Answers.AnswerComes.{NamesBackend}
-use Rattle.cluster_core.proofs.Answers.FrontTakes.{MessageNamesBackend, TellsOfLink, front_takes_keep}
+use Rattle.cluster_core.proofs.Answers.FrontTakes.{MessageNamesBackend, TellsOfLink, first_of_master, front_takes_keep}
 use Rattle.cluster_core.proofs.Answers.Keeps.{frontend_of}
 use Rattle.cluster_core.proofs.Answers.MasterEnds.{master_end_stands}
 use Rattle.cluster_core.proofs.Answers.MasterUp.{master_up_stands}
@@ -220,10 +220,15 @@ module _ (config : Config) (heard : ℕ → Heard) (world : World) (law : KeepsL
   kept_by message first names others =
       let noops = noops_by message first names others in
       ⊎_elim
-      (λ (e : from ≡ me). subst (λ f. IsKept config (all_come (taken_from_link world f to) to (From f message)) law.master law.given law.story.course.store) (sym e)
-      (front_hears_kept config world law.master law.given law.story.course.store (law_kept config heard world law) to front message rest
-      there (ap (λ f. on_link world.links f to) (sym e) ∙ first)
-      (subst (λ f. AreNoops (messages_to me (deliver front f message).outs)) e noops)))
+      (λ (e : from ≡ me).
+      let at_master : on_link world.links me to ≡ message ∷ rest = ap (λ f. on_link world.links f to) (sym e) ∙ first in
+      let line : IsLine message =
+      ⊎_elim (λ is. is) (λ tells. absurd (others tells e)) (first_of_master config heard world law to front message rest there at_master) in
+      subst (λ f. IsKept config (all_come (taken_from_link world f to) to (From f message)) law.master law.given law.story.course.store) (sym e)
+      (subst (λ m. IsKept config (all_come (taken_from_link world me to) to (From me m)) law.master law.given law.story.course.store) (sym line.1)
+      (front_hears_kept config world law.master law.given law.story.course.store (law_kept config heard world law) to front line.0 rest there
+      (at_master ∙ ap (λ m. m ∷ rest) line.1)
+      (subst (λ m. AreNoops (messages_to me (deliver front me m).outs)) line.1 (subst (λ f. AreNoops (messages_to me (deliver front f message).outs)) e noops)))))
       (λ (ne : from ≢ me).
       front_answered_kept config world law.master law.given law.story.course.store (law_kept config heard world law) from to front message there ne
       noops)
