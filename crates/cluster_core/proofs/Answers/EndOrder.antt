@@ -1,9 +1,10 @@
 -- A frontend lets out what it lets out, with its asks in another order: to each connection all is as it was, since at most one message is about it, and what goes to
 -- clients, to the master and to the marks is no ask.
-use Rattle.std.proofs.Common.{◌≡◌, ◌≢◌, ℕ, ◌+◌, ◌≤◌, nat_eq, Bool, true, false, ◌&&◌, cond, is_none, List, [], ◌∷◌, ◌++◌, length, filter, Option, None, Some, refl, sym, ◌∙◌, ap, subst, length-append, arith}
+use Rattle.std.proofs.Common.{◌≡◌, ◌≢◌, ℕ, ◌+◌, ◌≤◌, nat_eq, Bool, true, false, ◌&&◌, cond, is_none, is_some, List, [], ◌∷◌, ◌++◌, length, filter, Option, None, Some, refl, sym, ◌∙◌, ap, subst, length-append, arith}
 use Rattle.std.proofs.Math.Logic.{⊎_elim}
 use Rattle.std.proofs.lemmas.List.Elements.{filter-append}
-use Rattle.std.specs.Cmp.Lexicographic.{pointwise}
+use Rattle.std.specs.Cmp.Lexicographic.{pointwise, slice_cmp}
+use Rattle.std.specs.Ordering.{nat_cmp}
 use Rattle.feed_links.specs.Lines.{messages_to}
 use Rattle.feed_links.specs.OneFeed.{AreNoops}
 use Rattle.front_core.proofs.AskOrder.{AsksNone, few_stay, others_stay, outs_all}
@@ -21,18 +22,21 @@ use Rattle.link_queue.specs.Broken.{Broken, is_broken}
 use Rattle.link_queue.specs.Links.{Links, on_link, same_link}
 use Rattle.many_links.proofs.Carried.{puts_else, puts_own}
 use Rattle.mark_history.specs.Marked.{Tale}
+use Rattle.mur_base.specs.Map.{value_at}
 use Rattle.mur_config.specs.declared.config.Config.{Config}
+use Rattle.node_step.specs.NodeStep.{as_back, as_front}
 use Rattle.node_step.specs.declared.node.NodeState.TheVariants as state
-use Rattle.cluster_core.specs.World.{master_of}
+use Rattle.cluster_core.specs.World.{front_at, home_at, master_of}
 use Rattle.cluster_core.specs.declared.world.Client.{Client}
 use Rattle.cluster_core.specs.declared.world.World.{World}
 use Rattle.cluster_core.proofs.Answers.Ends.{kept_then}
-use Rattle.cluster_core.proofs.Connections.KeepsLaw.{KeepsOn}
+use Rattle.cluster_core.proofs.Connections.KeepsLaw.{FeedsHold, KeepsLaw, KeepsOn}
+use Rattle.cluster_core.proofs.Feeds.Beside.{still_fed, still_feeds}
 use Rattle.cluster_core.proofs.Feeds.Noops.{AreWellSent, IsWellSent, well_sent_noops}
 use Rattle.cluster_core.proofs.Links.Relinked.{Relinks, relinked_keeps}
 use Rattle.cluster_core.proofs.Nodes.Carried.{given_all, given_out, is_made, mark_made, marks_made}
 use Rattle.cluster_core.proofs.Nodes.Comes.{with_front}
-use Rattle.cluster_core.proofs.Places.Stays.{same_name_or}
+use Rattle.cluster_core.proofs.Places.Stays.{barrier_alike, same_name_or}
 
 -- ---- what goes to one node, and is of a kind
 
@@ -246,13 +250,27 @@ module _ (config : Config) (world : World) (to : List ℕ) (next : Stepped) (apa
     marks = second.marks ∙ ap (λ l. world.marks ++ l) (marks_stay world.steps next.outs) ∙ sym first.marks;
     steps = second.steps ∙ sym first.steps;
     messages = λ conn number found placed. found_stays (is_about number (of_connection conn)) found placed;
-    up = up_stays;
-    down = λ any. else_stays me any apart;
+    homes = λ name node at. (up_stays name, else_stays me name apart);
+    barriers = λ conn front replica command at is.
+        barrier_alike (record { conn = conn; command = command }) at (on_link one.links front me) (on_link one.links me front) (on_link two.links front me) (on_link two.links me front) replica (up_stays front)
+        (else_stays me front apart) is;
     cut = λ none. sym broken_same ∙ none;
     dropped = λ conn node server front at waits is. ap (λ (b : Broken). is_broken b server node) broken_same ∙ is;
   }
 
+  fronts_same : (any : List ℕ) → front_at two any ≡ front_at one any
+  fronts_same any = ap (λ n. as_front (value_at (slice_cmp nat_cmp) n any)) (second.nodes ∙ sym first.nodes)
+
+  homes_same : (any : List ℕ) → home_at two any ≡ home_at one any
+  homes_same any = ap (λ n. as_back (value_at (slice_cmp nat_cmp) n any)) (second.nodes ∙ sym first.nodes)
+
+  feeds_stay : (heard : ℕ → Heard) (law : KeepsLaw config heard one) → FeedsHold config two law.master
+  feeds_stay heard law =
+      still_feeds config one law.master law.nodes law.feeds two (λ server. ap is_some (homes_same server))
+      (λ any front there. still_fed config one law.master law.nodes law.feeds two any front (sym (fronts_same any) ∙ there) (up_stays any) (else_stays me any apart)
+      (ap (λ (b : Broken). is_broken b me any) broken_same) (λ server. ap is_some (homes_same server)))
+
   -- THE LAW STANDS WHERE THE ASKS OF A STEP OF A FRONTEND GO IN ANOTHER ORDER
   pub in_order_keeps : (heard : ℕ → Heard) (before : Tale) (stopped : ℕ → Stop) → KeepsOn config before stopped heard one → KeepsOn config before stopped heard two
   in_order_keeps heard before stopped kept =
-      kept_then config heard before stopped one two kept (relinked_keeps config heard one two sorted_relinks kept.law)
+      kept_then config heard before stopped one two kept (relinked_keeps config heard one two sorted_relinks kept.law (feeds_stay heard kept.law))
