@@ -34,7 +34,7 @@ use Rattle.cluster_core.proofs.Connections.KeepsLaw.{FeedsHold, KeepsLaw, KeepsO
 use Rattle.cluster_core.proofs.Feeds.Beside.{still_fed, still_feeds}
 use Rattle.cluster_core.proofs.Feeds.Noops.{AreWellSent, IsWellSent, well_sent_noops}
 use Rattle.cluster_core.proofs.Links.Relinked.{Relinks, relinked_keeps}
-use Rattle.cluster_core.proofs.Nodes.Carried.{given_all, given_out, is_made, mark_made, marks_made}
+use Rattle.cluster_core.proofs.Nodes.Carried.{IsMade, given_all, given_out, is_made, mark_made, marks_made}
 use Rattle.cluster_core.proofs.Nodes.Comes.{with_front}
 use Rattle.cluster_core.proofs.Places.Stays.{barrier_alike, same_name_or}
 
@@ -191,8 +191,10 @@ module _ (config : Config) (world : World) (to : List ℕ) (next : Stepped) (apa
   abbrev sorted : List Out
   sorted = in_ask_order next.outs
 
+  first : IsMade world to (state.Front next.front) next.outs one
   first = is_made world to (state.Front next.front) next.outs
 
+  second : IsMade world to (state.Front next.front) sorted two
   second = is_made world to (state.Front next.front) sorted
 
   else_stays : (a b : List ℕ) → a ≢ to → on_link two.links a b ≡ on_link one.links a b
