@@ -15,5 +15,12 @@ pub mod OkSteps
 pub mod ClosedSteps
 pub mod Keeps
 pub mod OtherMessages
+pub mod OwnFeed
 pub mod Ends
+pub mod LateOk
+pub mod MasterUp
+pub mod LeftBehind
+pub mod MasterRefuses
+pub mod EndOrder
+pub mod MasterEnds
 pub mod FrontTakes

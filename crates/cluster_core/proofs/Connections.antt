@@ -1,6 +1,7 @@
 -- What holds of each connection, and each kind of event that keeps it.
 pub mod ConnectionLaw
 pub mod KeepsLaw
+pub mod Restored
 pub mod Stays
 pub mod Nowhere
 pub mod Tales

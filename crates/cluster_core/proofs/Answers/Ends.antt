@@ -5,16 +5,19 @@ use Rattle.std.proofs.Math.Logic.{⊎_elim}
 use Rattle.std.proofs.lemmas.Bool.{cases_eq}
 use Rattle.std.proofs.lemmas.Bool.Decides.{nat_tests}
 use Rattle.std.specs.BTreeMap.{is_at}
+use Rattle.std.specs.List.{AllByRecursion}
 use Rattle.std.specs.Map.{keys_of, set_value}
-use Rattle.std.specs.Option.{IsSome}
 use Rattle.std.specs.Ordering.{nat_cmp}
 use Rattle.std.specs.Cmp.Lexicographic.{pointwise, same_text, slice_cmp}
 use Rattle.asking_core.specs.declared.waiting.At.{At}
 use Rattle.asking_core.specs.declared.waiting.At.TheVariants.{Home, Barrier as at_master}
 use Rattle.asking_core.specs.declared.waiting.Waiting.{Waiting as WaitingFor}
 use Rattle.feed_core.specs.declared.replica.Replica.{Replica}
+use Rattle.feed_links.proofs.FeedLaw.{both}
 use Rattle.feed_links.proofs.Names.{other_name}
+use Rattle.front_core.proofs.AskOrder.{AsksNone, none_stay}
 use Rattle.front_core.proofs.OneConnection.Readings.{inputs_in}
+use Rattle.front_core.proofs.UpsLaws.{others_coming, others_going}
 use Rattle.front_core.specs.Answered.{end_by, end_comes, ends_at}
 use Rattle.front_core.specs.Ended.{released}
 use Rattle.front_core.specs.Front.{Stepped, all_end, awaited, behind_them, connection_at, deliver, end_at, end_if, one_ends, still, up_from, with_turned, with_up, without_up, ways_of}
@@ -82,7 +85,7 @@ OwnsClients world node front = (conn : ℕ) (connection : Connection) → connec
 -- ---- one world behind another
 
 -- the law is kept by one step and then by another
-kept_then : (config : Config) (heard : ℕ → Heard) (before : Tale) (stopped : ℕ → Stop) (one two : World) (first : KeepsOn config before stopped heard one)
+pub kept_then : (config : Config) (heard : ℕ → Heard) (before : Tale) (stopped : ℕ → Stop) (one two : World) (first : KeepsOn config before stopped heard one)
     → KeepsOn config (first.law).story (first.law).stops heard two → KeepsOn config before stopped heard two
 kept_then config heard before stopped one two first second = record {
   law = second.law;
@@ -102,7 +105,7 @@ set_twice test [] v w = refl
 set_twice test (e ∷ es) v w = twice_by test e es v w (test e.0) refl (set_twice test es v w)
 
 -- a frontend's two steps are one that lets out what both do
-front_twice : (world : World) (node : List ℕ) (one two : Stepped)
+pub front_twice : (world : World) (node : List ℕ) (one two : Stepped)
     → with_front (with_front world node one) node two ≡ with_front world node (behind_them one.outs two)
 front_twice world node one two =
     let set : NodeState → List (List ℕ × NodeState) = λ it. with_value (slice_cmp nat_cmp) world.nodes node it in
@@ -171,7 +174,8 @@ up_stands config heard world law from to front there taken ne =
     let is : taken_by config heard world law from Up to ≡ with_front (taken_from_link world from to) to (still (with_up front from)) =
     front_all_come (taken_from_link world from to) to (From from Up) front there ∙ ap (with_front (taken_from_link world from to) to) does in
     subst (λ w. KeepsOn config law.story law.stops heard w) (sym is)
-    (relinked_stands config heard world law from to front Up there taken (coming_up front.ups from) ne tt)
+    (relinked_stands config heard world law from to front Up there taken (coming_up front.ups from) ne
+    (others_coming front.ups from (master_of config) (λ e. ne (sym e))) tt)
 
 -- ---- one connection ends
 
@@ -296,7 +300,8 @@ module _ (config : Config) (heard : ℕ → Heard) (world : World) (law : KeepsL
       (λ other ne. stops_else law.stops conn other ne) (λ other ne. record { in_place = λ f r c h i. i; in_none = λ i. i })
       there has (same_talk (talk_told story)) refl refl refl refl law.requests (λ other ne. refl) (λ shut. absurd (is_not_closed (heard conn) bytes e shut)) made
       (front_keeps_many config world law.master law.given story.course.store law.nodes law.many to front (turned_so front conn later turned.outs) there)
-      (feeds_alike config world next law.master moved.homes links (fronts_were world next to front (with_connection front conn later) there moved refl) law.feeds)
+      (feeds_alike config world next law.master moved.homes links (is_made world to (state.Front (with_connection front conn later)) turned.outs).broken
+      (fronts_were world next to front (with_connection front conn later) there moved refl) law.feeds)
       (subst (λ t. ConnectionIs fixed conn next story t (heard conn)) (sym (stops_here law.stops conn))
       (subst (λ h. ConnectionIs fixed conn next story is_lost h) (sym e) mine))
 
@@ -388,6 +393,7 @@ module _ (config : Config) (heard : ℕ → Heard) (from to : List ℕ) (ne : fr
   -- a step of the frontend in which some end
   record EndsSome (world : World) (law : KeepsLaw config heard world) (next : Stepped) : Type 0 where
     keeps : KeepsOn config law.story law.stops heard (with_front world to next)
+    quiet : AllByRecursion AsksNone next.outs
     master_is : next.front.master ≡ master_of config
     owns : OwnsClients (with_front world to next) to next.front
 
@@ -397,6 +403,7 @@ module _ (config : Config) (heard : ℕ → Heard) (from to : List ℕ) (ne : fr
     unfolding carry_all
     none_ends = record {
       keeps = put_kept config heard heard world to (state.Front front) (front_is (node_at world to) front there) (λ other. refl) law;
+      quiet = tt;
       master_is = master_is;
       owns = owns;
     }
@@ -405,6 +412,7 @@ module _ (config : Config) (heard : ℕ → Heard) (from to : List ℕ) (ne : fr
       bye_some : (c : Connection) → connection_at front conn ≡ Some c → WaitsFrom c.stage from → EndsSome world law (with_turned front conn (says_bye conn c Lost))
       bye_some c has is = record {
         keeps = open_by config heard world law from to front there cut conn c has is owns (law.stops conn) (heard conn) refl (law.connections conn);
+        quiet = (refl, (refl, tt));
         master_is = master_is;
         owns = bye_owns config heard world law from to front there cut conn c has is owns;
       }
@@ -428,34 +436,45 @@ module _ (config : Config) (heard : ℕ → Heard) (from to : List ℕ) (ne : fr
       one_ends_so : EndsSome world law (one_ends front from conn)
       one_ends_so = if_ends (awaited front.master (connection_at front conn) from) refl
 
+  -- behind all of them
+  record AllEnded (world : World) (law : KeepsLaw config heard world) (next : Stepped) : Type 0 where
+    kept : KeepsOn config law.story law.stops heard (with_front world to next)
+    quiet : AllByRecursion AsksNone next.outs
+
   all_keep : (conns : List ℕ) (world : World) (law : KeepsLaw config heard world) (front : Front) → front_at world to ≡ Some front
-      → front.master ≡ master_of config → OwnsClients world to front → world.broken ≢ []
-      → KeepsOn config law.story law.stops heard (with_front world to (all_end front from conns))
+      → front.master ≡ master_of config → OwnsClients world to front → world.broken ≢ [] → AllEnded world law (all_end front from conns)
   unfolding all_end
-  all_keep [] world law front there master_is owns cut = (none_ends world law front there master_is owns).keeps
+  all_keep [] world law front there master_is owns cut =
+      let none = none_ends world law front there master_is owns in record { kept = none.keeps; quiet = none.quiet }
   all_keep (conn ∷ conns) world law front there master_is owns cut =
       let one : Stepped = one_ends front from conn in
       let first = one_ends_so world law front there master_is owns cut conn in
       let behind : World = with_front world to one in
       let rest = all_keep conns behind (first.keeps).law one.front (front_moved world to front one there).own first.master_is first.owns
       (λ none. cut (sym (is_made world to (state.Front one.front) one.outs).broken ∙ none)) in
-      subst (λ w. KeepsOn config law.story law.stops heard w) (front_twice world to one (all_end one.front from conns))
-      (kept_then config heard law.story law.stops behind (with_front behind to (all_end one.front from conns)) first.keeps rest)
+      record {
+        kept = subst (λ w. KeepsOn config law.story law.stops heard w) (front_twice world to one (all_end one.front from conns))
+            (kept_then config heard law.story law.stops behind (with_front behind to (all_end one.front from conns)) first.keeps rest.kept);
+        quiet = both AsksNone one.outs (all_end one.front from conns).outs first.quiet rest.quiet;
+      }
 
--- THE END OF A LINK KEEPS THE LAW
+-- THE END OF A LINK WITH A BACKEND KEEPS THE LAW
 pub end_stands : (config : Config) (heard : ℕ → Heard) (world : World) (law : KeepsLaw config heard world) (from to : List ℕ) (front : Front)
-    → front_at world to ≡ Some front → IsTakenBy config heard world law from End to → IsSome (home_at world from) → from ≢ master_of config
+    → front_at world to ≡ Some front → IsTakenBy config heard world law from End to → from ≢ master_of config
     → OwnsClients world to front → world.broken ≢ []
     → KeepsOn config law.story law.stops heard (taken_by config heard world law from End to)
 unfolding deliver carry_all
-end_stands config heard world law from to front there taken names ne owns cut =
+end_stands config heard world law from to front there taken ne owns cut =
     let base : World = taken_from_link world from to in
     let now : Front = without_up front from in
     let behind : World = with_front base to (still now) in
     let conns : List ℕ = keys_of front.connections in
-    let first = relinked_stands config heard world law from to front End there taken (going_down front.ups from) ne tt in
+    let first = relinked_stands config heard world law from to front End there taken (going_down front.ups from) ne
+    (others_going front.ups from (master_of config) (λ e. ne (sym e))) tt in
     let rest = all_keep config heard from to ne conns behind first.law now (front_moved base to front (still now) there).own
     ((law.nodes).fronts to front there).master_is owns cut in
     subst (λ w. KeepsOn config law.story law.stops heard w)
-    (front_twice base to (still now) (all_end now from conns) ∙ sym (front_all_come base to (From from End) front there))
-    (kept_then config heard law.story law.stops behind (with_front behind to (all_end now from conns)) first rest)
+    (front_twice base to (still now) (all_end now from conns)
+    ∙ ap (λ outs. with_front base to (record { front = (all_end now from conns).front; outs = outs })) (sym (none_stay (all_end now from conns).outs rest.quiet))
+    ∙ sym (front_all_come base to (From from End) front there))
+    (kept_then config heard law.story law.stops behind (with_front behind to (all_end now from conns)) first rest.kept)

@@ -9,7 +9,7 @@ use Rattle.std.specs.Ordering.{nat_cmp}
 use Rattle.ask_routes.specs.Barrier.{barrier_answered}
 use Rattle.feed_core.specs.declared.replica.Replica.{Replica}
 use Rattle.front_core.proofs.OneConnection.Places.{is_over}
-use Rattle.front_core.proofs.OneConnection.Readings.{inputs_in}
+use Rattle.front_core.proofs.OneConnection.Readings.{inputs_in, reading_of}
 use Rattle.front_core.specs.Answered.{ok_by, ok_comes, unchanged}
 use Rattle.front_core.specs.Ended.{released}
 use Rattle.front_core.specs.Front.{connection_at, deliver, line_by, line_from, ok_at, still, ways_of, with_turned}
@@ -18,6 +18,7 @@ use Rattle.front_core.specs.declared.connection.Connection.{Connection}
 use Rattle.front_core.specs.declared.front.Front.{Front}
 use Rattle.imap_talk.specs.Heard.{Heard}
 use Rattle.imap_talk.specs.Transcript.{Stop}
+use Rattle.imap_talk.specs.Transcript.Stop.{is_lost}
 use Rattle.imap_talk.specs.declared.inputs.Input.{Input}
 use Rattle.imap_wire.specs.Frames.{begun}
 use Rattle.link_msg.specs.declared.message.LinkMsg.{LinkMsg}
@@ -45,7 +46,7 @@ use Rattle.cluster_core.proofs.Connections.KeepsData.{standing_released}
 use Rattle.cluster_core.proofs.Connections.KeepsFront.{fronts_at_other, replicas_stay, with_connection}
 use Rattle.cluster_core.proofs.Connections.KeepsLaw.{ConnectionIs, FeedsHold, IsAt, IsGone, KeepsLaw, KeepsOn, fixed_of, murder_of}
 use Rattle.cluster_core.proofs.Connections.KeepsLaw.ConnectionIs.{is_nobody, is_elsewhere, is_open, is_cut_off, is_closed}
-use Rattle.cluster_core.proofs.Connections.Stays.{each_stays, fixed_places}
+use Rattle.cluster_core.proofs.Connections.Stays.{dropped_stays, each_stays, fixed_places}
 use Rattle.cluster_core.proofs.Nodes.AllCome.{front_all_come}
 use Rattle.cluster_core.proofs.Nodes.Comes.{FrontMoved, front_moved, with_front}
 use Rattle.cluster_core.proofs.Nodes.Stay.{front_cores}
@@ -205,7 +206,7 @@ module _ (config : Config) (heard : ℕ → Heard) (world : World) (law : KeepsL
           here = standing.here;
           placed = placed_then node its.replica standing.here standing.placed;
           marked = standing.marked;
-          dropped = standing.dropped;
+          dropped = dropped_stays fixed.master world next node refl standing.here standing.dropped;
           restores = standing.restores;
           stands = standing.stands;
         } in
@@ -225,13 +226,13 @@ module _ (config : Config) (heard : ℕ → Heard) (world : World) (law : KeepsL
         let is = is_now node its connection at in
         is_open text node is.now is.its_own is.at
         (⊎_elim
-        (λ e. subst (λ c. HasBegunSo c _) (sym e) reader)
-        (λ e. subst (λ c. HasBegunSo c _) (sym e) (begun_released connection _ reader))
+        (λ e. subst (λ c. HasBegunSo c (reading_of (setting_of config) text)) (sym e) reader)
+        (λ e. subst (λ c. HasBegunSo c (reading_of (setting_of config) text)) (sym e) (begun_released connection (reading_of (setting_of config) text) reader))
         is.is)
         (open_then text node its connection is standing)
     connection_then _ _ (is_cut_off text node its connection at gone unanswered) =
         let is = is_now node its connection at in
-        is_cut_off text node is.now is.its_own is.at (gone_then node its connection (inputs_in (setting_of config) text) _ is gone) unanswered
+        is_cut_off text node is.now is.its_own is.at (gone_then node its connection (inputs_in (setting_of config) text) is_lost is gone) unanswered
     connection_then _ _ (is_closed stop text node its connection at gone) =
         let is = is_now node its connection at in
         is_closed stop text node is.now is.its_own is.at (gone_then node its connection (inputs_in (setting_of config) text) stop is gone)

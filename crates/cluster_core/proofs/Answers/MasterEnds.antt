@@ -9,14 +9,15 @@ use Rattle.std.specs.Ordering.{nat_cmp}
 use Rattle.asking_core.specs.declared.waiting.At.{At}
 use Rattle.asking_core.specs.declared.waiting.At.TheVariants.{Home, Barrier as at_master}
 use Rattle.asking_core.specs.declared.waiting.Waiting.{Waiting as WaitingFor}
+use Rattle.feed_core.specs.declared.replica.Replica.{Replica}
 use Rattle.feed_links.proofs.FeedLaw.{both, end_keeps_it}
 use Rattle.feed_links.specs.Lines.{messages_to}
-use Rattle.feed_links.specs.OneFeed.{AreNoops, IsFed, ends_of}
+use Rattle.feed_links.specs.OneFeed.{AreNoops, IsFed, ends_in, ends_of}
 use Rattle.feed_links.specs.OneFeed.IsFed.{asks, is_told, comes_up, breaks_early, is_parted}
 use Rattle.front_core.proofs.OneConnection.Readings.{inputs_in, reading_of}
 use Rattle.front_core.specs.Answered.{end_by, end_comes, ends_at, reading_again, refused_behind}
 use Rattle.front_core.specs.Ended.{released}
-use Rattle.front_core.specs.Front.{Stepped, all_end, awaited, connection_at, end_at, end_if, one_ends, still, with_turned, without_up, ways_of}
+use Rattle.front_core.specs.Front.{Stepped, all_end, awaited, connection_at, deliver, end_at, end_if, one_ends, still, with_turned, without_up, ways_of}
 use Rattle.front_core.specs.Stages.{awaits}
 use Rattle.front_core.specs.Taken.{Turned, Ways, list_refused}
 use Rattle.front_core.specs.Ups.{Ups, going_down, is_up}
@@ -46,12 +47,14 @@ use Rattle.mur_model.proofs.HistoryGrows.{same_talk}
 use Rattle.mur_model.specs.declared.setting.Setting.{Setting}
 use Rattle.mur_model.specs.declared.store.Store.{Store}
 use Rattle.node_step.proofs.NodeKinds.{front_is}
+use Rattle.node_step.specs.declared.input.NodeInput.TheVariants.{From}
 use Rattle.node_step.specs.declared.node.NodeState.TheVariants as state
 use Rattle.session_core.specs.Relocated.{Refused}
 use Rattle.cluster_core.specs.Numbers.{HeardFits, NumbersFit}
-use Rattle.cluster_core.specs.World.{carry, carry_all, client_at, front_at, given_more, home_at, master_of, node_at, setting_of, taken_from_link}
+use Rattle.cluster_core.specs.World.{carry, carry_all, client_at, front_at, given_more, home_at, master_of, node_at, setting_of, taken_from_link, with_state}
 use Rattle.cluster_core.specs.declared.world.Client.{Client}
 use Rattle.cluster_core.specs.declared.world.World.{World}
+use Rattle.cluster_core.proofs.Answers.EndOrder.{in_order_keeps}
 use Rattle.cluster_core.proofs.Answers.Ends.{OwnsClients, front_twice, kept_then}
 use Rattle.cluster_core.proofs.Answers.GoesOn.{StandsSo}
 use Rattle.cluster_core.proofs.Answers.Keeps.{before_by, frontend_of, numbers_of}
@@ -77,6 +80,7 @@ use Rattle.cluster_core.proofs.Feeds.Noops.{AreApart, AreWellSent, IsWellSent, i
 use Rattle.cluster_core.proofs.Keeps.Numbers.{open_has_room}
 use Rattle.cluster_core.proofs.Links.Stand.{IsDown, LinksStand}
 use Rattle.cluster_core.proofs.Links.Stand.IsDown.{is_ending, has_ended}
+use Rattle.cluster_core.proofs.Nodes.AllCome.{all_come, front_all_come}
 use Rattle.cluster_core.proofs.Nodes.Carried.{is_made}
 use Rattle.cluster_core.proofs.Nodes.Comes.{FrontMoved, front_moved, with_front}
 use Rattle.cluster_core.proofs.Nodes.Stay.{same_nodes}
@@ -95,16 +99,16 @@ unfolding given_more
 given_stays world node conn bytes None other e is = is
 given_stays world node conn bytes (Some known) other e is = ⊎_elim
     (λ (same : other ≡ conn).
-    let its : is.0 ≡ known = same_Some is.0 known (sym is.1.0 ∙ (ap (client_at world) same ∙ e)) in (
+    let its : is.0 ≡ known = same_Some is.0 known (sym is.1 ∙ (ap (client_at world) same ∙ e)) in (
       record known { given = known.given ++ bytes },
       ap (client_at (given_more world conn bytes (Some known))) same
           ∙ value_at-with_value nat_cmp numbers_apart world.clients conn (record known { given = known.given ++ bytes }) known e,
-      ap (λ (c : Client). c.at) (sym its) ∙ is.1.1,
+      ap (λ (c : Client). c.at) (sym its) ∙ is.2,
     ))
     (λ (ne : other ≢ conn). (
       is.0,
-      value_at-with_value-other nat_cmp numbers_apart world.clients conn other (record known { given = known.given ++ bytes }) ne ∙ is.1.0,
-      is.1.1,
+      value_at-with_value-other nat_cmp numbers_apart world.clients conn other (record known { given = known.given ++ bytes }) ne ∙ is.1,
+      is.2,
     ))
     (cases_eq other conn)
 
@@ -199,7 +203,7 @@ module _ (config : Config) (heard : ℕ → Heard) (fits : NumbersFit heard) (to
         record {
           there = (front_moved world to front next between.there).own;
           owns = λ conn connection has.
-              (let is = carry_all_stays (with_state world to (state.Front next.front)) to to conn next.outs (own conn connection has) in (is.0, is.1.0, is.1.1));
+              (let is = carry_all_stays (with_state world to (state.Front next.front)) to to conn next.outs (own conn connection has) in (is.0, is.1, is.2));
           broken = ap (λ (b : Broken). is_broken b me to) made.broken ∙ between.broken;
           cut = λ none. between.cut (sym made.broken ∙ none);
           empty = ap (λ (l : Links LinkMsg). on_link l me to) made.links ∙ puts_else to world.links next.outs me to apart ∙ between.empty;
@@ -252,6 +256,14 @@ module _ (config : Config) (heard : ℕ → Heard) (fits : NumbersFit heard) (to
       abbrev then : World
       then = with_front world to (with_turned front conn turned)
 
+      own_by : (other : ℕ) (c : Connection) → connection_at (with_turned front conn turned).front other ≡ Some c → IsOf world to other
+      own_by other c there = ⊎_elim
+          (λ (same : other ≡ conn). (let own = between.owns conn connection has in subst (IsOf world to) (sym same) (own.0, own.1, own.2)))
+          (λ (ne : other ≢ conn).
+          (let own = between.owns other c (sym (value_at-with_value-other nat_cmp numbers_apart front.connections conn other later ne) ∙ there) in
+          (own.0, own.1, own.2)))
+          (cases_eq other conn)
+
       refused_keeps : (bytes : List ℕ) → law.stops conn ≡ silent → heard conn ≡ client bytes false
           → HasBegunSo connection (reading_of (setting_of config) bytes)
           → IsStanding fixed to front.replica conn (inputs_in (setting_of config) bytes) (begun bytes) connection world law.story
@@ -299,14 +311,6 @@ module _ (config : Config) (heard : ℕ → Heard) (fits : NumbersFit heard) (to
             between = between_then (with_turned front conn turned) (λ other c there. own_by other c there);
             well = well;
           }
-        where
-          own_by : (other : ℕ) (c : Connection) → connection_at (with_turned front conn turned).front other ≡ Some c → IsOf world to other
-          own_by other c there = ⊎_elim
-              (λ (same : other ≡ conn). (let own = between.owns conn connection has in subst (IsOf world to) (sym same) (own.0, own.1, own.2)))
-              (λ (ne : other ≢ conn).
-              (let own = between.owns other c (sym (value_at-with_value-other nat_cmp numbers_apart front.connections conn other later ne) ∙ there) in
-              (own.0, own.1, own.2)))
-              (cases_eq other conn)
 
       -- the frontend and the connection of which the law tells
       record IsThis (node : List ℕ) (its : Front) (c : Connection) : Type 0 where
@@ -385,11 +389,14 @@ module _ (config : Config) (heard : ℕ → Heard) (fits : NumbersFit heard) (to
 
 ends_last : (messages : List LinkMsg) → 1 ≤ ends_of (messages ++ End ∷ [])
 unfolding ends_of
-ends_last [] = omega arith
-ends_last (message ∷ messages) = omega (arith, ends_last messages)
+ends_last [] = (let one : 1 ≤ 1 + 0 = omega arith in one)
+ends_last (message ∷ messages) =
+    let more : 1 ≤ ends_of (messages ++ End ∷ []) = ends_last messages in
+    let all : 1 ≤ ends_in message + ends_of (messages ++ End ∷ []) = omega (arith, more) in
+    all
 
 -- over a broken link no End stands behind its first one
-no_more_ends : (master : Master) (node : List ℕ) (broken reached : Bool) (up rest : List LinkMsg) (replica : _) → broken ≡ true
+no_more_ends : (master : Master) (node : List ℕ) (broken reached : Bool) (up rest : List LinkMsg) (replica : Replica) → broken ≡ true
     → IsFed master node broken reached up (End ∷ rest) replica → ends_of rest ≤ 0
 unfolding ends_of
 no_more_ends master node broken reached up rest replica is_so (asks whole here before behind is one two three four empty no_stream) =
@@ -400,13 +407,17 @@ no_more_ends master node broken reached up rest replica is_so (comes_up whole he
     absurd (let no : true ≡ false = sym is_so ∙ whole in cc)
 no_more_ends master node broken reached up rest replica is_so (breaks_early one two three ends is four five six) =
     absurd (let no : End ∷ rest ≡ Up ∷ ends = is in cc)
-no_more_ends master node broken reached up rest replica is_so (is_parted one own lines few tag) = omega (arith, few)
+no_more_ends master node broken reached up rest replica is_so (is_parted one own lines few tag) =
+    let less : 1 + ends_of rest ≤ 1 = few in omega (arith, less)
+
+tail_is : {X : Type 0} (x y : X) (one other : List X) → x ∷ one ≡ y ∷ other → one ≡ other
+tail_is x y one other e = cc
 
 ends_alone : (rest messages : List LinkMsg) → End ∷ rest ≡ messages ++ End ∷ [] → ends_of rest ≤ 0 → rest ≡ []
-ends_alone rest [] e few = cc
+ends_alone rest [] e few = tail_is End End rest [] e
 ends_alone rest (message ∷ messages) e few =
-    absurd (let same : rest ≡ messages ++ End ∷ [] = cc in
-    let no : 1 ≤ 0 = omega (arith, few, ap ends_of same, ends_last messages) in omega (arith, no))
+    let same : rest ≡ messages ++ End ∷ [] = tail_is End message rest (messages ++ End ∷ []) e in
+    absurd (omega (arith, few, ap ends_of same, ends_last messages))
 
 alone_by : (rest : List LinkMsg) (up : Bool) → IsDown (End ∷ rest) up → ends_of rest ≤ 0 → rest ≡ []
 alone_by rest up (is_ending messages e) few = ends_alone rest messages e few
@@ -495,7 +506,27 @@ module _ (config : Config) (heard : ℕ → Heard) (world : World) (law : KeepsL
   unfolding carry_all
   between = record { there = moved.own; owns = owns; broken = ended.0; cut = cut; empty = empty }
 
-  -- the connections in their order
-  pub ended_so : (law_then : KeepsOn config law.story law.stops heard behind)
-      × EndsSome config heard fits to behind law_then.law (all_end now name (keys_of front.connections))
-  ended_so = (first_keeps, all_keep config heard fits to (keys_of front.connections) behind first_keeps.law now between)
+  abbrev conns : List ℕ
+  conns = keys_of front.connections
+
+  rest_ends : EndsSome config heard fits to behind first_keeps.law (all_end now name conns)
+  rest_ends = all_keep config heard fits to conns behind first_keeps.law now between
+
+  in_turn : KeepsOn config law.story law.stops heard (with_front base to (all_end now name conns))
+  in_turn =
+      subst (λ w. KeepsOn config law.story law.stops heard w) (front_twice base to (still now) (all_end now name conns))
+      (kept_then config heard law.story law.stops behind (with_front behind to (all_end now name conns)) first_keeps rest_ends.keeps)
+
+  end_keeps : KeepsOn config law.story law.stops heard (all_come base to (From name End))
+  unfolding deliver
+  end_keeps =
+      subst (λ w. KeepsOn config law.story law.stops heard w) (sym (front_all_come base to (From name End) front there))
+      (in_order_keeps config base to (all_end now name conns) (λ e. frontend.no_master (sym e)) rest_ends.well heard law.story law.stops in_turn)
+
+-- THE END OF THE LINK WITH THE MASTER KEEPS THE LAW
+pub master_end_stands : (config : Config) (heard : ℕ → Heard) (world : World) (law : KeepsLaw config heard world) → LinksStand config world → NumbersFit heard
+    → (to : List ℕ) (front : Front) (rest : List LinkMsg) → front_at world to ≡ Some front → on_link world.links (master_of config) to ≡ End ∷ rest
+    → OwnsClients world to front → world.broken ≢ []
+    → KeepsOn config law.story law.stops heard (all_come (taken_from_link world (master_of config) to) to (From (master_of config) End))
+master_end_stands config heard world law links fits to front rest there first owns cut =
+    end_keeps config heard world law links fits to front rest there first owns cut

@@ -273,7 +273,7 @@ module _ (fixed : Fixed) (world : World) (story : Tale) (to : List ℕ) (front :
   waiting_by (place.is_dropped server) placed waiting e =
       absurd (not_home waiting.tag (waiting.c).waiting server placed.there.0 waiting.stage waiting.at placed.there.1 e)
   waiting_by (place.is_at loc name) placed waiting e =
-      absurd (not_home waiting.tag (waiting.c).waiting loc.server placed.there.0 waiting.stage waiting.at placed.there.1.0 e)
+      absurd (not_home waiting.tag (waiting.c).waiting loc.server placed.there.0 waiting.stage waiting.at placed.there.1 e)
   waiting_by (place.is_barred barrier.nowhere) placed waiting e = mailbox_at barrier.nowhere tt placed waiting
   waiting_by (place.is_barred barrier.asked) placed waiting e = mailbox_at barrier.asked tt placed waiting
   waiting_by (place.is_barred (barrier.answered table)) placed waiting e = absurd (not_ok table placed)

@@ -11,7 +11,7 @@ use Rattle.feed_links.proofs.Names.{other_name}
 use Rattle.feed_links.specs.Replicas.{hears}
 use Rattle.front_core.specs.declared.front.Front.{Front}
 use Rattle.front_core.specs.Front.{deliver, hearing, line_by, line_from, still}
-use Rattle.front_core.specs.Ups.{Ups}
+use Rattle.front_core.specs.Ups.{Ups, is_up}
 use Rattle.imap_talk.specs.Heard.{Heard}
 use Rattle.link_msg.specs.declared.message.LinkMsg.{LinkMsg}
 use Rattle.link_msg.specs.declared.message.LinkMsg.TheVariants.{Up, End, Line, Ask, Answer}
@@ -232,10 +232,10 @@ idle_stands config heard world law from to front message there taken ne idle =
 -- A MESSAGE OF ANOTHER NODE THAT CHANGES ALONE TO WHOM THE LINKS ARE UP KEEPS THE LAW
 pub relinked_stands : (config : Config) (heard : ℕ → Heard) (world : World) (law : KeepsLaw config heard world) (from to : List ℕ) (front : Front)
     (message : LinkMsg) (there : front_at world to ≡ Some front) (taken : IsTakenBy config heard world law from message to) (ups : Ups)
-    → from ≢ master_of config → IsIdle (master_of config) from message
+    → from ≢ master_of config → is_up ups (master_of config) ≡ is_up front.ups (master_of config) → IsIdle (master_of config) from message
     → KeepsOn config law.story law.stops heard (with_replica config heard world law from to front message there taken front.replica ups)
 unfolding carry_all
-relinked_stands config heard world law from to front message there taken ups ne idle =
+relinked_stands config heard world law from to front message there taken ups ne same idle =
     let me : List ℕ = master_of config in
     let base : World = taken_from_link world from to in
     let later : Front = record front { ups = ups } in
@@ -251,11 +251,11 @@ relinked_stands config heard world law from to front message there taken ups ne 
     still_feeds config world law.master law.nodes law.feeds base (λ server. refl)
     (λ any f at. still_fed config world law.master law.nodes law.feeds base any f at
     (taken_else world.links from to any me (inr (λ e. frontend.no_master (sym e))))
-    (taken_else world.links from to me any (inl (λ e. ne (sym e)))) (λ server. refl)) in
+    (taken_else world.links from to me any (inl (λ e. ne (sym e)))) refl (λ server. refl)) in
     let step = front_moved base to front (still later) there in
     replica_keeps config heard world law from to front message there taken front.replica ups
     (λ conn. stays_by config heard world law from to front message there taken front.replica ups conn
     (λ command here is. (all conn).in_place to front.replica command here is)
     (λ node other command here apart is. (all conn).in_place node other command here is))
     (front_keeps_many config base law.master law.given store nodes many to front (still later) there)
-    (feeds_alike config base next law.master step.homes refl (fronts_were base next to front later there step refl) feeds)
+    (feeds_alike config base next law.master step.homes refl refl (fronts_were base next to front later there step (ap (λ b. (front.replica, b)) same)) feeds)

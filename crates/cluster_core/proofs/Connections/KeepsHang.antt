@@ -144,7 +144,7 @@ closes config heard world conn law bytes node front connection at asked now gone
     (record { others = keeps_all (fixed_of config) conn world; goes_on = same_story conn law.story; store = refl; is_told = law.is_told })
     (front_keeps_many config world law.master law.given law.story.course.store law.nodes law.many node front
     (turned_so front conn (hung_up connection) []) at.at)
-    (feeds_alike config world next law.master moved.homes refl (fronts_were world next node front later at.at moved refl) law.feeds)
+    (feeds_alike config world next law.master moved.homes refl refl (fronts_were world next node front later at.at moved refl) law.feeds)
     (subst (λ h. ConnectionIs (fixed_of config) conn next law.story (law.stops conn) h) (sym now)
     (is_closed (law.stops conn) bytes node later (hung_up connection)
     (is_at_after world node front conn connection (hung_up connection) [] at.at at.has)

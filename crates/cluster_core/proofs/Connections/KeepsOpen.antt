@@ -146,7 +146,7 @@ joined_keeps config heard world node conn law none first =
         stops = law.stops;
         given = law.given;
         many = same_murder (murder_of world law.master) (murder_of next law.master) law.given law.story.course.store refl (λ any. refl) refl law.many;
-        feeds = feeds_alike config world next law.master (λ any. refl) refl (λ any now there. record { was = now; at = there; same = refl }) law.feeds;
+        feeds = feeds_alike config world next law.master (λ any. refl) refl refl (λ any now there. record { was = now; at = there; same = refl }) law.feeds;
         is_told = law.is_told;
         requests = requests_first config law.story heard conn node first.nobody_is law.requests;
         connections = each_stays fixed world next law.story law.story law.stops law.stops heard (after_open config heard node conn) conn (opened_at false) law.connections
@@ -258,7 +258,7 @@ front_keeps_open config heard world node conn front law at first =
         given = law.given;
         many = subst (λ w. ManyHold (murder_of w law.master) law.given law.story.course.store) (greets world node conn front)
             (front_keeps_many config joined law.master law.given law.story.course.store nodes_then many_then node front (greets_it front conn) at);
-        feeds = feeds_alike config world next law.master moved.homes refl (fronts_were world next node front later at moved refl) law.feeds;
+        feeds = feeds_alike config world next law.master moved.homes refl refl (fronts_were world next node front later at moved refl) law.feeds;
         is_told = law.is_told;
         requests = requests_first config law.story heard conn node first.nobody_is law.requests;
         connections = each_stays fixed world next law.story law.story law.stops law.stops heard (after_open config heard node conn) conn (opened_at true) law.connections

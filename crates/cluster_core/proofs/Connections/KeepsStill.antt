@@ -154,7 +154,7 @@ quiet_kept config heard after world next nodes clients broken links marks steps 
     still_kept config heard after world next law.master (alike_but_steps (fixed_of config) world next nodes clients broken links marks steps) same law
     (same_nodes config world next law.master nodes law.nodes)
     (same_murder (murder_of world law.master) (murder_of next law.master) law.given law.story.course.store refl homes links law.many)
-    (feeds_alike config world next law.master homes links
+    (feeds_alike config world next law.master homes links broken
     (λ node now there. record { was = now; at = sym (ap (λ n. as_front (value_at (slice_cmp nat_cmp) n node)) nodes) ∙ there; same = refl }) law.feeds)
 
 -- the number of the last step is one more
@@ -179,7 +179,7 @@ module _ (config : Config) (heard : ℕ → Heard) (world : World) (disks : Disk
   other_disks = record world { disks = disks }
 
   pub disks_feeds : FeedsHold config other_disks law.master
-  disks_feeds = feeds_alike config world other_disks law.master (λ node. refl) refl (λ node now there. record { was = now; at = there; same = refl }) law.feeds
+  disks_feeds = feeds_alike config world other_disks law.master (λ node. refl) refl refl (λ node now there. record { was = now; at = there; same = refl }) law.feeds
 
   pub disks_connections : (conn : ℕ) → ConnectionIs (fixed_of config) conn other_disks law.story (law.stops conn) (heard conn)
   disks_connections conn =

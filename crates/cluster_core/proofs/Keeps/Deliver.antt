@@ -1,11 +1,12 @@
--- A MESSAGE IS DELIVERED, whoever takes it: the law is kept, where the world holds what stands beside the law.
-use Rattle.std.proofs.Common.{◌≡◌, ◌≢◌, ℕ, List, [], ◌∷◌, Option, None, Some, refl, sym, ◌∙◌, ap, subst}
+-- A MESSAGE IS DELIVERED, whoever takes it, but to the master over a link that is broken: the law is kept, where the world holds what stands beside the law.
+use Rattle.std.proofs.Common.{◌≡◌, ◌≢◌, ℕ, false, List, [], ◌∷◌, Option, None, Some, refl, sym, ◌∙◌, ap, subst}
 use Rattle.cluster_core.specs.Headline.Outside.{table_by, table_at}
 use Rattle.cluster_core.specs.World.{front_at, master_of, home_at, master_at, node_at, taken_from_link}
 use Rattle.front_core.specs.declared.front.Front.{Front}
 use Rattle.imap_talk.specs.Heard.{Heard}
 use Rattle.link_msg.specs.declared.message.LinkMsg.{LinkMsg}
 use Rattle.link_msg.specs.declared.message.LinkMsg.TheVariants.{End}
+use Rattle.link_queue.specs.Broken.{is_broken}
 use Rattle.link_queue.specs.Links.{on_link}
 use Rattle.master_core.specs.declared.master.Master.{Master}
 use Rattle.master_core.specs.Linked.{node_says}
@@ -37,7 +38,7 @@ pub record StandsBeside (config : Config) (world : World) : Type 0 where
   -- how its links stand, and whom the connections of a frontend are
   pub links : LinksStand config world
   pub owns : (node : List ℕ) (front : Front) → front_at world node ≡ Some front → OwnsClients world node front
-  -- a server that an answer names, or of whose link a frontend is told, is a backend
+  -- a server that an answer names is a backend
   pub names : (from to : List ℕ) (front : Front) → front_at world to ≡ Some front → (message : LinkMsg) (rest : List LinkMsg)
       → on_link world.links from to ≡ message ∷ rest → MessageNamesBackend (home_at world) from message
   -- no link ends before one was cut
@@ -47,6 +48,7 @@ pub record StandsBeside (config : Config) (world : World) : Type 0 where
 
 module _ (config : Config) (heard : ℕ → Heard) (world : World) (law : KeepsLaw config heard world) (beside : StandsBeside config world)
     (fits : NumbersFit heard) (from to : List ℕ) (message : LinkMsg) (rest : List LinkMsg) (first : on_link world.links from to ≡ message ∷ rest)
+    (whole : to ≡ master_of config → is_broken world.broken (master_of config) from ≡ false)
     (moves : MovesBy law.story.talk.moving world.steps (table_at (all_come (taken_from_link world from to) to (From from message)) (master_of config))) where
   abbrev Keeps : List ℕ → Type 0
   Keeps node = KeepsOn config law.story law.stops heard (all_come (taken_from_link world from node) node (From from message))
@@ -74,11 +76,12 @@ module _ (config : Config) (heard : ℕ → Heard) (world : World) (law : KeepsL
       (subst (MovesBy law.story.talk.moving world.steps)
       (ap (table_at (all_come (taken_from_link world from to) to (From from message))) (sym its)
       ∙ master_table (ap (master_at world) its ∙ law.nodes.is_there)) moves)
-      (beside.senders from message rest comes_first))
+      (beside.senders from message rest comes_first) (whole its))
 
 pub delivered_keeps : (config : Config) (heard : ℕ → Heard) (world : World) (law : KeepsLaw config heard world) → StandsBeside config world
     → NumbersFit heard → (from to : List ℕ) (message : LinkMsg) (rest : List LinkMsg) → on_link world.links from to ≡ message ∷ rest
+    → (to ≡ master_of config → is_broken world.broken (master_of config) from ≡ false)
     → MovesBy law.story.talk.moving world.steps (table_at (all_come (taken_from_link world from to) to (From from message)) (master_of config))
     → KeepsOn config law.story law.stops heard (all_come (taken_from_link world from to) to (From from message))
-delivered_keeps config heard world law beside fits from to message rest first moves =
-    keeps_by config heard world law beside fits from to message rest first moves (node_at world to) refl
+delivered_keeps config heard world law beside fits from to message rest first whole moves =
+    keeps_by config heard world law beside fits from to message rest first whole moves (node_at world to) refl
