@@ -1,6 +1,6 @@
 -- The master takes the first message of a frontend whose link is broken: a NOOP, UPDATE, or where the link goes up or down. What it answers is lost. Where it is the
 -- NOOP of the command that waits, the step sees the command, of which nothing is on its way then; the NOOP of a command of which its client was told counts for nothing.
-use Rattle.std.proofs.Common.{◌≡◌, ◌≢◌, ◌⊎◌, inl, inr, ℕ, ◌+◌, ◌≤◌, ◌&&◌, Bool, true, false, nat_eq, nat_lt, All, List, [], ◌∷◌, ◌++◌, filter, length, Option, None, Some, if◌then◌else◌, refl, sym, ◌∙◌, ap, subst, arith, append-nil}
+use Rattle.std.proofs.Common.{◌≡◌, ◌≢◌, ◌⊎◌, inl, inr, ℕ, ◌+◌, ◌≤◌, ◌&&◌, Bool, true, false, nat_eq, nat_lt, List, [], ◌∷◌, ◌++◌, filter, length, Option, None, Some, if◌then◌else◌, refl, sym, ◌∙◌, ap, subst, arith, append-nil}
 use Rattle.std.proofs.Math.Logic.{⊎_elim}
 use Rattle.std.proofs.lemmas.Bool.{cases_eq}
 use Rattle.std.proofs.lemmas.Bool.Decides.{nat_tests}
@@ -14,14 +14,12 @@ use Rattle.cluster_core.specs.declared.world.World.{World}
 use Rattle.feed_core.specs.declared.replica.Replica.{Replica}
 use Rattle.feed_core.specs.Stream.{update_line}
 use Rattle.feed_links.specs.Lines.{messages_to}
-use Rattle.feed_links.specs.OneFeed.{AreFrontsOwn, AreNoops, AreNoopsOrUps, AreUps, AreUpsOrEnds, IsFed, IsFrontsOwn, IsNoop, IsNoopOrUp, IsUpOrEnd}
-use Rattle.feed_links.specs.OneFeed.IsFed.{asks, is_told, comes_up, breaks_early, is_parted}
+use Rattle.feed_links.specs.OneFeed.{AreNoopsOrUps, IsFed, IsFrontsOwn, IsNoop, IsNoopOrUp, IsUpOrEnd}
 use Rattle.feed_links.specs.OneFeed.IsFrontsOwn.{its_link, its_noop, its_update}
 use Rattle.front_core.proofs.OneConnection.Places.{About, IsPlaced, about, about_command, first_of, is_about, is_below, is_over, none_over, not_about, of_connection, of_nobody, over_about, over_or, own_about, update_nobodys}
 use Rattle.front_core.specs.declared.front.Front.{Front}
 use Rattle.front_core.specs.Ups.{is_up}
 use Rattle.imap_talk.specs.Heard.{Heard}
-use Rattle.imap_talk.specs.Transcript.{Stop}
 use Rattle.imap_types.specs.declared.request.Answer.{Answer}
 use Rattle.imap_types.specs.declared.request.Request.TheVariants.{Command as a_command}
 use Rattle.link_msg.specs.declared.counts.Counts.TheVariants.{IfAnswered}
@@ -45,7 +43,6 @@ use Rattle.master_core.specs.declared.master.Master.{Master}
 use Rattle.master_core.specs.Linked.{node_says}
 use Rattle.master_core.specs.Outside.{Stepped}
 use Rattle.mupdate_codec.specs.declared.command.MCommand.TheVariants as command
-use Rattle.mupdate_codec.specs.declared.tag.Tag.{Tag}
 use Rattle.mupdate_codec.specs.Asks.{ask_id_of, line_ask}
 use Rattle.mupdate_codec.proofs.LineAsks.{command_tells}
 use Rattle.mupdate_codec.proofs.WholeLaw.{is_line}
@@ -73,7 +70,7 @@ use Rattle.cluster_core.proofs.Commands.Standing.{Fixed, WaitsAt, next_id}
 use Rattle.cluster_core.proofs.Connections.ConnectionLaw.{IsInNoneOf, IsInPlaceOf, says_same}
 use Rattle.cluster_core.proofs.Connections.KeepsLaw.{AreNodesOf, ConnectionIs, FeedsHold, KeepsLaw, KeepsOn, fixed_of, murder_of}
 use Rattle.cluster_core.proofs.Connections.Tales.{others_marked}
-use Rattle.cluster_core.proofs.Feeds.FrontAsks.{late_feeds}
+use Rattle.cluster_core.proofs.Feeds.Late.{late_feeds}
 use Rattle.cluster_core.proofs.Nodes.AllCome.{all_come, master_all_come}
 use Rattle.cluster_core.proofs.Nodes.Carried.{IsMade, given_all, given_out, is_made, marks_made}
 use Rattle.cluster_core.proofs.Nodes.Comes.{MasterMoved, master_moved, with_master, wrote}
@@ -137,12 +134,12 @@ module _ (conn : ℕ) where
   -- what is about a connection is a NOOP
   asks_noop : (master : Master) (node : List ℕ) (broken reached : Bool) (message : LinkMsg) (up down : List LinkMsg) (replica : Replica)
       → IsFed master node broken reached (message ∷ up) down replica → Own message → IsNoop message
-  asks_noop master node broken reached message up down replica (asks whole there before behind is one two lines none empty no_stream) own =
+  asks_noop master node broken reached message up down replica (IsFed.asks whole there before behind is one two lines none empty no_stream) own =
       before_update message up before behind is one own
-  asks_noop master node broken reached message up down replica (is_told whole there are lines told stream) own = are.0
-  asks_noop master node broken reached message up down replica (comes_up whole there are is no_stream) own = absurd (no_up message are.0 own)
-  asks_noop master node broken reached message up down replica (breaks_early cut there are ends is all few no_stream) own = absurd (no_link message are.0 own)
-  asks_noop master node broken reached message up down replica (is_parted cut are lines few tagged) own = by_own message are.0 own
+  asks_noop master node broken reached message up down replica (IsFed.is_told whole there are lines told stream) own = are.0
+  asks_noop master node broken reached message up down replica (IsFed.comes_up whole there are is no_stream) own = absurd (no_up message are.0 own)
+  asks_noop master node broken reached message up down replica (IsFed.breaks_early cut there are ends is all few no_stream) own = absurd (no_link message are.0 own)
+  asks_noop master node broken reached message up down replica (IsFed.is_parted cut are lines few tagged) own = by_own message are.0 own
 
 -- in a world
 pub first_noop : (config : Config) (world : World) (master : Master) → FeedsHold config world master → (from : List ℕ) (front : Front) (message : LinkMsg)
