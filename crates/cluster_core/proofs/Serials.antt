@@ -5,6 +5,7 @@ pub mod Senders
 pub mod Reserved
 pub mod InFlow
 pub mod MasterLinks
+pub mod GoesOnLines
 pub mod AtHome
 pub mod Asked
 pub mod AtMaster

@@ -78,6 +78,7 @@ use Rattle.cluster_core.proofs.Nodes.Comes.{master_moved, with_master}
 use Rattle.cluster_core.proofs.OneServer.SerialsRise.{settled_entry}
 use Rattle.cluster_core.proofs.Routing.Makes.{has_home}
 use Rattle.cluster_core.proofs.Serials.Asked.{reserve_is_asked}
+use Rattle.cluster_core.proofs.Serials.GoesOnLines.{up_is_on}
 use Rattle.cluster_core.proofs.Serials.InFlow.{its_connection, response_in_place, runs_there}
 use Rattle.cluster_core.proofs.Serials.Reserved.{HasReserved, IsAmong, IsReserved, kept_among, making}
 use Rattle.cluster_core.proofs.Serials.Reserved.HasReserved.{hears_ok, makes}
@@ -192,7 +193,8 @@ module _ (config : Config) (heard : ℕ → Heard) (world : World) (law : KeepsL
       id = next_id conn (story.told conn)
 
       tells : TellsPlace fixed conn world story (law.stops conn) (heard conn) from name message
-      tells = first_tells fixed conn world story (law.stops conn) (heard conn) from name message rest first whose (law.connections conn)
+      tells = first_tells fixed conn world story (law.stops conn) (heard conn) from name message rest first whose
+          (up_is_on config heard world law from node there message rest conn whose first) (law.connections conn)
 
       numbered : IsNumbered id
       numbered =
