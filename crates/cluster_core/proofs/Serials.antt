@@ -6,6 +6,7 @@ pub mod Reserved
 pub mod InFlow
 pub mod MasterLinks
 pub mod GoesOnLines
+pub mod Awaits
 pub mod AtHome
 pub mod Asked
 pub mod AtMaster
