@@ -11,4 +11,5 @@ pub mod AtHome
 pub mod Asked
 pub mod AtMaster
 pub mod Steps
+pub mod Barred
 pub mod SerialsLeft

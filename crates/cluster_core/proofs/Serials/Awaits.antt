@@ -27,7 +27,7 @@ use Rattle.node_record.specs.Table.{MailboxTable}
 use Rattle.point_links.specs.Commands.{ClientCommand}
 use Rattle.route_links.specs.Barriers.{Place as Barrier, Place as barrier}
 use Rattle.cluster_core.specs.Headline.OneNode.{node_of}
-use Rattle.cluster_core.specs.World.{client_at, front_at, home_at, master_of}
+use Rattle.cluster_core.specs.World.{Disks, client_at, front_at, home_at, master_of}
 use Rattle.cluster_core.specs.declared.world.World.{World}
 use Rattle.cluster_core.proofs.Commands.Knows.{Knows, KnowsNames}
 use Rattle.cluster_core.proofs.Commands.Knows.Knows.{is_decided, undecided}
@@ -49,6 +49,17 @@ pub record AwaitsMaster (master : List ℕ) (world : World) (conn : ℕ) : Type 
   pub at : IsAt world conn node front connection
   pub client : node_of (client_at world conn) ≡ Some node
   pub waits : awaits master connection.stage master ≡ true
+
+-- so it is whatever stands on the disks
+pub awaits_so : (master : List ℕ) (world : World) (disks : Disks) (conn : ℕ) → AwaitsMaster master world conn → AwaitsMaster master (record world { disks = disks }) conn
+awaits_so master world disks conn is = record {
+  node = is.node;
+  front = is.front;
+  connection = is.connection;
+  at = record { at = (is.at).at; has = (is.at).has };
+  client = is.client;
+  waits = is.waits;
+}
 
 some_name : {one other : List ℕ} → Some one ≡ Some other → one ≡ other
 some_name e = cc

@@ -47,6 +47,7 @@ use Rattle.cluster_core.proofs.Runs.OneNodeLaw.{takes_works}
 use Rattle.cluster_core.proofs.Serials.AtHome.{home_goes}
 use Rattle.cluster_core.proofs.Serials.AtMaster.{Gives, IsGiven, master_gives}
 use Rattle.cluster_core.proofs.Serials.AtMaster.Gives.{gives_none, gives_one}
+use Rattle.cluster_core.proofs.Serials.Awaits.{AwaitsMaster, awaits_so}
 use Rattle.cluster_core.proofs.Serials.Counting.{times, times_else, times_first}
 use Rattle.cluster_core.proofs.Serials.MasterLinks.{master_links_stay}
 use Rattle.cluster_core.proofs.Serials.Reserved.{HasReserved, IsReserved, beside, client_leaves, reserved_so}
@@ -202,10 +203,11 @@ module _ (config : Config) (heard : ℕ → Heard) (before : World) (quiet : Wor
 
   -- ---- all of them
 
-  -- the connection of each: there are as many as the master's serial tells
+  -- the connection of each: there are as many as the master's serial tells; and none is of a command that waited for the master before the step
   pub record Counts (there : World) (reserved : List ℕ) : Type 0 where
     pub few : last_serial config there ≤ length reserved
     pub each : (conn : ℕ) → Counted there conn (times conn reserved)
+    pub barred : (conn : ℕ) → AwaitsMaster name world conn → times conn reserved ≤ told conn
 
   abbrev pub CountsThen : Event → Type 0
   CountsThen event = (reserved : List ℕ) × Counts (next event) reserved
@@ -214,7 +216,11 @@ module _ (config : Config) (heard : ℕ → Heard) (before : World) (quiet : Wor
     serial_stays : (event : Event) → last_serial config (next event) ≤ last_serial config world → CountsThen event
     serial_stays event stays = (
       reserved,
-      record { few = omega (arith, counts.few, stays); each = λ conn. counted_on event conn (times conn reserved) (counts.each conn) },
+      record {
+          few = omega (arith, counts.few, stays);
+          each = λ conn. counted_on event conn (times conn reserved) (counts.each conn);
+          barred = counts.barred;
+        },
     )
 
     -- ---- the master takes a message
@@ -270,8 +276,15 @@ module _ (config : Config) (heard : ℕ → Heard) (before : World) (quiet : Wor
             (counted_on (Deliver from name) other (times other reserved) (counts.each other)))
             (cases_eq other conn)
 
+        none_barred : (other : ℕ) → AwaitsMaster name world other → times other (conn ∷ reserved) ≤ told other
+        none_barred other awaits = ⊎_elim
+            (λ (same : other ≡ conn). absurd (given.apart (awaits_so name world put.disks conn (subst (AwaitsMaster name world) same awaits))))
+            (λ (ne : other ≢ conn). omega (arith, times_else other conn reserved ne, counts.barred other awaits))
+            (cases_eq other conn)
+
         reserves_one : says.master.table.serial ≤ law.master.table.serial + 1 → CountsThen (Deliver from name)
-        reserves_one more = (conn ∷ reserved, record { few = omega (arith, counts.few, more, serial_now, serial_then); each = one_more })
+        reserves_one more =
+            (conn ∷ reserved, record { few = omega (arith, counts.few, more, serial_now, serial_then); each = one_more; barred = none_barred })
 
       by_gives : asks_reserve message ≡ true → Gives config heard put put_law fits from message rest first → CountsThen (Deliver from name)
       by_gives asks (gives_none stays) = serial_stays (Deliver from name) (omega (arith, stays, serial_now, serial_then))
