@@ -175,27 +175,30 @@ module _ (config : Config) (heard : ℕ → Heard) (world : World) (law : KeepsL
   not_barred : (here : Place) → IsAtOk here → here ≡ place.nowhere → ⊥
   not_barred here ok none = (let no : place.nowhere ≡ place.is_barred (barrier.answered ok.table) = sym none ∙ ok.is in cc)
 
+  module _ (bytes node : List ℕ) (front : Front) (connection : Connection) (at : IsAt world conn node front connection)
+      (client : node_of (client_at world conn) ≡ Some node) (here : Place) (ok : IsAtOk here) where
+    waiting_so : awaits name connection.stage name ≡ true → IsOk
+    waiting_so is = (
+      awaits_it (record { node = node; front = front; connection = connection; at = at; client = client; waits = is }),
+      command_is here ok,
+    )
+
+    stands_so : Stands fixed node conn (inputs_in fixed.setting bytes) (begun bytes) connection (law.story.told conn) (law.story.talk.answers conn)
+        (law.story.course.sessions conn) here → IsOk
+    unfolding awaits
+    stands_so (reads a b c d e f none) = absurd (not_barred here ok none)
+    stands_so (waits waiting) =
+        waiting_so (ap (λ s. awaits name s name) waiting.stage
+        ∙ at_master waiting.c.waiting.at (barrier.answered ok.table) (subst (WaitsAt waiting.c.waiting.at) ok.is waiting.at))
+    stands_so (lists waiting) = waiting_so (ap (λ s. awaits name s name) waiting.stage ∙ same_name name)
+    stands_so (faulted a b c d e none) = absurd (not_barred here ok none)
+    stands_so (finished passed more asking before last a b c d e f none) = absurd (not_barred here ok none)
+
   by_connection : (stop : Stop) (was : Heard) → ConnectionIs fixed conn world law.story stop was → IsOk
   by_connection stop was (is_nobody none fronts untold) = absurd (none_there untold.nothing.message)
   by_connection stop was (is_elsewhere node given at none untold) = absurd (none_there untold.nothing.message)
-  by_connection stop was (is_open bytes node front connection at reader standing) = by (at_ok node front at.at standing.here standing.placed) standing.stands
-    where
-      waiting_so : awaits name connection.stage name ≡ true → AwaitsMaster name world conn
-      waiting_so is = record { node = node; front = front; connection = connection; at = at; client = ap node_of standing.client; waits = is }
-
-      by : IsAtOk standing.here
-          → Stands fixed node conn (inputs_in fixed.setting bytes) (begun bytes) connection (law.story.told conn) (law.story.talk.answers conn)
-          (law.story.course.sessions conn) standing.here → IsOk
-      unfolding awaits
-      by ok (reads a b c d e f none) = absurd (not_barred standing.here ok none)
-      by ok (waits waiting) = (
-        awaits_it (waiting_so (ap (λ s. awaits name s name) waiting.stage
-            ∙ at_master waiting.c.waiting.at (barrier.answered ok.table) (subst (WaitsAt waiting.c.waiting.at) ok.is waiting.at))),
-        command_is standing.here ok,
-      )
-      by ok (lists waiting) = (awaits_it (waiting_so (ap (λ s. awaits name s name) waiting.stage ∙ same_name name)), command_is standing.here ok)
-      by ok (faulted a b c d e none) = absurd (not_barred standing.here ok none)
-      by ok (finished passed more asking before last a b c d e f none) = absurd (not_barred standing.here ok none)
+  by_connection stop was (is_open bytes node front connection at reader standing) =
+      stands_so bytes node front connection at (ap node_of standing.client) standing.here (at_ok node front at.at standing.here standing.placed) standing.stands
   by_connection stop was (is_cut_off bytes node front connection at gone unanswered) = (
     has_gone node front connection at (ap node_of gone.client) gone.stage_is,
     command_is gone.here (at_ok node front at.at gone.here gone.placed),
@@ -247,38 +250,40 @@ module _ (config : Config) (came then : ℕ → Heard) (world next : World) (eve
       asked_fit config then next law_next fits conn barred.node barred.front barred.connection barred.at client.0 (client.1).0 (client.1).1
 
   -- a connection that has ended stays so
-  gone_then : (front : Front) (connection : Connection) → IsAt world conn node front connection → connection.stage ≡ Ended → node ≡ barred.node → ⊥
-  gone_then front connection at ended same = by sent
-    where
-      now_at : front_at next node ≡ Some barred.front
-      now_at = ap (front_at next) same ∙ (barred.at).at
+  module _ (front : Front) (connection : Connection) (at : IsAt world conn node front connection) (ended : connection.stage ≡ Ended) (same : node ≡ barred.node) where
+    now_at : front_at next node ≡ Some barred.front
+    now_at = ap (front_at next) same ∙ (barred.at).at
 
-      awaits_there : awaits (master_of config) barred.connection.stage (master_of config) ≡ true
-      awaits_there = it_awaits (master_of config) next conn awaiting barred.node barred.front barred.connection barred.client barred.at
+    awaits_there : awaits (master_of config) (barred.connection).stage (master_of config) ≡ true
+    awaits_there = it_awaits (master_of config) next conn awaiting barred.node barred.front barred.connection barred.client barred.at
 
-      still : front_at next node ≡ front_at world node → ⊥
-      still same_front_at =
-          let fronts : barred.front ≡ front = same_front (sym now_at ∙ same_front_at ∙ at.at) in
-          let its : barred.connection ≡ connection = same_connection (sym (barred.at).has ∙ ap (λ (f : Front). connection_at f conn) fronts ∙ at.has) in
-          ended_awaits (master_of config) barred.connection.stage (ap (λ (c : Connection). c.stage) its ∙ ended) awaits_there
+    still : front_at next node ≡ front_at world node → ⊥
+    still same_front_at =
+        let fronts : barred.front ≡ front = same_front (sym now_at ∙ same_front_at ∙ at.at) in
+        let its : barred.connection ≡ connection =
+        same_connection (sym (barred.at).has ∙ ap (λ (f : Front). connection_at f conn) fronts ∙ at.has) in
+        ended_awaits (master_of config) (barred.connection).stage (ap (λ (c : Connection). c.stage) its ∙ ended) awaits_there
 
-      by : StepSends world event node next → ⊥
-      by (rests none same_node links) = still (ap as_front same_node)
-      by (is_away away now links) = still (ap as_front (now ∙ sym away))
-      by (sends it input there brought taken then_at links lost) = by_state it there then_at
-        where
-          by_state : (it : NodeState) → node_at world node ≡ Some it → node_at next node ≡ Some (node_takes it input).state → ⊥
-          unfolding node_takes
-          by_state (state.Front own) was now =
-              let fronts : own ≡ front = same_front (sym (a_front own) ∙ sym (ap as_front was) ∙ at.at) in
-              ended_awaits (master_of config) barred.connection.stage
-              (front_stays own conn connection (ap (λ (f : Front). connection_at f conn) fronts ∙ at.has) ended input barred.front (sym (ap as_front now) ∙ now_at)
-              barred.connection (barred.at).has)
-              awaits_there
-          by_state (state.Back home) was now =
-              (let no : None ≡ Some barred.front = sym (ap as_front now ∙ back_other home input) ∙ now_at in cc)
-          by_state (state.Master master) was now =
-              (let no : None ≡ Some barred.front = sym (ap as_front now ∙ master_other master input) ∙ now_at in cc)
+    by_state : (it : NodeState) (input : NodeInput) → node_at world node ≡ Some it → node_at next node ≡ Some (node_takes it input).state → ⊥
+    unfolding node_takes
+    by_state (state.Front own) input was now =
+        let fronts : own ≡ front = same_front (sym (a_front own) ∙ sym (ap as_front was) ∙ at.at) in
+        ended_awaits (master_of config) (barred.connection).stage
+        (front_stays own conn connection (ap (λ (f : Front). connection_at f conn) fronts ∙ at.has) ended input barred.front (sym (ap as_front now) ∙ now_at)
+        barred.connection (barred.at).has)
+        awaits_there
+    by_state (state.Back home) input was now =
+        absurd (let no : None ≡ Some barred.front = sym (ap as_front now ∙ back_other home input) ∙ now_at in cc)
+    by_state (state.Master master) input was now =
+        absurd (let no : None ≡ Some barred.front = sym (ap as_front now ∙ master_other master input) ∙ now_at in cc)
+
+    gone_by : StepSends world event node next → ⊥
+    gone_by (rests none same_node links) = still (ap as_front same_node)
+    gone_by (is_away away now links) = still (ap as_front (now ∙ sym away))
+    gone_by (sends it input there brought taken then_at links lost) = by_state it input there then_at
+
+    gone_then : ⊥
+    gone_then = gone_by sent
 
   -- ---- the OK is on its way behind the step
 

@@ -134,7 +134,7 @@ module _ (config : Config) (came : ℕ → Heard) (world : World) (quiet : World
   module _ (event : Event) (then : ℕ → Heard) (next : World) (same : next ≡ steps_by world event) (on : KeepsBehind config law.story law.stops then next)
       (grows : IsNoCut event → SaysOn law.story on.law.story) (own : HaveOwnClients world) (own_next : HaveOwnClients next) (fits_next : NumbersFit then)
       (counted : HasCounted config world law.story) where
-    abbrev counts : Counts config came world quiet (stepped_law config came world law).then fits (stepped world) counted.reserved
+    counts : Counts config came world quiet (stepped_law config came world law).then fits (stepped world) counted.reserved
     counts = record {
       few = counted.few;
       each = λ conn. subst (λ (s : Tale). CountedIn config (stepped world) s conn (times conn counted.reserved)) (sym (stepped_law config came world law).same)
