@@ -121,18 +121,24 @@ module _ (front : Front) (conn : ℕ) (c : Connection) (there : connection_at fr
   up_so from true = kept (up_from true (with_up front from)).front refl
   up_so from false = kept (up_from false (with_up front from)).front refl
 
+  ok_still : (other : ℕ) (found : Connection) (fits : Bool) (stage : Stage) → found.stage ≡ stage → stage ≡ Ended
+      → (ok_by front.setting (ways_of front) other found fits stage).connection.stage ≡ Ended
+  unfolding ok_by
+  ok_still other found true Ended is e = is
+  ok_still other found false Ended is e = is
+  ok_still other found fits Reading is e = cc
+  ok_still other found fits (Waits tag it) is e = cc
+  ok_still other found fits (Lists tag it) is e = cc
+
+  ok_comes_still : (other : ℕ) (found : Connection) (id : AskId) → found.stage ≡ Ended
+      → (ok_comes front.setting (ways_of front) other found id).connection.stage ≡ Ended
+  unfolding ok_comes
+  ok_comes_still other found id e = ok_still other found (id.command == found.answered + 1) found.stage refl e
+
   ok_at_so : (id : AskId) (found : Option Connection) → connection_at front id.conn ≡ found → StaysEnded (ok_at front id found).front
-  unfolding ok_at ok_comes ok_by
+  unfolding ok_at
   ok_at_so id None at = kept front refl
-  ok_at_so id (Some found) at = a_turn id.conn found at _ (λ e. by ((id.command) == found.answered + 1) found.stage refl e)
-    where
-      by : (fits : Bool) (stage : Stage) → found.stage ≡ stage → stage ≡ Ended
-          → (ok_by front.setting (ways_of front) id.conn found fits stage).connection.stage ≡ Ended
-      by true Ended is e = is
-      by false Ended is e = is
-      by fits Reading is e = cc
-      by fits (Waits tag it) is e = cc
-      by fits (Lists tag it) is e = cc
+  ok_at_so id (Some found) at = a_turn id.conn found at _ (ok_comes_still id.conn found id)
 
   line_by_so : (bytes : List ℕ) (found : Option AskId) → StaysEnded (line_by front bytes found).front
   line_by_so bytes None = kept (line_by front bytes None).front refl
