@@ -9,5 +9,6 @@ pub mod OnceLaw
 pub mod ServerEnds
 pub mod AskOrder
 pub mod LinkEnds
+pub mod EndedStays
 pub mod Answers
 pub mod LeftLaw

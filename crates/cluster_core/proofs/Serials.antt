@@ -5,8 +5,11 @@ pub mod Senders
 pub mod Reserved
 pub mod InFlow
 pub mod MasterLinks
+pub mod GoesOnLines
+pub mod Awaits
 pub mod AtHome
 pub mod Asked
 pub mod AtMaster
 pub mod Steps
+pub mod Barred
 pub mod SerialsLeft

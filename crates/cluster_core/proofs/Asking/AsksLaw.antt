@@ -93,7 +93,7 @@ module _ (may : List ℕ → LinkMsg → Type 0) (marks : Type 0) (node server :
 -- ---- what comes to a node
 
 -- each frontend knows the first backend
-abbrev KnowFirst : List Node → World → Type 0
+abbrev pub KnowFirst : List Node → World → Type 0
 KnowFirst nodes world = (node : List ℕ) (it : NodeState) → node_at world node ≡ Some it → KnowsFirst nodes it
 
 module _ (nodes : List Node) (master : List ℕ) where
@@ -220,7 +220,7 @@ is_first config are = let first = first_backend config.nodes are in first_among 
 
 -- ---- a run
 
-know_first : (config : Config) (world : World) → AreNodes config.nodes
+pub know_first : (config : Config) (world : World) → AreNodes config.nodes
     → ((node : List ℕ) (front : Front) → front_at world node ≡ Some front → (front.first ≡ home_of config) × IsInOrder (slice_cmp nat_cmp) front.ups)
     → KnowFirst config.nodes world
 know_first config world are is node (state.Front front) there =

@@ -7,7 +7,7 @@ use Rattle.std.proofs.lemmas.Bool.{cases_eq}
 use Rattle.back_links.specs.BackEvents.{IsFitting}
 use Rattle.back_node.specs.declared.node.BackNode.{BackNode}
 use Rattle.back_node.specs.Takes.{node_takes}
-use Rattle.front_core.proofs.OneConnection.Places.{About, about, first_of, nobody_whom, of_connection, of_nobody, other_whom}
+use Rattle.front_core.proofs.OneConnection.Places.{About, about, first_of, is_about, is_over, nobody_whom, not_about, of_connection, of_nobody, other_whom, over_about, over_or}
 use Rattle.imap_talk.specs.Heard.{Heard}
 use Rattle.link_msg.specs.declared.message.LinkMsg.{LinkMsg}
 use Rattle.link_msg.specs.declared.message.LinkMsg.TheVariants.{Line}
@@ -40,7 +40,7 @@ use Rattle.cluster_core.proofs.Connections.KeepsLaw.{KeepsLaw, fixed_of, murder_
 use Rattle.cluster_core.proofs.Keeps.Numbers.{asked_fit}
 use Rattle.cluster_core.proofs.Nodes.Comes.{home_moved, with_home}
 use Rattle.cluster_core.proofs.Points.Found.{from_is, to_is}
-use Rattle.cluster_core.proofs.Points.HomeStep.{nobody_fits}
+use Rattle.cluster_core.proofs.Points.HomeStep.{nobody_fits, over_fits}
 use Rattle.cluster_core.proofs.Points.OthersAtHome.{StillOrTested, place_of}
 use Rattle.cluster_core.proofs.Points.OthersAtHome.StillOrTested.{still, tested}
 use Rattle.cluster_core.proofs.Points.OwnAtHome.{home_step_is_own}
@@ -145,7 +145,7 @@ module _ (config : Config) (heard : ℕ → Heard) (world : World) (law : KeepsL
         (subst (IsAmong (answer_message flow it)) (sym (placed.shows to (later from message) (later_there from message)).down_is) (its_down it among)))
         known heard_so
 
-    other_goes : (other : about message ≢ of_connection conn) (fit : IsFitting message)
+    other_goes : (other : is_about id.command (of_connection conn) message ≡ false) (fit : IsFitting message)
         → StillOrTested config heard world law conn from to node message rest there first other fit waits.node waits.front waits.here → Goes from message
     other_goes other fit (still placed) = inl (reserved_at from message waits.here flow placed waits.shows (stays_reserved placed reserved))
     other_goes other fit (tested ask flows is up of_master moved) =
@@ -153,11 +153,14 @@ module _ (config : Config) (heard : ℕ → Heard) (world : World) (law : KeepsL
         (ap (λ (p : Place). flows_at (at_backend to p) name) (sym is) ∙ waits.shows))
 
     fitting : (whom : About) → about message ≡ whom → IsFitting message
-    fitting (of_connection c) whose =
-        (home_step_is_own config heard world law c from to node message rest (asked_fit config heard world law fits) there first whose).fits
+    fitting (of_connection c) whose = ⊎_elim
+        (λ (over : is_over (length (story.told c) + 1) message ≡ true). over_fits (length (story.told c) + 1) message over)
+        (λ (on : is_over (length (story.told c) + 1) message ≡ false).
+        (home_step_is_own config heard world law c from to node message rest (asked_fit config heard world law fits) there first whose on).fits)
+        (over_or (length (story.told c) + 1) message)
     fitting of_nobody whose = nobody_fits message whose
 
-    of_other : about message ≢ of_connection conn → Goes from message
+    of_other : is_about id.command (of_connection conn) message ≡ false → Goes from message
     of_other other =
         let fit = fitting (about message) refl in
         other_goes other fit
@@ -243,10 +246,10 @@ module _ (config : Config) (heard : ℕ → Heard) (world : World) (law : KeepsL
         subst (λ f. Goes f message) of_master
         (heard_goes message rest (ap (λ f. on_link world.links f to) of_master ∙ first) whose me it server is reserved)
 
-    of_own : about message ≡ of_connection conn → Goes from message
-    of_own whose =
+    of_own : about message ≡ of_connection conn → is_over id.command message ≡ false → Goes from message
+    of_own whose on =
         own_by waits.here waits.is refl whose
-        (first_of world.links from to message rest (of_connection conn) (its_message fixed.master waits.node id waits.here) first whose
+        (first_of id.command world.links from to message rest (of_connection conn) (its_message fixed.master waits.node id waits.here) first whose on
         (waits.placed).message).0
 
     -- A BACKEND'S STEP
@@ -254,8 +257,11 @@ module _ (config : Config) (heard : ℕ → Heard) (world : World) (law : KeepsL
     home_goes = by (same_or_not (about message))
       where
         by : (about message ≡ of_connection conn) ⊎ (about message ≢ of_connection conn) → Goes from message
-        by (inl whose) = of_own whose
-        by (inr other) = of_other from message rest first other
+        by (inl whose) = ⊎_elim
+            (λ (over : is_over id.command message ≡ true). of_other from message rest first (over_about id.command (of_connection conn) message over))
+            (λ (on : is_over id.command message ≡ false). of_own whose on)
+            (over_or id.command message)
+        by (inr other) = of_other from message rest first (not_about id.command (of_connection conn) message other)
 
         same_or_not : (whom : About) → (whom ≡ of_connection conn) ⊎ (whom ≢ of_connection conn)
         same_or_not (of_connection c) = ⊎_elim (λ (e : c ≡ conn). inl (ap of_connection e)) (λ (ne : c ≢ conn). inr (other_whom c conn ne)) (cases_eq c conn)

@@ -78,6 +78,8 @@ use Rattle.cluster_core.proofs.Nodes.Comes.{master_moved, with_master}
 use Rattle.cluster_core.proofs.OneServer.SerialsRise.{settled_entry}
 use Rattle.cluster_core.proofs.Routing.Makes.{has_home}
 use Rattle.cluster_core.proofs.Serials.Asked.{reserve_is_asked}
+use Rattle.cluster_core.proofs.Serials.Awaits.{AwaitsMaster, is_barred_so}
+use Rattle.cluster_core.proofs.Serials.GoesOnLines.{up_is_on}
 use Rattle.cluster_core.proofs.Serials.InFlow.{its_connection, response_in_place, runs_there}
 use Rattle.cluster_core.proofs.Serials.Reserved.{HasReserved, IsAmong, IsReserved, kept_among, making}
 use Rattle.cluster_core.proofs.Serials.Reserved.HasReserved.{hears_ok, makes}
@@ -161,6 +163,7 @@ module _ (config : Config) (heard : ℕ → Heard) (world : World) (law : KeepsL
   -- a RESERVE of this connection's command is answered OK, and none of that command was before
   pub record IsGiven (conn : ℕ) : Type 0 where
     pub fresh : IsReserved name world conn → ⊥
+    pub apart : AwaitsMaster name world conn → ⊥
     pub said : story.talk.answers conn ≡ story.told conn
     pub reserved : IsReserved name next conn
 
@@ -192,7 +195,8 @@ module _ (config : Config) (heard : ℕ → Heard) (world : World) (law : KeepsL
       id = next_id conn (story.told conn)
 
       tells : TellsPlace fixed conn world story (law.stops conn) (heard conn) from name message
-      tells = first_tells fixed conn world story (law.stops conn) (heard conn) from name message rest first whose (law.connections conn)
+      tells = first_tells fixed conn world story (law.stops conn) (heard conn) from name message rest first whose
+          (up_is_on config heard world law from node there message rest conn whose first) (law.connections conn)
 
       numbered : IsNumbered id
       numbered =
@@ -285,6 +289,13 @@ module _ (config : Config) (heard : ℕ → Heard) (world : World) (law : KeepsL
             (sym ((its_shown.at).running other.name) ∙ ap (own_flow (is_of_connection conn)) other.runs ∙ own_here (is_of_connection conn) other.flow own)
             other.reserved
 
+        -- its frontend doesn't wait for the master
+        apart : AwaitsMaster name world conn → ⊥
+        apart awaits =
+            let barred = is_barred_so config heard world law conn awaits in
+            let none = (((barred.placed).shows from node there).at).running mailbox in
+            (let no : None ≡ Some flow = sym none ∙ (shown.at).running mailbox ∙ on_itself mailbox flow in cc)
+
         said_by : (tag : AnswerTag) (c : ClientCommand) → KnowsOf fixed tells.node conn tag c story sending → story.talk.answers conn ≡ story.told conn
         said_by tag c (undecided same was waits_on) = same
         said_by tag c (is_decided turn same session ends_so brings) = absurd brings
@@ -325,7 +336,7 @@ module _ (config : Config) (heard : ℕ → Heard) (world : World) (law : KeepsL
 
         by_reply : IsReplied table node.flows.me mailbox flow answered.step.it reply → Gives
         by_reply (name_reserved stage free same heard_so) =
-            gives_one conn (record { fresh = fresh stage; said = said_of tells.who; reserved = reserved_then heard_so })
+            gives_one conn (record { fresh = fresh stage; apart = apart; said = said_of tells.who; reserved = reserved_then heard_so })
         by_reply (was_active stage active same heard_so) = stays_with _ same (omega arith)
         by_reply (was_reserved stage reserved same heard_so) = stays_with _ same (omega arith)
         by_reply (serials_spent stage free spent same heard_so) = stays_with _ same (omega arith)

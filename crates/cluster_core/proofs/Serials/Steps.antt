@@ -1,10 +1,11 @@
 -- What a step makes of the RESERVEs that the master has answered OK: each is of a command that the one store has replied to, or of one that waits.
-use Rattle.std.proofs.Common.{◌≡◌, ◌≢◌, ◌⊎◌, inl, inr, ℕ, ◌+◌, ◌≤◌, Bool, true, false, cond, List, [], ◌∷◌, length, Option, None, Some, refl, sym, ◌∙◌, ap, subst}
+use Rattle.std.proofs.Common.{◌≡◌, ◌≢◌, ◌⊎◌, inl, inr, ℕ, ◌+◌, ◌≤◌, Bool, true, false, cond, is_some, List, [], ◌∷◌, length, Option, None, Some, refl, sym, ◌∙◌, ap, subst}
 use Rattle.std.proofs.Common.{arith}
 use Rattle.std.specs.Ordering.{nat_cmp}
 use Rattle.std.specs.Cmp.Lexicographic.{slice_cmp}
 use Rattle.std.proofs.Math.Logic.{⊎_elim}
 use Rattle.std.proofs.lemmas.Bool.{cases_eq}
+use Rattle.back_node.specs.declared.node.BackNode.{BackNode}
 use Rattle.guest_links.specs.Happenings.{sends, step_of}
 use Rattle.imap_talk.specs.Heard.{Heard}
 use Rattle.link_msg.specs.declared.message.LinkMsg.{LinkMsg}
@@ -30,7 +31,7 @@ use Rattle.cluster_core.specs.Headline.OneNode.{node_of, relinked, relinks, work
 use Rattle.cluster_core.specs.Headline.Outside.{table_at, table_by}
 use Rattle.cluster_core.specs.Headline.Serials.{asks_reserve, last_serial}
 use Rattle.cluster_core.specs.Numbers.{NumbersFit}
-use Rattle.cluster_core.specs.World.{client_at, client_does, comes, deliver_first, master_of, may_cut, may_join, node_at, opens, stepped, taken_from_link, takes, with_client}
+use Rattle.cluster_core.specs.World.{client_at, client_does, comes, deliver_first, home_at, master_of, may_cut, may_join, node_at, opens, stepped, taken_from_link, takes, with_client}
 use Rattle.cluster_core.proofs.Connections.KeepsLaw.{KeepsLaw}
 use Rattle.cluster_core.proofs.Connections.KeepsStill.{disks_law}
 use Rattle.cluster_core.proofs.Guests.TablesStay.{step_tables}
@@ -41,11 +42,12 @@ use Rattle.cluster_core.proofs.Nodes.Relinks.{cut_relinks, join_relinks}
 use Rattle.cluster_core.proofs.Nodes.Then.{looks_then}
 use Rattle.cluster_core.proofs.Nodes.Thins.{comes_thinned}
 use Rattle.cluster_core.proofs.OneServer.SerialsRise.{step_rises}
-use Rattle.cluster_core.proofs.Runs.NeverMoved.{WorldIsQuiet}
+use Rattle.cluster_core.proofs.Runs.NeverMoved.{WorldIsQuiet, homes_of, homes_stay}
 use Rattle.cluster_core.proofs.Runs.OneNodeLaw.{takes_works}
 use Rattle.cluster_core.proofs.Serials.AtHome.{home_goes}
 use Rattle.cluster_core.proofs.Serials.AtMaster.{Gives, IsGiven, master_gives}
 use Rattle.cluster_core.proofs.Serials.AtMaster.Gives.{gives_none, gives_one}
+use Rattle.cluster_core.proofs.Serials.Awaits.{AwaitsMaster, awaits_so}
 use Rattle.cluster_core.proofs.Serials.Counting.{times, times_else, times_first}
 use Rattle.cluster_core.proofs.Serials.MasterLinks.{master_links_stay}
 use Rattle.cluster_core.proofs.Serials.Reserved.{HasReserved, IsReserved, beside, client_leaves, reserved_so}
@@ -81,9 +83,10 @@ module _ (config : Config) (heard : ℕ → Heard) (before : World) (quiet : Wor
   begun_quiet : WorldIsQuiet name world
   begun_quiet = record { nodes = quiet.nodes; links = quiet.links; whole = quiet.whole; calm = quiet.calm }
 
-  -- what the master sends is never lost
+  -- what the master sends to a backend is never lost
   reserved_then : (all real : World) → real.nodes ≡ all.nodes
-      → ((server : List ℕ) → on_link real.links name server ≡ on_link all.links name server) → (conn : ℕ) → IsReserved name all conn → IsReserved name real conn
+      → ((server : List ℕ) (node : BackNode) → home_at all server ≡ Some node → on_link real.links name server ≡ on_link all.links name server) → (conn : ℕ)
+      → IsReserved name all conn → IsReserved name real conn
   reserved_then all real nodes links conn is = record {
     server = is.server;
     node = is.node;
@@ -92,16 +95,23 @@ module _ (config : Config) (heard : ℕ → Heard) (before : World) (quiet : Wor
     flow = is.flow;
     runs = is.runs;
     own = is.own;
-    reserved = subst (HasReserved is.name is.flow) (sym (links is.server)) is.reserved;
+    reserved = subst (HasReserved is.name is.flow) (sym (links is.server is.node is.there)) is.reserved;
   }
 
-  comes_reserved : (there : World) (node : List ℕ) (input : NodeInput) (conn : ℕ) → there.broken ≡ world.broken
+  -- a backend was one before
+  was_home : (there : World) (node : List ℕ) (input : NodeInput) (server : List ℕ) (its : BackNode) → there.nodes ≡ world.nodes
+      → home_at (comes there node input) server ≡ Some its → homes_of world server ≡ true
+  was_home there node input server its nodes at =
+      ap (λ n. is_some (as_back (value_at (slice_cmp nat_cmp) n server))) (sym nodes) ∙ sym (homes_stay there node input server) ∙ ap is_some at
+
+  comes_reserved : (there : World) (node : List ℕ) (input : NodeInput) (conn : ℕ) → there.nodes ≡ world.nodes → there.broken ≡ world.broken
       → IsReserved name (all_come there node input) conn → IsReserved name (comes there node input) conn
-  comes_reserved there node input conn same is =
+  comes_reserved there node input conn nodes same is =
       let lost = comes_thinned there node input in
       reserved_then (all_come there node input) (comes there node input) lost.nodes
-      (λ server. lost.whole name server
-      (ap (λ (b : Broken). is_broken b name server) (all_come_broken there node input (node_at there node) ∙ same) ∙ (quiet.whole server).0)) conn is
+      (λ server its at. lost.whole name server
+      (ap (λ (b : Broken). is_broken b name server) (all_come_broken there node input (node_at there node) ∙ same)
+      ∙ (quiet.whole server (was_home there node input server its nodes (ap (λ n. as_back (value_at (slice_cmp nat_cmp) n server)) lost.nodes ∙ at))).0)) conn is
 
   -- ---- a command whose RESERVE was answered OK
 
@@ -150,7 +160,7 @@ module _ (config : Config) (heard : ℕ → Heard) (before : World) (quiet : Wor
       where
         goes_really : (from : List ℕ) (message : LinkMsg) → Goes (all_come (taken_from_link world from is.server) is.server (From from message)) conn
             → Goes (comes (taken_from_link world from is.server) is.server (From from message)) conn
-        goes_really from message (inl on) = inl (comes_reserved (taken_from_link world from is.server) is.server (From from message) conn refl on)
+        goes_really from message (inl on) = inl (comes_reserved (taken_from_link world from is.server) is.server (From from message) conn refl refl on)
         goes_really from message (inr more) = inr more
 
     at_itself : (event : Event) → worker world event ≡ Some is.server → Goes (next event) conn
@@ -166,7 +176,8 @@ module _ (config : Config) (heard : ℕ → Heard) (before : World) (quiet : Wor
 
     keeps_down : (event : Event) → relinks world event ≡ true
         → relinked event name is.server (on_link world.links name is.server) ≡ on_link world.links name is.server
-    keeps_down event may = master_links_stay name is.server world begun_quiet event (on_link world.links name is.server) may
+    keeps_down event may =
+        master_links_stay name is.server world begun_quiet (ap is_some is.there) event (on_link world.links name is.server) may
 
     goes_by : (event : Event) (at : Option (List ℕ)) → worker world event ≡ at → Goes (next event) conn
     goes_by event None at =
@@ -192,10 +203,11 @@ module _ (config : Config) (heard : ℕ → Heard) (before : World) (quiet : Wor
 
   -- ---- all of them
 
-  -- the connection of each: there are as many as the master's serial tells
+  -- the connection of each: there are as many as the master's serial tells; and none is of a command that waited for the master before the step
   pub record Counts (there : World) (reserved : List ℕ) : Type 0 where
     pub few : last_serial config there ≤ length reserved
     pub each : (conn : ℕ) → Counted there conn (times conn reserved)
+    pub barred : (conn : ℕ) → AwaitsMaster name world conn → times conn reserved ≤ told conn
 
   abbrev pub CountsThen : Event → Type 0
   CountsThen event = (reserved : List ℕ) × Counts (next event) reserved
@@ -204,7 +216,11 @@ module _ (config : Config) (heard : ℕ → Heard) (before : World) (quiet : Wor
     serial_stays : (event : Event) → last_serial config (next event) ≤ last_serial config world → CountsThen event
     serial_stays event stays = (
       reserved,
-      record { few = omega (arith, counts.few, stays); each = λ conn. counted_on event conn (times conn reserved) (counts.each conn) },
+      record {
+          few = omega (arith, counts.few, stays);
+          each = λ conn. counted_on event conn (times conn reserved) (counts.each conn);
+          barred = counts.barred;
+        },
     )
 
     -- ---- the master takes a message
@@ -252,7 +268,7 @@ module _ (config : Config) (heard : ℕ → Heard) (before : World) (quiet : Wor
             (λ (same : other ≡ conn).
             subst (λ c. Counted (next (Deliver from name)) c (times c (conn ∷ reserved))) (sym same)
             (waiting (subst (λ w. IsReserved name w conn) (sym takes_it)
-            (comes_reserved (taken_from_link world from name) name (From from message) conn refl
+            (comes_reserved (taken_from_link world from name) name (From from message) conn refl refl
             (subst (λ w. IsReserved name w conn) (sym all_of_it) given.reserved)))
             (omega (arith, once (times conn reserved) (counts.each conn), times_first conn reserved))))
             (λ (ne : other ≢ conn).
@@ -260,8 +276,15 @@ module _ (config : Config) (heard : ℕ → Heard) (before : World) (quiet : Wor
             (counted_on (Deliver from name) other (times other reserved) (counts.each other)))
             (cases_eq other conn)
 
+        none_barred : (other : ℕ) → AwaitsMaster name world other → times other (conn ∷ reserved) ≤ told other
+        none_barred other awaits = ⊎_elim
+            (λ (same : other ≡ conn). absurd (given.apart (awaits_so name world put.disks conn (subst (AwaitsMaster name world) same awaits))))
+            (λ (ne : other ≢ conn). omega (arith, times_else other conn reserved ne, counts.barred other awaits))
+            (cases_eq other conn)
+
         reserves_one : says.master.table.serial ≤ law.master.table.serial + 1 → CountsThen (Deliver from name)
-        reserves_one more = (conn ∷ reserved, record { few = omega (arith, counts.few, more, serial_now, serial_then); each = one_more })
+        reserves_one more =
+            (conn ∷ reserved, record { few = omega (arith, counts.few, more, serial_now, serial_then); each = one_more; barred = none_barred })
 
       by_gives : asks_reserve message ≡ true → Gives config heard put put_law fits from message rest first → CountsThen (Deliver from name)
       by_gives asks (gives_none stays) = serial_stays (Deliver from name) (omega (arith, stays, serial_now, serial_then))

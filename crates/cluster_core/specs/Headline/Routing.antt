@@ -1,7 +1,8 @@
 -- Which step is the point of a command: one in which a backend takes its ask for a mailbox's messages or the master takes a line under its tag, or one in
--- which its frontend answers it alone, or refuses it since it has the link to a node as down. A LIST asks no backend: the point of one that tells names is
--- the step in which the master takes its NOOP; of one that asks for the separator alone, or whose session may not list, its frontend's own. A step that
--- carries it out counts though its client is never told: a backend says so in its answer, and the master makes a mailbox or takes one away.
+-- which its frontend answers it alone, or refuses it since it has the link to a node as down, or takes that link's End. A LIST asks no backend: the point of
+-- one that tells names is the step in which the master takes its NOOP; of one that asks for the separator alone, or whose session may not list, its
+-- frontend's own. A step that carries it out counts though its client is never told: a backend says so in its answer, and the master makes a mailbox or takes
+-- one away.
 use Rattle.std.specs.Prelude.{◌≡◌, ◌≢◌, ℕ, ◌+◌, ◌≤◌, ◌<◌, Bool, true, false, List, [], ◌∷◌, ◌++◌, length, All, Contains, Some}
 use Rattle.ask_routes.specs.Barrier.{noop_line}
 use Rattle.front_core.specs.declared.front.Front.{Front}
