@@ -204,21 +204,24 @@ module _ (config : Config) (heard : ℕ → Heard) (world next : World) (is : Re
       (subst (λ m. AreMarkedSo (setting_of config) next.broken world.steps m law.story) (sym is.marks)
       (relinked (setting_of config) world.broken next.broken world.steps world.marks law.story is.cut law.is_told))
 
+  abbrev pub relinked_law : KeepsLaw config heard next
+  relinked_law = record {
+    master = law.master;
+    nodes = same_nodes config world next law.master is.nodes law.nodes;
+    story = law.story;
+    stops = law.stops;
+    given = law.given;
+    many = many_then;
+    feeds = feeds;
+    is_told = told_then;
+    requests = law.requests;
+    connections = λ conn. connection_then conn (law.stops conn) (heard conn) (law.connections conn);
+  }
+
   -- THE LAW STANDS WHERE OTHER LINKS ARE BROKEN
   pub relinked_keeps : KeepsOn config law.story law.stops heard next
   relinked_keeps = record {
-    law = record {
-      master = law.master;
-      nodes = same_nodes config world next law.master is.nodes law.nodes;
-      story = law.story;
-      stops = law.stops;
-      given = law.given;
-      many = many_then;
-      feeds = feeds;
-      is_told = told_then;
-      requests = law.requests;
-      connections = λ conn. connection_then conn (law.stops conn) (heard conn) (law.connections conn);
-    };
+    law = relinked_law;
     more = same_talk (talk_told law.story);
     grows = says_same law.story;
     closed = λ conn shut. (refl, refl);
