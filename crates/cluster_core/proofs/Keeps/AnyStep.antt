@@ -90,7 +90,7 @@ module _ (config : Config) (heard : ℕ → Heard) (world : World) (law : KeepsL
     watchers = λ master at. (beside.always.masters (master_of config) master at).watchers;
     links = beside.links;
     owns = owns_by;
-    names = λ from to front there message rest first. names_by from to front there message rest first;
+    names = names_by;
     ends = λ from to rest first none. (subst (AllByRecursion IsQuiet) first (beside.quiet.calm none from to)).0;
     senders = λ from message rest first. sender_by from message rest first (node_at world from) refl;
   }

@@ -1,5 +1,5 @@
 -- The barrier of a command where messages are gone that were between its frontend and the master: its NOOP or its OK is still on its way, or nothing of it is.
-use Rattle.std.proofs.Common.{◌≡◌, Bool, true, false, cond, List, [], ◌∷◌, ◌++◌, filter, refl, sym, ◌∙◌, ap, subst}
+use Rattle.std.proofs.Common.{◌≡◌, Bool, true, false, cond, List, [], ◌∷◌, ◌++◌, filter, refl, sym, ◌∙◌, ap, subst, append-nil, append_assoc}
 use Rattle.std.specs.List.{AllByRecursion}
 use Rattle.std.proofs.lemmas.List.Elements.{filter-append}
 use Rattle.feed_core.specs.declared.replica.Replica.{Replica}
@@ -98,23 +98,15 @@ module _ (ask : AskId) (is : LinkMsg → Bool) (ends_no : is End ≡ false) (par
   pub still_there : filter is whole ≡ x ∷ [] → filter is part ≡ x ∷ [] → StillThere
   still_there all left = by cut_at
     where
-      append_same : (one two three : List LinkMsg) → (one ++ x ∷ two) ++ three ≡ one ++ x ∷ (two ++ three)
-      append_same [] two three = refl
-      append_same (y ∷ one) two three = ap (λ l. y ∷ l) (append_same one two three)
-
       -- of what is kept
       kept_has : filter is short.kept ≡ x ∷ []
       kept_has =
-          sym (append-nil-left (filter is short.kept) (filter is short.behind) (none_of_tail short.behind short.ends))
+          sym (ap (λ l. filter is short.kept ++ l) (none_of_tail short.behind short.ends) ∙ append-nil (filter is short.kept))
           ∙ sym (filter-append is short.kept short.behind) ∙ ap (filter is) (sym short.part_is) ∙ left
-        where
-          append-nil-left : (one two : List LinkMsg) → two ≡ [] → one ++ two ≡ one
-          append-nil-left [] two e = e
-          append-nil-left (y ∷ one) two e = ap (λ l. y ∷ l) (append-nil-left one two e)
 
       by : Splits short.kept (short.lost ++ short.behind) before behind x → StillThere
       by (in_kept mid one two) =
-          record { mid = mid; part_is = short.part_is ∙ ap (λ l. l ++ short.behind) one ∙ append_same before mid short.behind; behind_is = two }
+          record { mid = mid; part_is = short.part_is ∙ ap (λ l. l ++ short.behind) one ∙ append_assoc before (x ∷ mid) short.behind; behind_is = two }
       by (in_rest mid one two) =
           absurd (none_has is mid behind x own
           (ap (filter is) (sym two) ∙ not_twice is x x short.kept (short.lost ++ short.behind) [] (ap (filter is) (sym short.whole_is) ∙ all) kept_has))
@@ -123,14 +115,10 @@ module _ (ask : AskId) (is : LinkMsg → Bool) (ends_no : is End ≡ false) (par
   pub gone_now : filter is part ≡ [] → AreOfOthers ask part
   gone_now none = by cut_at
     where
-      append_same : (one two three : List LinkMsg) → (one ++ x ∷ two) ++ three ≡ one ++ x ∷ (two ++ three)
-      append_same [] two three = refl
-      append_same (y ∷ one) two three = ap (λ l. y ∷ l) (append_same one two three)
-
       by : Splits short.kept (short.lost ++ short.behind) before behind x → AreOfOthers ask part
       by (in_kept mid one two) =
           absurd (none_has is before (mid ++ short.behind) x own
-          (ap (filter is) (sym (short.part_is ∙ ap (λ l. l ++ short.behind) one ∙ append_same before mid short.behind)) ∙ none))
+          (ap (filter is) (sym (short.part_is ∙ ap (λ l. l ++ short.behind) one ∙ append_assoc before (x ∷ mid) short.behind)) ∙ none))
       by (in_rest mid one two) =
           subst (AreOfOthers ask) (sym short.part_is)
           (both (IsOfOther ask) short.kept short.behind (first_others ask short.kept mid (subst (AreOfOthers ask) one before_others)) (ends_others ask short.behind short.ends))

@@ -30,7 +30,7 @@ use Rattle.cluster_core.proofs.Connections.KeepsBehind.{behind}
 use Rattle.cluster_core.proofs.Connections.KeepsLaw.{FeedsHold, IsFedAt, KeepsBehind, KeepsLaw, KnowsBackends, TellsBackends}
 use Rattle.cluster_core.proofs.Connections.KeepsStill.{same_kept}
 use Rattle.cluster_core.proofs.Links.PlacesThin.{apart_before, breaks_apart}
-use Rattle.cluster_core.proofs.Links.Relinked.{Relinks, relinked_keeps}
+use Rattle.cluster_core.proofs.Links.Relinked.{Relinks, relinked_law}
 use Rattle.cluster_core.proofs.Links.Stand.{LinksStand}
 use Rattle.cluster_core.proofs.Links.Tells.{cut_parted}
 use Rattle.cluster_core.proofs.Links.Thinned.{IsThinned}
@@ -367,11 +367,10 @@ module _ (config : Config) (heard : ℕ → Heard) (world : World) (law : KeepsL
     whole = whole_at;
   }
 
-  ended_law : KeepsLaw config heard ended
-  ended_law = (relinked_keeps config heard world ended ended_relinks law ended_feeds).law
+  abbrev ended_law : KeepsLaw config heard ended
+  ended_law = relinked_law config heard world ended ended_relinks law ended_feeds
 
   cut_so : KeepsBehind config law.story law.stops heard next
-  unfolding ended_law relinked_keeps
   cut_so =
       thinned_behind config heard ended next (apart_before me ended next refl refl (breaks_apart config next then)) cut_thinned ended_law
 

@@ -31,6 +31,11 @@ use Rattle.cluster_core.proofs.Links.Relinked.{Relinks, relinked_keeps}
 use Rattle.cluster_core.proofs.Links.Stand.{IsDown, IsOver, LinksStand}
 use Rattle.cluster_core.proofs.Places.Stays.{BarriersStay, HomesAlike, barrier_alike}
 
+-- nothing stands in an empty queue
+none_before : (before : List LinkMsg) (message : LinkMsg) (rest : List LinkMsg) → [] ≡ before ++ message ∷ rest → ⊥
+none_before [] message rest e = cc
+none_before (x ∷ before) message rest e = cc
+
 -- ---- a link comes up
 
 no_news : (nodes : Nodes) → TellsBackends nodes Up
@@ -63,11 +68,7 @@ module _ (config : Config) (heard : ℕ → Heard) (world : World) (law : KeepsL
   -- no command waits for a server whose link has nothing on its way
   none_waits : (conn : ℕ) (node server : List ℕ) (front : Front) → front_at world node ≡ Some front → awaited me (connection_at front conn) server ≡ true
       → on_link world.links server node ≡ [] → IsDown (on_link world.links server node) (is_up front.ups server) → ⊥
-  none_waits conn node server front at waits none (IsDown.is_ending messages e) = not_ended messages (sym e ∙ none)
-    where
-      not_ended : (before : List LinkMsg) → before ++ End ∷ [] ≡ [] → ⊥
-      not_ended [] k = cc
-      not_ended (x ∷ before) k = cc
+  none_waits conn node server front at waits none (IsDown.is_ending messages e) = none_before messages End [] (sym none ∙ e)
   none_waits conn node server front at waits none (IsDown.has_ended e down) =
       (let no : true ≡ false = sym (links.waits_up node server front conn at waits) ∙ down in cc)
 
@@ -114,15 +115,7 @@ module _ (config : Config) (heard : ℕ → Heard) (world : World) (law : KeepsL
   nothing_there : (ask : AskId) (at : Barrier) (replica : Replica) → IsBarrierAt ask at [] [] replica → IsBarrierAt ask at (Up ∷ []) (Up ∷ []) replica
   nothing_there ask barrier.nowhere replica is = record { up_others = (tt, tt); down_others = (tt, tt) }
   nothing_there ask barrier.asked replica is = absurd (none_before is.before (noop_of ask) is.behind is.up_is)
-    where
-      none_before : (before : List LinkMsg) (message : LinkMsg) (rest : List LinkMsg) → [] ≡ before ++ message ∷ rest → ⊥
-      none_before [] message rest e = cc
-      none_before (x ∷ before) message rest e = cc
   nothing_there ask (barrier.answered table) replica is = absurd (none_before is.before (ok_of ask) is.behind is.down_is)
-    where
-      none_before : (before : List LinkMsg) (message : LinkMsg) (rest : List LinkMsg) → [] ≡ before ++ message ∷ rest → ⊥
-      none_before [] message rest e = cc
-      none_before (x ∷ before) message rest e = cc
 
   module _ (apart : one ≢ other) where
     joined_barriers : (conn : ℕ) → BarriersStay me conn world.links next.links
@@ -160,20 +153,12 @@ module _ (config : Config) (heard : ℕ → Heard) (world : World) (law : KeepsL
     -- the frontend has taken the End
     is_down : (any : List ℕ) (front : Front) → front_at world any ≡ Some front → on_link world.links me any ≡ []
         → IsDown (on_link world.links me any) (is_up front.ups me) → is_up front.ups me ≡ false
-    is_down any front at none (IsDown.is_ending messages e) = absurd (not_ended messages (sym e ∙ none))
-      where
-        not_ended : (before : List LinkMsg) → before ++ End ∷ [] ≡ [] → ⊥
-        not_ended [] k = cc
-        not_ended (x ∷ before) k = cc
+    is_down any front at none (IsDown.is_ending messages e) = absurd (none_before messages End [] (sym none ∙ e))
     is_down any front at none (IsDown.has_ended e down) = down
 
     -- and so has the master
     is_over : (stream : Option Tag) (queue : List LinkMsg) → queue ≡ [] → IsOver queue stream → stream ≡ None
-    is_over stream queue none (IsOver.over_soon messages e) = absurd (not_ended messages (sym e ∙ none))
-      where
-        not_ended : (before : List LinkMsg) → before ++ End ∷ [] ≡ [] → ⊥
-        not_ended [] k = cc
-        not_ended (x ∷ before) k = cc
+    is_over stream queue none (IsOver.over_soon messages e) = absurd (none_before messages End [] (sym none ∙ e))
     is_over stream queue none (IsOver.is_over e over) = over
 
     whole_now : (any : List ℕ) → ((any ≡ one) × (me ≡ other)) ⊎ ((any ≡ other) × (me ≡ one)) → is_broken next.broken me any ≡ false

@@ -122,21 +122,21 @@ module _ (fixed : Fixed) (world next : World) (apart : BreaksApart fixed.master 
     -- a command of this frontend of which nothing is on its way
     empty_barrier : IsPlaced id.command (of_connection id.conn) next.links None → HasNoBarrier id next_up next_down → (at : Barrier)
         → IsInPlaceOf fixed world front replica id (place.is_barred at) → IsInPlaceOf fixed next front replica id (place.is_barred barrier.nowhere)
-    empty_barrier none barrier at is =
+    empty_barrier none gone at is =
         on_next (place.is_barred barrier.nowhere) (record {
           message = none;
           shows = shows_alike fixed.master (home_at world) id.conn (place.is_barred barrier.nowhere) world.links next.links thin_alike is.shows;
-          barrier = barrier;
+          barrier = gone;
           there = tt;
         })
 
     nowhere_then : IsPlaced id.command (of_connection id.conn) next.links None → HasNoBarrier id next_up next_down → (at : Barrier)
         → IsInPlaceOf fixed world front replica id (place.is_barred at) → IsInPlaceOf fixed next front replica id place.nowhere
-    nowhere_then none barrier at is =
+    nowhere_then none gone at is =
         on_next place.nowhere (record {
           message = none;
           shows = shows_alike fixed.master (home_at world) id.conn place.nowhere world.links next.links thin_alike is.shows;
-          barrier = barrier;
+          barrier = gone;
           there = tt;
         })
 

@@ -163,7 +163,7 @@ module _ (config : Config) (heard : ℕ → Heard) (world next : World) (is : Re
   dropped_by conn node front connection inputs held told said session (place.is_barred barrier.asked) at stands cut = tt
   dropped_by conn node front connection inputs held told said session (place.is_barred (barrier.answered table)) at stands cut = tt
 
-  connection_then : (conn : ℕ) (stop : Stop) (h : Heard) → ConnectionIs fixed conn world law.story stop h → ConnectionIs fixed conn next law.story stop h
+  pub connection_then : (conn : ℕ) (stop : Stop) (h : Heard) → ConnectionIs fixed conn world law.story stop h → ConnectionIs fixed conn next law.story stop h
   connection_then conn _ _ (is_nobody none others untold) =
       is_nobody (clients conn ∙ none) (λ node front there. others node front (sym (fronts node) ∙ there)) (untold_then conn untold)
   connection_then conn _ _ (is_elsewhere node given at no_front untold) =
@@ -188,7 +188,7 @@ module _ (config : Config) (heard : ℕ → Heard) (world next : World) (is : Re
       is_closed stop bytes node front connection (at_then conn node front connection at)
       (gone_then node front.replica conn (inputs_in fixed.setting bytes) stop connection gone)
 
-  many_then : ManyHold (murder_of next law.master) law.given law.story.course.store
+  pub many_then : ManyHold (murder_of next law.master) law.given law.story.course.store
   many_then =
       alike_hold (murder_of world law.master) (murder_of next law.master) law.given law.story.course.store
       (record {
@@ -198,27 +198,30 @@ module _ (config : Config) (heard : ℕ → Heard) (world next : World) (is : Re
         down = λ name node at. subst (λ m. on_link next.links m name ≡ on_link world.links m name) (sym law.nodes.me) (is.homes name node at).1;
       }) law.many
 
-  told_then : AreMarkedSo (setting_of config) next.broken next.steps next.marks law.story
+  pub told_then : AreMarkedSo (setting_of config) next.broken next.steps next.marks law.story
   told_then =
       subst (λ n. AreMarkedSo (setting_of config) next.broken n next.marks law.story) (sym is.steps)
       (subst (λ m. AreMarkedSo (setting_of config) next.broken world.steps m law.story) (sym is.marks)
       (relinked (setting_of config) world.broken next.broken world.steps world.marks law.story is.cut law.is_told))
 
+  abbrev pub relinked_law : KeepsLaw config heard next
+  relinked_law = record {
+    master = law.master;
+    nodes = same_nodes config world next law.master is.nodes law.nodes;
+    story = law.story;
+    stops = law.stops;
+    given = law.given;
+    many = many_then;
+    feeds = feeds;
+    is_told = told_then;
+    requests = law.requests;
+    connections = λ conn. connection_then conn (law.stops conn) (heard conn) (law.connections conn);
+  }
+
   -- THE LAW STANDS WHERE OTHER LINKS ARE BROKEN
   pub relinked_keeps : KeepsOn config law.story law.stops heard next
   relinked_keeps = record {
-    law = record {
-      master = law.master;
-      nodes = same_nodes config world next law.master is.nodes law.nodes;
-      story = law.story;
-      stops = law.stops;
-      given = law.given;
-      many = many_then;
-      feeds = feeds;
-      is_told = told_then;
-      requests = law.requests;
-      connections = λ conn. connection_then conn (law.stops conn) (heard conn) (law.connections conn);
-    };
+    law = relinked_law;
     more = same_talk (talk_told law.story);
     grows = says_same law.story;
     closed = λ conn shut. (refl, refl);

@@ -18,7 +18,7 @@ use Rattle.master_core.proofs.WhoseLaw.{changes_of}
 use Rattle.master_core.specs.Changes.{change_outs}
 use Rattle.master_core.specs.Linked.{node_says, sender_by, sender_of}
 use Rattle.master_core.specs.Replies.{bad_reply, reply_to}
-use Rattle.master_core.specs.Step.{Planned, line_step, replied}
+use Rattle.master_core.specs.Step.{Planned, bad_step, line_step, replied}
 use Rattle.master_core.specs.Streams.{stream_step}
 use Rattle.master_core.specs.Whose.{IsOf, TellNobody}
 use Rattle.master_core.specs.declared.master.Master.{Master}

@@ -170,7 +170,8 @@ module _ (fixed : Fixed) (world next : World) (apart : BreaksApart fixed.master 
     restored answer more (inl none) = absurd (no_more told answer (sym none ∙ more))
       where
         no_more : (list : List Answer) (one : Answer) → list ≡ list ++ one ∷ [] → ⊥
-        no_more list one e = (let same : length list ≡ length (list ++ one ∷ []) = ap length e in absurd (omega (arith, same)))
+        no_more [] one e = cc
+        no_more (first ∷ list) one e = no_more list one (let rest : list ≡ list ++ one ∷ [] = cc in rest)
     restored answer more (inr before) = before
 
     back : (answer : Answer) (table : MailboxTable) (cut : is_broken next.broken fixed.master node ≡ true)
