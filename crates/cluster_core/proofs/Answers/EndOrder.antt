@@ -254,8 +254,8 @@ module _ (config : Config) (world : World) (to : List ℕ) (next : Stepped) (apa
     messages = λ conn number found placed. found_stays (is_about number (of_connection conn)) found placed;
     homes = λ name node at. (up_stays name, else_stays me name apart);
     barriers = λ conn front replica command at is.
-        barrier_alike (record { conn = conn; command = command }) at (on_link one.links front me) (on_link one.links me front) (on_link two.links front me) (on_link two.links me front) replica (up_stays front)
-        (else_stays me front apart) is;
+        barrier_alike (record { conn = conn; command = command }) at (on_link one.links front me) (on_link one.links me front) (on_link two.links front me)
+        (on_link two.links me front) replica (up_stays front) (else_stays me front apart) is;
     cut = λ none. sym broken_same ∙ none;
     dropped = λ conn node server front at waits is. ap (λ (b : Broken). is_broken b server node) broken_same ∙ is;
   }

@@ -286,7 +286,8 @@ module _ (config : Config) (heard : ℕ → Heard) (fits : NumbersFit heard) (to
           standing.count its_fits.1 standing.stands in
           let well : AreWellSent me turned.outs =
           subst (λ m. AreWellSent m turned.outs) master_is
-          (end_well front.setting (ways_of front) (servers_apart config world law.master law.nodes to front law.feeds between.there) conn its_fits.0 connection room) in
+          (end_well front.setting (ways_of front) (servers_apart config world law.master law.nodes to front law.feeds between.there) conn its_fits.0 connection
+          room) in
           let now : IsStanding fixed to front.replica conn inputs (begun bytes) later then stands.story =
           standing_after fixed world to front conn later turned.outs inputs (begun bytes) front.replica stands.story between.there ((stands.made).others).nodes
           (standing_released fixed to front.replica conn inputs (begun bytes) turned.connection (carry_all to world turned.outs) stands.story stands.standing) in
@@ -481,8 +482,8 @@ module _ (config : Config) (heard : ℕ → Heard) (world : World) (law : KeepsL
         fed = fed_as law.master to (is_broken world.broken name to) (is_broken behind.broken name to) (is_up now.ups name) (is_up now.ups name)
             (on_link world.links to name ++ []) (on_link behind.links to name) rest (on_link behind.links name to) front.replica now.replica
             refl refl (ups to ∙ sym (append-nil (on_link world.links to name))) (taken_first world.links name to End rest first) refl
-            (parted_with law.master to (is_broken world.broken name to) false (is_up now.ups name) (on_link world.links to name) rest [] front.replica ended.0 alone tt
-            ended.1);
+            (parted_with law.master to (is_broken world.broken name to) false (is_up now.ups name) (on_link world.links to name) rest [] front.replica ended.0
+            alone tt ended.1);
         knows = subst (λ d. KnowsBackends (home_at behind) d front.replica) (sym (taken_first world.links name to End rest first))
             (knows_heard (home_at behind) End rest front.replica
             (subst (λ d. KnowsBackends (home_at behind) d front.replica) first

@@ -91,8 +91,8 @@ record AtBarrier (at : At) : Type 0 where
   is : at ≡ at_master cause
 
 at_barrier : (at : At) (there : Barrier) → WaitsAt at (place.is_barred there) → AtBarrier at
-at_barrier (Home server) there waits = absurd waits
-at_barrier (at_master cause) there waits = record { cause = cause; is = refl }
+at_barrier (Home server) there its = absurd its
+at_barrier (at_master cause) there its = record { cause = cause; is = refl }
 
 reading_awaits : (master node : List ℕ) → awaits master Reading node ≡ true → ⊥
 unfolding awaits

@@ -58,6 +58,16 @@ pub law_kept : (config : Config) (heard : ℕ → Heard) (world : World) (law : 
     → IsKept config world law.master law.given law.story.course.store
 law_kept config heard world law = record { nodes = law.nodes; many = law.many; feeds = law.feeds }
 
+-- what tells of no link
+no_answer : (it : BackAnswer) → TellsOfLink (Answer it) → ⊥
+no_answer it tells = ⊎_elim (λ (up : Answer it ≡ Up). cc) (λ (end : Answer it ≡ End). cc) tells
+
+no_line : (bytes : List ℕ) → TellsOfLink (Line bytes) → ⊥
+no_line bytes tells = ⊎_elim (λ (up : Line bytes ≡ Up). cc) (λ (end : Line bytes ≡ End). cc) tells
+
+no_ask : (ask : FrontAsk) → TellsOfLink (Ask ask) → ⊥
+no_ask ask tells = ⊎_elim (λ (up : Ask ask ≡ Up). cc) (λ (end : Ask ask ≡ End). cc) tells
+
 -- what goes to clients alone
 clients_noops : (node : List ℕ) (outs : List Out) → AllByRecursion IsForClient outs → AreNoops (messages_to node outs)
 clients_noops node [] all = tt
@@ -257,9 +267,9 @@ module _ (config : Config) (heard : ℕ → Heard) (world : World) (law : KeepsL
         (master_end_stands config heard world law links fits to front rest there (ap (λ f. on_link world.links f to) (sym e) ∙ first) owns (cut refl)))
         (λ (ne : from ≢ me). other_keeps End (λ tells. ne) cut first names)
         (same_name_or from me)
-    keeps_by (Answer it) cut first names = other_keeps (Answer it) (λ tells. absurd (⊎_elim (λ (up : Answer it ≡ Up). cc) (λ (end : Answer it ≡ End). cc) tells)) cut first names
-    keeps_by (Line bytes) cut first names = other_keeps (Line bytes) (λ tells. absurd (⊎_elim (λ (up : Line bytes ≡ Up). cc) (λ (end : Line bytes ≡ End). cc) tells)) cut first names
-    keeps_by (Ask ask) cut first names = other_keeps (Ask ask) (λ tells. absurd (⊎_elim (λ (up : Ask ask ≡ Up). cc) (λ (end : Ask ask ≡ End). cc) tells)) cut first names
+    keeps_by (Answer it) cut first names = other_keeps (Answer it) (λ tells. absurd (no_answer it tells)) cut first names
+    keeps_by (Line bytes) cut first names = other_keeps (Line bytes) (λ tells. absurd (no_line bytes tells)) cut first names
+    keeps_by (Ask ask) cut first names = other_keeps (Ask ask) (λ tells. absurd (no_ask ask tells)) cut first names
 
 -- A MESSAGE IS DELIVERED TO A FRONTEND
 abbrev pub ToFrontKeeps : Type 0
