@@ -52,7 +52,7 @@ module _ (config : Config) (heard : ℕ → Heard) (world : World) (law : KeepsL
       (λ conn. master_gives_its_own config world law.master from message watchers conn)
 
   feeds_by : IsOne world from → FeedsHold config next says.master
-  feeds_by (inl front) = master_asked_feeds config world law.master law.nodes law.feeds from front.0 front.1 message rest first
+  feeds_by (inl front) = master_asked_feeds config world law.master law.nodes law.feeds from front.0 front.1 message rest first whole
   feeds_by (inr home) =
       master_takes_feeds config world law.master law.nodes law.feeds law.given law.story.course.store law.many from home.0 home.1 message rest first
 
