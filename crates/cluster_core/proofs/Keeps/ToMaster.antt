@@ -1,5 +1,5 @@
 -- WHAT COMES TO THE MASTER KEEPS THE LAW, where it comes from a frontend or a backend, and whom the master tells of changes is connected to it.
-use Rattle.std.proofs.Common.{◌≡◌, inl, inr, ℕ, List, ◌∷◌, Some, refl, sym, ◌∙◌, ap, subst}
+use Rattle.std.proofs.Common.{◌≡◌, inl, inr, ℕ, true, false, List, ◌∷◌, Some, refl, sym, ◌∙◌, ap, subst}
 use Rattle.cluster_core.specs.World.{comes, front_at, master_of, taken_from_link}
 use Rattle.front_core.specs.declared.front.Front.{Front}
 use Rattle.imap_talk.specs.Heard.{Heard}
