@@ -1,5 +1,5 @@
 -- WHAT COMES TO THE MASTER KEEPS THE LAW, where it comes from a frontend or a backend, and whom the master tells of changes is connected to it.
-use Rattle.std.proofs.Common.{◌≡◌, inl, inr, ℕ, List, ◌∷◌, Some, refl, sym, ◌∙◌, ap, subst}
+use Rattle.std.proofs.Common.{◌≡◌, inl, inr, ℕ, true, false, List, ◌∷◌, Some, refl, sym, ◌∙◌, ap, subst}
 use Rattle.cluster_core.specs.World.{comes, front_at, master_of, taken_from_link}
 use Rattle.front_core.specs.declared.front.Front.{Front}
 use Rattle.imap_talk.specs.Heard.{Heard}
@@ -52,7 +52,7 @@ module _ (config : Config) (heard : ℕ → Heard) (world : World) (law : KeepsL
       (λ conn. master_gives_its_own config world law.master from message watchers conn)
 
   feeds_by : IsOne world from → FeedsHold config next says.master
-  feeds_by (inl front) = master_asked_feeds config world law.master law.nodes law.feeds from front.0 front.1 message rest first
+  feeds_by (inl front) = master_asked_feeds config world law.master law.nodes law.feeds from front.0 front.1 message rest first whole
   feeds_by (inr home) =
       master_takes_feeds config world law.master law.nodes law.feeds law.given law.story.course.store law.many from home.0 home.1 message rest first
 

@@ -70,7 +70,7 @@ use Rattle.cluster_core.proofs.Commands.Standing.{Fixed, WaitsAt, next_id}
 use Rattle.cluster_core.proofs.Connections.ConnectionLaw.{IsInNoneOf, IsInPlaceOf, says_same}
 use Rattle.cluster_core.proofs.Connections.KeepsLaw.{AreNodesOf, ConnectionIs, FeedsHold, KeepsLaw, KeepsOn, fixed_of, murder_of}
 use Rattle.cluster_core.proofs.Connections.Tales.{others_marked}
-use Rattle.cluster_core.proofs.Feeds.Late.{late_feeds}
+use Rattle.cluster_core.proofs.Feeds.FrontAsks.{late_feeds}
 use Rattle.cluster_core.proofs.Nodes.AllCome.{all_come, master_all_come}
 use Rattle.cluster_core.proofs.Nodes.Carried.{IsMade, given_all, given_out, is_made, marks_made}
 use Rattle.cluster_core.proofs.Nodes.Comes.{MasterMoved, master_moved, with_master, wrote}

@@ -118,7 +118,7 @@ module _ (config : Config) (heard : ℕ → Heard) (world : World) (law : KeepsL
     numbered_c : IsNumbered c.id
     numbered_c = subst IsNumbered (sym waits.its) fits
 
-    fed : IsFedFront murder fnode front.replica id
+    abbrev fed : IsFedFront murder fnode front.replica id
     fed = is_fed_front config world law.master law.nodes law.feeds fnode front id at fits
 
     asked : numbered (story.talk.requests conn) (length (story.told conn) + 1) ≡ Some (a_command waits.tag c.it)
