@@ -71,7 +71,7 @@ watchers_of ask [] line = All-nil (IsOf ask)
 watchers_of ask (w ∷ watchers) line =
     All-cons (IsOf ask) (watcher_told line w) (map (watcher_told line) watchers) tt (watchers_of ask watchers line)
 
-pub changes_of : (ask : Option AskId) (streams : List (List ℕ × Tag)) (watchers : List (ℕ × Tag)) (change : Option MasterRecord) → TellNobody streams
+changes_of : (ask : Option AskId) (streams : List (List ℕ × Tag)) (watchers : List (ℕ × Tag)) (change : Option MasterRecord) → TellNobody streams
     → All (IsOf ask) (change_outs streams watchers change)
 unfolding change_outs
 changes_of ask streams watchers None none = All-nil (IsOf ask)

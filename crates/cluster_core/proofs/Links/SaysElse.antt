@@ -1,7 +1,7 @@
 -- What the master sends a node from which nothing comes to it is about no command: lines of the node's stream.
-use Rattle.std.proofs.Common.{◌≡◌, ◌≢◌, ◌&&◌, ℕ, nat_eq, Bool, true, false, not, cond, if◌then◌else◌, List, [], ◌∷◌, ◌++◌, None, Some, filter, refl, sym, ◌∙◌, ap, subst, All}
+use Rattle.std.proofs.Common.{◌≡◌, ◌≢◌, ◌&&◌, ℕ, nat_eq, Bool, true, false, not, cond, if◌then◌else◌, List, [], ◌∷◌, ◌++◌, map, Option, None, Some, inr, filter, refl, sym, ◌∙◌, ap, subst, All}
 use Rattle.std.proofs.Math.Logic.{⊎_elim}
-use Rattle.std.proofs.lemmas.List.Elements.{All-head, All-tail}
+use Rattle.std.proofs.lemmas.List.Elements.{All-append, All-cons, All-head, All-nil, All-tail}
 use Rattle.std.specs.Cmp.Lexicographic.{pointwise}
 use Rattle.std.specs.List.{AllByRecursion, list_any}
 use Rattle.feed_links.proofs.FeedLaw.{both, no_message, other_sender}
@@ -14,17 +14,18 @@ use Rattle.link_msg.specs.declared.message.LinkMsg.TheVariants.{Up, End, Line, A
 use Rattle.link_msg.specs.declared.out.Out.{Out}
 use Rattle.link_msg.specs.declared.out.Out.TheVariants.{Client as to_client, Close, Link as to_node, Mark as mark, Told as tell}
 use Rattle.master_core.proofs.OutsideAlone.{bytes_alone, connects_alone}
-use Rattle.master_core.proofs.WhoseLaw.{changes_of}
-use Rattle.master_core.specs.Changes.{change_outs}
+use Rattle.master_core.specs.Changes.{change_line, change_outs, node_told, watcher_told}
 use Rattle.master_core.specs.Linked.{node_says, sender_by, sender_of}
 use Rattle.master_core.specs.Replies.{bad_reply, reply_to}
 use Rattle.master_core.specs.Step.{Planned, bad_step, line_step, replied}
 use Rattle.master_core.specs.Streams.{stream_step}
-use Rattle.master_core.specs.Whose.{IsOf, TellNobody}
+use Rattle.master_core.specs.Whose.{IsNobodys, IsOf, TellNobody}
 use Rattle.master_core.specs.declared.master.Master.{Master}
 use Rattle.master_core.specs.declared.reply.Reply.{Reply}
 use Rattle.master_core.specs.declared.sender.Sender.{Sender}
+use Rattle.mupdate_codec.proofs.LineAsks.{response_under}
 use Rattle.mupdate_codec.specs.Asks.{line_ask}
+use Rattle.mupdate_codec.specs.declared.command.MResponse.{MResponse}
 use Rattle.mupdate_codec.specs.declared.tag.Tag.{Tag}
 use Rattle.node_record.specs.declared.master.MasterRecord.{MasterRecord}
 use Rattle.node_step.specs.declared.input.NodeInput.{NodeInput}
@@ -73,6 +74,26 @@ outs_nobodys node (out ∷ outs) all =
     both (λ message. about message ≡ of_nobody) (message_to node out) (messages_to node outs) (out_nobodys node out (All-head (IsOf None) out outs all))
     (outs_nobodys node outs (All-tail (IsOf None) out outs all))
 
+streams_nobodys : (streams : List (List ℕ × Tag)) (line : MResponse) → TellNobody streams → All (IsOf None) (map (node_told line) streams)
+streams_nobodys [] line none = All-nil (IsOf None)
+streams_nobodys (s ∷ streams) line none =
+    All-cons (IsOf None) (node_told line s) (map (node_told line) streams)
+    (inr (response_under s.1 line ∙ All-head (λ (x : List ℕ × Tag). IsNobodys x.1) s streams none))
+    (streams_nobodys streams line (All-tail (λ (x : List ℕ × Tag). IsNobodys x.1) s streams none))
+
+watchers_nobodys : (watchers : List (ℕ × Tag)) (line : MResponse) → All (IsOf None) (map (watcher_told line) watchers)
+watchers_nobodys [] line = All-nil (IsOf None)
+watchers_nobodys (w ∷ watchers) line =
+    All-cons (IsOf None) (watcher_told line w) (map (watcher_told line) watchers) tt (watchers_nobodys watchers line)
+
+changes_nobodys : (streams : List (List ℕ × Tag)) (watchers : List (ℕ × Tag)) (change : Option MasterRecord) → TellNobody streams
+    → All (IsOf None) (change_outs streams watchers change)
+unfolding change_outs
+changes_nobodys streams watchers None none = All-nil (IsOf None)
+changes_nobodys streams watchers (Some change) none =
+    All-append (IsOf None) (map (node_told (change_line change)) streams) (map (watcher_told (change_line change)) watchers)
+    (streams_nobodys streams (change_line change) none) (watchers_nobodys watchers (change_line change))
+
 -- ---- a line of another sender
 
 reply_nobodys : (master : Master) (from : Sender) (node : List ℕ) (tag : Tag) (reply : Reply) → IsOfAnother node from → TellNobody master.streams
@@ -82,7 +103,7 @@ reply_nobodys master from node tag reply another nobodys =
     subst AreNobodys
     (sym (reply_messages master node from tag reply
     ∙ ap (λ l. l ++ messages_to node (change_outs master.streams master.watchers reply.entry)) (no_answers node from tag reply.answers another)))
-    (outs_nobodys node (change_outs master.streams master.watchers reply.entry) (changes_of None master.streams master.watchers reply.entry nobodys))
+    (outs_nobodys node (change_outs master.streams master.watchers reply.entry) (changes_nobodys master.streams master.watchers reply.entry nobodys))
 
 step_nobodys : (master : Master) (from : Sender) (node : List ℕ) (next : Planned) → IsOfAnother node from → TellNobody master.streams → StepIs master from next
     → AreNobodys (messages_to node next.outs)
