@@ -1,6 +1,6 @@
 -- A frontend lets out what it lets out, with its asks in another order: to each connection all is as it was, since at most one message is about it, and what goes to
 -- clients, to the master and to the marks is no ask.
-use Rattle.std.proofs.Common.{◌≡◌, ◌≢◌, ℕ, ◌+◌, ◌≤◌, nat_eq, Bool, true, false, ◌&&◌, cond, is_none, is_some, List, [], ◌∷◌, ◌++◌, length, filter, Option, None, Some, refl, sym, ◌∙◌, ap, subst, length-append, arith}
+use Rattle.std.proofs.Common.{◌≡◌, ◌≢◌, ℕ, suc, ◌≤◌, nat_eq, Bool, true, false, ◌&&◌, cond, is_none, is_some, List, [], ◌∷◌, ◌++◌, length, filter, Option, None, Some, refl, sym, ◌∙◌, ap, subst, length-append, arith}
 use Rattle.std.proofs.Math.Logic.{⊎_elim}
 use Rattle.std.proofs.lemmas.List.Elements.{filter-append}
 use Rattle.std.specs.Cmp.Lexicographic.{pointwise, slice_cmp}
@@ -51,7 +51,8 @@ module _ (is : LinkMsg → Bool) (node : List ℕ) where
   one_part : (other : List ℕ) (message : LinkMsg) (outs : List Out) (same own : Bool) → messages_to node (part outs) ≡ filter is (messages_to node outs)
       → pointwise nat_eq other node ≡ same → is message ≡ own
       → messages_to node (part (to_node other message ∷ outs)) ≡ filter is (messages_to node (to_node other message ∷ outs))
-  one_part other message outs true true more e h = rw (e, h) (ap (λ l. message ∷ l) more)
+  one_part other message outs true true more e h =
+      rw (e, h) (ap (λ (b : Bool). cond b (message ∷ []) [] ++ messages_to node (part outs)) e ∙ ap (λ l. message ∷ l) more)
   one_part other message outs true false more e h = rw (e, h) more
   one_part other message outs false own more e h = rw e more
 
@@ -66,7 +67,7 @@ module _ (is : LinkMsg → Bool) (node : List ℕ) where
   one_count : (other : List ℕ) (message : LinkMsg) (outs : List Out) (same own : Bool) → length (part outs) ≡ length (filter is (messages_to node outs))
       → pointwise nat_eq other node ≡ same → is message ≡ own
       → length (part (to_node other message ∷ outs)) ≡ length (filter is (messages_to node (to_node other message ∷ outs)))
-  one_count other message outs true true more e h = rw (e, h) (ap (λ n. n + 1) more)
+  one_count other message outs true true more e h = rw (e, h) (ap suc more)
   one_count other message outs true false more e h = rw (e, h) more
   one_count other message outs false own more e h = rw e more
 

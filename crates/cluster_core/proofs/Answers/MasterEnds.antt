@@ -49,7 +49,7 @@ use Rattle.mur_model.specs.declared.store.Store.{Store}
 use Rattle.node_step.proofs.NodeKinds.{front_is}
 use Rattle.node_step.specs.declared.input.NodeInput.TheVariants.{From}
 use Rattle.node_step.specs.declared.node.NodeState.TheVariants as state
-use Rattle.session_core.specs.Relocated.{Refused}
+use Rattle.session_core.specs.Relocated.{Refused, relocated}
 use Rattle.cluster_core.specs.Numbers.{HeardFits, NumbersFit}
 use Rattle.cluster_core.specs.World.{carry, carry_all, client_at, front_at, given_more, home_at, master_of, node_at, setting_of, taken_from_link, with_state}
 use Rattle.cluster_core.specs.declared.world.Client.{Client}
@@ -138,7 +138,8 @@ module _ (setting : Setting) (ways : Ways) (apart : AreApart ways) (conn : ℕ) 
   ends_well : (connection : Connection) (tag : Tag) (it : WaitingFor) (at : At) → connection.answered + 1 + length connection.waiting < 2 ^ 64
       → AreWellSent ways.master (ends_at setting ways conn connection tag it at).outs
   ends_well connection tag it (Home server) room = (tt, (tt, tt))
-  ends_well connection tag it (at_master cause) room = refused_well connection tag _ ways.master room
+  ends_well connection tag it (at_master cause) room = 
+      refused_well connection tag (relocated connection.session it.asking.awaited (unreached ways.master)) ways.master room
 
   end_well_by : (connection : Connection) (stage : Stage) → HasRoomAt connection stage → AreWellSent ways.master (end_by setting ways conn connection stage).outs
   unfolding end_by

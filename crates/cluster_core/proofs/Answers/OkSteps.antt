@@ -1,5 +1,5 @@
 -- A frontend takes the master's OK for which a command of an open connection waits.
-use Rattle.std.proofs.Common.{◌≡◌, ◌≢◌, ℕ, ◌+◌, nat_eq, true, false, List, ◌∷◌, length, Option, Some, sym, ◌∙◌, ap, subst}
+use Rattle.std.proofs.Common.{◌≡◌, ◌≢◌, ℕ, ◌+◌, nat_eq, true, false, List, ◌∷◌, length, Option, Some, sym, ◌∙◌, ap, subst, arith}
 use Rattle.std.specs.Cmp.Lexicographic.{pointwise}
 use Rattle.std.proofs.lemmas.Cmp.{nat_list_eq_equiv}
 use Rattle.ask_routes.specs.Barrier.{barrier_answered}
@@ -29,6 +29,7 @@ use Rattle.cluster_core.proofs.Commands.Place.{Place, Place as place}
 use Rattle.cluster_core.proofs.Commands.Standing.{Fixed, next_id}
 use Rattle.cluster_core.proofs.Connections.ConnectionLaw.{IsInPlaceOf, IsMarkedAt, IsStanding}
 use Rattle.cluster_core.proofs.Connections.KeepsFront.{world_after}
+use Rattle.cluster_core.proofs.Connections.Nowhere.{nowhere_too}
 use Rattle.cluster_core.proofs.Nodes.AllCome.{all_come, front_all_come}
 use Rattle.cluster_core.proofs.Nodes.Comes.{with_front}
 use Rattle.cluster_core.proofs.Places.FrontTakes.{takes_ok}
@@ -107,7 +108,14 @@ module _ (fixed : Fixed) (world : World) (story : Tale) (node : List ℕ) (front
   ok_by bytes id rest first reads_so own table over its has_all seen (of_names it) =
       let base : World = taken_from_link world fixed.master node in
       let heard : IsHeardFor fixed node front.replica conn inputs held connection base story it.tag it.it =
-      record { count = standing.count; client = standing.client; nothing = over; is_told = before.is_told; next = it.next } in
+      record {
+        count = standing.count;
+        client = standing.client;
+        nothing = nowhere_too fixed.master (home_at base) base.links node front.replica (next_id conn (story.told conn)) (length (story.told conn) + 1 + 1)
+            (omega arith) over;
+        is_told = before.is_told;
+        next = it.next;
+      } in
       turned_step fixed world story fixed.master node front conn inputs held connection before standing
       (ok_comes fixed.setting (ways_for fixed front.ups front.replica) conn connection id) (lists_live connection it.tag it.listing it.stage)
       (subst (λ i. StandsSo fixed node front.replica conn inputs held base story (ok_comes fixed.setting (ways_for fixed front.ups front.replica) conn connection i))
