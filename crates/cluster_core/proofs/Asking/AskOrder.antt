@@ -1,5 +1,5 @@
 -- The asks of one step go by the names of their mailboxes: of each kind of outputs as many go out.
-use Rattle.std.proofs.Common.{◌≡◌, ℕ, Bool, true, false, cond, List, [], ◌∷◌, refl, ◌∙◌, arith}
+use Rattle.std.proofs.Common.{◌≡◌, Bool, true, false, cond, List, [], ◌∷◌, refl, ◌∙◌, arith}
 use Rattle.std.specs.Prelude.{count_by}
 use Rattle.front_core.specs.AskOrder.{asks_earlier, in_ask_order, in_order, put_in}
 use Rattle.link_msg.specs.declared.out.Out.{Out}

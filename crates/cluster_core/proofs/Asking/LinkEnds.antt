@@ -1,6 +1,6 @@
 -- The link from a node to a frontend ends. Each connection is as it was; or its command waited for the answer of that node, and it has ended; or its command
 -- waited for something else from there, the master's OK, and a command more was answered.
-use Rattle.std.proofs.Common.{◌≡◌, ◌≢◌, ℕ, ◌+◌, ◌≤◌, Bool, true, false, List, [], ◌∷◌, Option, None, Some, refl, sym, ◌∙◌, ap, subst, arith}
+use Rattle.std.proofs.Common.{◌≡◌, ◌≢◌, ℕ, ◌+◌, ◌≤◌, Bool, true, false, List, [], ◌∷◌, Option, None, Some, refl, sym, ◌∙◌, ap, arith}
 use Rattle.std.proofs.Math.Logic.{⊎_elim}
 use Rattle.std.specs.Map.{keys_of}
 use Rattle.std.specs.Ordering.{nat_cmp}
@@ -9,15 +9,14 @@ use Rattle.asking_core.specs.declared.waiting.At.TheVariants.{Home, Barrier}
 use Rattle.asking_core.specs.declared.waiting.Waiting.{Waiting}
 use Rattle.front_core.specs.Answered.{end_by, end_comes, ends_at, reading_again, refused_behind}
 use Rattle.front_core.specs.Ended.{released, released_at}
-use Rattle.front_core.specs.Front.{Stepped, all_end, awaited, connection_at, end_at, end_from, end_if, one_ends, still, ways_of, with_turned, without_up}
+use Rattle.front_core.specs.Front.{all_end, awaited, connection_at, end_at, end_from, end_if, one_ends, ways_of, with_turned, without_up}
 use Rattle.front_core.specs.Stages.{asks_at, awaits, has_asked, waits_at}
-use Rattle.front_core.specs.Taken.{Turned, says_bye}
+use Rattle.front_core.specs.Taken.{Turned}
 use Rattle.front_core.specs.declared.connection.Connection.{Connection}
 use Rattle.front_core.specs.declared.connection.Stage.{Stage}
 use Rattle.front_core.specs.declared.connection.Stage.TheVariants.{Reading, Waits, Lists, Ended}
 use Rattle.front_core.specs.declared.front.Front.{Front}
 use Rattle.imap_types.specs.declared.command.Tag.{Tag}
-use Rattle.imap_types.specs.declared.reply.Bye.TheVariants.{Lost}
 use Rattle.mur_base.proofs.MapLaws.{numbers_apart, same_or_other, value_at-with_value, value_at-with_value-other}
 use Rattle.session_core.specs.Relocated.{Refused}
 use Rattle.cluster_core.proofs.Asking.Asked.{inputs_so}

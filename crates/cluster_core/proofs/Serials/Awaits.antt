@@ -1,5 +1,5 @@
 -- A connection whose command waits for the master's OK at its frontend: its place is a barrier, and no RESERVE of it was answered OK.
-use Rattle.std.proofs.Common.{◌≡◌, ◌⊎◌, inl, inr, ℕ, Bool, true, false, nat_eq, List, [], ◌∷◌, length, Option, None, Some, refl, sym, ◌∙◌, ap, subst}
+use Rattle.std.proofs.Common.{◌≡◌, ◌⊎◌, inl, inr, ℕ, true, false, nat_eq, List, length, None, Some, refl, sym, ◌∙◌, ap, subst}
 use Rattle.std.specs.Cmp.Lexicographic.{pointwise, same_text}
 use Rattle.asking_core.specs.declared.waiting.At.{At}
 use Rattle.asking_core.specs.declared.waiting.At.TheVariants.{Home, Barrier}
@@ -8,7 +8,7 @@ use Rattle.front_core.specs.Front.{connection_at}
 use Rattle.front_core.specs.Stages.{awaits, waits_at}
 use Rattle.front_core.specs.declared.connection.Connection.{Connection}
 use Rattle.front_core.specs.declared.connection.Stage.{Stage}
-use Rattle.front_core.specs.declared.connection.Stage.TheVariants.{Ended, Lists, Reading, Waits}
+use Rattle.front_core.specs.declared.connection.Stage.TheVariants.{Ended, Reading, Waits}
 use Rattle.front_core.specs.declared.front.Front.{Front}
 use Rattle.front_core.proofs.OneConnection.Readings.{inputs_in}
 use Rattle.imap_talk.specs.Heard.{Heard}
@@ -22,10 +22,9 @@ use Rattle.mur_model.specs.declared.commands.list.Listing.{Listing}
 use Rattle.mur_model.specs.declared.session.Sess.{Sess}
 use Rattle.name_commands.proofs.Own.{own_here}
 use Rattle.name_commands.specs.Whose.{is_of_connection, own_flow}
-use Rattle.name_flows.specs.declared.flow.Flow.{Flow}
 use Rattle.node_record.specs.Table.{MailboxTable}
 use Rattle.point_links.specs.Commands.{ClientCommand}
-use Rattle.route_links.specs.Barriers.{Place as Barrier, Place as barrier}
+use Rattle.route_links.specs.Barriers.{Place as BarrierPlace, Place as barrier}
 use Rattle.cluster_core.specs.Headline.OneNode.{node_of}
 use Rattle.cluster_core.specs.World.{Disks, client_at, front_at, home_at, master_of}
 use Rattle.cluster_core.specs.declared.world.World.{World}
@@ -97,7 +96,7 @@ reading_awaits master stage is waits = (let no : false ≡ true = sym (ap (λ s.
 -- ---- its place
 
 -- nothing was replied to its command yet, or the master's OK is on its way
-abbrev pub IsUnsaid : List Answer → List Answer → Barrier → Type 0
+abbrev pub IsUnsaid : List Answer → List Answer → BarrierPlace → Type 0
 IsUnsaid told said at = (said ≡ told) ⊎ ((table : MailboxTable) × (at ≡ barrier.answered table))
 
 pub record IsBarred (fixed : Fixed) (conn : ℕ) (world : World) (story : Tale) : Type 0 where
@@ -107,7 +106,7 @@ pub record IsBarred (fixed : Fixed) (conn : ℕ) (world : World) (story : Tale) 
   pub at : IsAt world conn node front connection
   pub client : node_of (client_at world conn) ≡ Some node
   pub count : connection.answered ≡ length (story.told conn)
-  pub here : Barrier
+  pub here : BarrierPlace
   pub placed : IsInPlaceOf fixed world node front.replica (next_id conn (story.told conn)) (place.is_barred here)
   pub unsaid : IsUnsaid (story.told conn) (story.talk.answers conn) here
 
@@ -134,7 +133,7 @@ module _ (config : Config) (heard : ℕ → Heard) (world : World) (law : KeepsL
   not_home : (asked server : List ℕ) (node : BackNode) → pointwise nat_eq asked name ≡ true → Home asked ≡ Home server → home_at world server ≡ Some node → ⊥
   not_home asked server node waits same there = no_home server node there (sym (same_at same) ∙ same_text asked name (sym waits))
 
-  at_barrier : (at : At) (here : Place) → waits_at name at name ≡ true → WaitsAt at here → IsThere (home_at world) here → (b : Barrier) × (here ≡ place.is_barred b)
+  at_barrier : (at : At) (here : Place) → waits_at name at name ≡ true → WaitsAt at here → IsThere (home_at world) here → (b : BarrierPlace) × (here ≡ place.is_barred b)
   at_barrier at place.nowhere w is there = absurd is
   at_barrier (Barrier why) (place.is_asked server ask) w is there = cc
   at_barrier (Barrier why) (place.is_answered server answer) w is there = cc
@@ -147,7 +146,7 @@ module _ (config : Config) (heard : ℕ → Heard) (world : World) (law : KeepsL
   at_barrier (Home asked) (place.is_at me at) w is there = absurd (not_home asked me.server there.0 w is there.1)
   at_barrier (Home asked) (place.is_barred b) w is there = absurd is
 
-  said_of : (node : List ℕ) (c : ClientCommand) (tag : Tag) (session : Sess) (b : Barrier)
+  said_of : (node : List ℕ) (c : ClientCommand) (tag : Tag) (session : Sess) (b : BarrierPlace)
       → Knows fixed.master fixed.first node c tag told said session (place.is_barred b) → IsUnsaid told said b
   said_of node c tag session b (undecided same was tells) = inl same
   said_of node c tag session barrier.nowhere (is_decided turn same then ends brings) = absurd brings
@@ -156,7 +155,7 @@ module _ (config : Config) (heard : ℕ → Heard) (world : World) (law : KeepsL
 
   -- so it is of a LIST
   names_of : (tag : Tag) (listing : Listing) (was session : Sess) (here : Place) → KnowsNames tag listing was told said session here
-      → (b : Barrier) × ((here ≡ place.is_barred b) × IsUnsaid told said b)
+      → (b : BarrierPlace) × ((here ≡ place.is_barred b) × IsUnsaid told said b)
   names_of tag listing was session here (not_yet same same_session at) = (barrier.asked, (at, inl same))
   names_of tag listing was session here (is_gone same same_session at) = (barrier.nowhere, (at, inl same))
   names_of tag listing was session here (is_listed table same same_session at) = (barrier.answered table, (at, inr (table, refl)))
@@ -164,7 +163,7 @@ module _ (config : Config) (heard : ℕ → Heard) (world : World) (law : KeepsL
   module _ (is : AwaitsMaster name world conn) where
     module _ (node : List ℕ) (front : Front) (connection : Connection) (at : IsAt world conn node front connection)
         (client : node_of (client_at world conn) ≡ Some node) (count : connection.answered ≡ length told) where
-      barred_in : (b : Barrier) (here : Place) → here ≡ place.is_barred b → IsUnsaid told said b
+      barred_in : (b : BarrierPlace) (here : Place) → here ≡ place.is_barred b → IsUnsaid told said b
           → IsInPlaceOf fixed world node front.replica (next_id conn told) here → IsBarred fixed conn world law.story
       barred_in b here same unsaid placed = record {
         node = node;

@@ -1,7 +1,6 @@
 -- A frontend's step leaves no connection waiting for an OK of the master that is on its way, but one that waited for it before.
-use Rattle.std.proofs.Common.{◌≡◌, ◌≢◌, ℕ, ◌+◌, ◌≤◌, ◌<◌, ◌^◌, Bool, true, false, cond, List, [], ◌∷◌, drop, filter, is_some, length, Option, None, Some, inl, inr, refl, sym, ◌∙◌, ap, subst, arith}
+use Rattle.std.proofs.Common.{◌≡◌, ◌≢◌, ℕ, ◌+◌, ◌≤◌, Bool, true, false, cond, List, [], ◌∷◌, drop, filter, is_some, length, Option, None, Some, inl, inr, refl, sym, ◌∙◌, ap, subst, arith}
 use Rattle.ask_routes.proofs.BarrierLaw.{ok_tells_its_command}
-use Rattle.ask_routes.specs.Barrier.{ok_line}
 use Rattle.asking_core.specs.declared.waiting.At.{At}
 use Rattle.asking_core.specs.declared.waiting.At.TheVariants.{Home, Barrier}
 use Rattle.feed_links.proofs.Names.{same_name}
@@ -10,8 +9,7 @@ use Rattle.front_core.proofs.OneConnection.Readings.{inputs_in}
 use Rattle.front_core.specs.Front.{connection_at}
 use Rattle.front_core.specs.Stages.{awaits, waits_at}
 use Rattle.front_core.specs.declared.connection.Connection.{Connection}
-use Rattle.front_core.specs.declared.connection.Stage.{Stage}
-use Rattle.front_core.specs.declared.connection.Stage.TheVariants.{Ended, Lists, Waits}
+use Rattle.front_core.specs.declared.connection.Stage.TheVariants.{Ended}
 use Rattle.front_core.specs.declared.front.Front.{Front}
 use Rattle.imap_talk.specs.Heard.{Heard}
 use Rattle.imap_talk.specs.Transcript.{Stop}
@@ -26,13 +24,13 @@ use Rattle.mur_base.specs.declared.point.AskId.{AskId}
 use Rattle.mur_config.specs.declared.config.Config.{Config}
 use Rattle.name_commands.specs.Places.{IsNumbered}
 use Rattle.node_record.specs.Table.{MailboxTable}
-use Rattle.node_step.proofs.NodeKinds.{a_front, front_is}
+use Rattle.node_step.proofs.NodeKinds.{a_front}
 use Rattle.node_step.specs.NodeStep.{as_front, takes as node_takes}
 use Rattle.node_step.specs.declared.input.NodeInput.{NodeInput}
 use Rattle.node_step.specs.declared.node.NodeState.{NodeState}
 use Rattle.node_step.specs.declared.node.NodeState.TheVariants as state
 use Rattle.route_links.proofs.Tags.{ok_is_read}
-use Rattle.route_links.specs.Answered.{ok_of}
+use Rattle.route_links.specs.Answered.{ok_line, ok_of}
 use Rattle.route_links.specs.Barriers.{Place as BarrierPlace, Place as barrier}
 use Rattle.schedule_text.specs.declared.event.Event.{Event}
 use Rattle.schedule_text.specs.declared.event.Event.TheVariants.{Deliver, Open}
