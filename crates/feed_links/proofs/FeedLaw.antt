@@ -423,6 +423,7 @@ breaks_keep_it master node reached up down replica (asks whole there before behi
     early : (message : LinkMsg) → IsNoopOrUp message → IsFrontsOwn message
     early message (inl noop) = its_noop noop
     early message (inr up_is) = its_link (inl up_is)
+
     all : AreFrontsOwn (before ++ Line update_line ∷ behind)
     all = both IsFrontsOwn before (Line update_line ∷ behind) (each_so IsNoopOrUp IsFrontsOwn before early one)
         (its_update refl, each_so IsNoop IsFrontsOwn behind (λ message noop. its_noop noop) two)

@@ -138,7 +138,7 @@ module _ (setting : Setting) (ways : Ways) (apart : AreApart ways) (conn : ℕ) 
   ends_well : (connection : Connection) (tag : Tag) (it : WaitingFor) (at : At) → connection.answered + 1 + length connection.waiting < 2 ^ 64
       → AreWellSent ways.master (ends_at setting ways conn connection tag it at).outs
   ends_well connection tag it (Home server) room = (tt, (tt, tt))
-  ends_well connection tag it (at_master cause) room = 
+  ends_well connection tag it (at_master cause) room =
       refused_well connection tag (relocated connection.session it.asking.awaited (unreached ways.master)) ways.master room
 
   end_well_by : (connection : Connection) (stage : Stage) → HasRoomAt connection stage → AreWellSent ways.master (end_by setting ways conn connection stage).outs

@@ -285,12 +285,11 @@ EventKeeps = (config : Config) (heard : ℕ → Heard) (world : World) (event : 
 
 pub event_keeps : EventKeeps
 unfolding takes
-event_keeps config heard world (Cut one other kept left) law beside apart then fits moves =
-    (
-      step_behind config heard world (Cut one other kept left) law tt
-          (λ begun. cut_keeps config heard (stepped world) begun one other kept left (stepped_links config world beside.links) then),
-      λ none. absurd none,
-    )
+event_keeps config heard world (Cut one other kept left) law beside apart then fits moves = (
+  step_behind config heard world (Cut one other kept left) law tt
+      (λ begun. cut_keeps config heard (stepped world) begun one other kept left (stepped_links config world beside.links) then),
+  λ none. absurd none,
+)
 event_keeps config heard world (Join one other) law beside apart then fits moves =
     step_keeps config law.story law.stops (heard_then config heard (Join one other)) (steps_by world (Join one other)) (Join one other)
     (step_on config heard world (Join one other) law tt

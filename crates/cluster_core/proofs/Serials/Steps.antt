@@ -217,10 +217,10 @@ module _ (config : Config) (heard : ℕ → Heard) (before : World) (quiet : Wor
     serial_stays event stays = (
       reserved,
       record {
-          few = omega (arith, counts.few, stays);
-          each = λ conn. counted_on event conn (times conn reserved) (counts.each conn);
-          barred = counts.barred;
-        },
+        few = omega (arith, counts.few, stays);
+        each = λ conn. counted_on event conn (times conn reserved) (counts.each conn);
+        barred = counts.barred;
+      },
     )
 
     -- ---- the master takes a message
