@@ -34,6 +34,7 @@ use Rattle.schedule_text.specs.declared.event.Event.{Event}
 use Rattle.schedule_text.specs.declared.event.Event.TheVariants.{Deliver}
 use Rattle.cluster_core.specs.Headline.Backends.{IsBackend}
 use Rattle.cluster_core.specs.World.{master_of, client_at, front_at, start}
+use Rattle.cluster_core.specs.declared.world.World.{World}
 use Rattle.cluster_core.specs.Flow.{run_steps}
 use Rattle.cluster_core.specs.Headline.OneNode.{node_of, worker}
 use Rattle.cluster_core.specs.Headline.OpenAt.{IsOpenAt}
