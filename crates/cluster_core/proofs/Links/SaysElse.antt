@@ -1,5 +1,5 @@
 -- What the master sends a node from which nothing comes to it is about no command: lines of the node's stream.
-use Rattle.std.proofs.Common.{◌≡◌, ◌≢◌, ◌&&◌, ℕ, nat_eq, Bool, true, false, not, cond, if◌then◌else◌, List, [], ◌∷◌, ◌++◌, None, Some, filter, refl, sym, ◌∙◌, ap, subst, All}
+use Rattle.std.proofs.Common.{◌≡◌, ◌≢◌, ◌&&◌, ℕ, nat_eq, Bool, true, false, not, cond, if◌then◌else◌, List, [], ◌∷◌, ◌++◌, None, filter, refl, sym, ◌∙◌, ap, subst, All}
 use Rattle.std.proofs.Math.Logic.{⊎_elim}
 use Rattle.std.proofs.lemmas.List.Elements.{All-head, All-tail}
 use Rattle.std.specs.Cmp.Lexicographic.{pointwise}
@@ -16,7 +16,7 @@ use Rattle.link_msg.specs.declared.out.Out.TheVariants.{Client as to_client, Clo
 use Rattle.master_core.proofs.OutsideAlone.{bytes_alone, connects_alone}
 use Rattle.master_core.proofs.WhoseLaw.{changes_of}
 use Rattle.master_core.specs.Changes.{change_outs}
-use Rattle.master_core.specs.Linked.{node_says, sender_by, sender_of}
+use Rattle.master_core.specs.Linked.{node_says, sender_of}
 use Rattle.master_core.specs.Replies.{bad_reply, reply_to}
 use Rattle.master_core.specs.Step.{Planned, bad_step, line_step, replied}
 use Rattle.master_core.specs.Streams.{stream_step}
@@ -26,7 +26,6 @@ use Rattle.master_core.specs.declared.reply.Reply.{Reply}
 use Rattle.master_core.specs.declared.sender.Sender.{Sender}
 use Rattle.mupdate_codec.specs.Asks.{line_ask}
 use Rattle.mupdate_codec.specs.declared.tag.Tag.{Tag}
-use Rattle.node_record.specs.declared.master.MasterRecord.{MasterRecord}
 use Rattle.node_step.specs.declared.input.NodeInput.{NodeInput}
 use Rattle.node_step.specs.declared.input.NodeInput.TheVariants.{Opened, Piece, Hung, From}
 use Rattle.cluster_core.proofs.Links.Streams.{IsNotFrom}
