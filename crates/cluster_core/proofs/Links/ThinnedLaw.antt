@@ -1,6 +1,6 @@
--- THE LAW OF A WORLD OF WHICH MESSAGES ON BROKEN LINKS ARE GONE: the links of the master with backends have all, so the names are as they were; a command that was in an
--- ask or in an answer that is gone is dropped, if it still waits, and nowhere otherwise; one whose NOOP or OK is gone waits for the master's End, and a reply whose OK is
--- gone is taken back, as its client wasn't told of it.
+-- THE LAW OF A WORLD OF WHICH MESSAGES ON BROKEN LINKS ARE GONE: the links of the master with backends have all, so the names are as they were; a command that was
+-- in an ask or in an answer that is gone is dropped, if it still waits, and nowhere otherwise; one whose NOOP or OK is gone waits for the master's End, and a reply
+-- whose OK is gone is taken back, as its client wasn't told of it.
 use Rattle.std.proofs.Common.{◌≡◌, ◌⊎◌, inl, inr, ℕ, ◌+◌, Bool, true, false, cond, is_some, List, [], ◌∷◌, ◌++◌, length, Some, filter, take, refl, sym, ◌∙◌, ap, subst, arith, append-nil}
 use Rattle.std.proofs.Math.Logic.{⊎_elim}
 use Rattle.std.proofs.lemmas.Option.{same_Some}
