@@ -1,4 +1,5 @@
--- A LINK BREAKS: End stands behind all that was on its way on both, which is about nobody; and then messages on them are gone. A reply whose OK is among these is taken back.
+-- A LINK BREAKS: End stands behind all that was on its way on both, which is about nobody; and then messages on them are gone. A reply whose OK is among these
+-- is taken back.
 use Rattle.std.proofs.Common.{◌≡◌, ◌≢◌, ◌⊎◌, inl, inr, ◌&&◌, ◌||◌, ℕ, Bool, true, false, not, cond, List, [], ◌∷◌, ◌++◌, drop, take, None, Some, refl, sym, ◌∙◌, ap, subst, append-nil, append_assoc}
 use Rattle.std.proofs.lemmas.List.{take-append-drop}
 use Rattle.std.specs.Cmp.Lexicographic.{slice_cmp}

@@ -1,7 +1,6 @@
 -- A LINK COMES UP: Up is put on both, which is about nobody; and no command waits for anything over it.
 use Rattle.std.proofs.Common.{◌≡◌, ◌≢◌, ◌⊎◌, inl, inr, ℕ, Bool, true, false, cond, List, [], ◌∷◌, ◌++◌, Option, None, Some, refl, sym, ◌∙◌, ap, subst}
 use Rattle.std.specs.Option.{IsSome}
-use Rattle.back_node.specs.declared.node.BackNode.{BackNode}
 use Rattle.cluster_core.specs.World.{front_at, home_at, is_nothing, joins_if, master_of, may_join, with_join}
 use Rattle.cluster_core.specs.declared.world.World.{World}
 use Rattle.feed_core.specs.declared.replica.Replica.{Replica}

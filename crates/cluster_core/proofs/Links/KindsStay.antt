@@ -8,7 +8,7 @@ use Rattle.cluster_core.specs.declared.world.Client.{Client}
 use Rattle.cluster_core.specs.declared.world.World.{World}
 use Rattle.link_msg.specs.declared.message.LinkMsg.{LinkMsg}
 use Rattle.link_queue.specs.Links.{on_link}
-use Rattle.mur_config.specs.Nodes.{AreNodes, is_node_of_kind, is_of_kind, node_named}
+use Rattle.mur_config.specs.Nodes.{AreNodes, is_node_of_kind, is_of_kind}
 use Rattle.mur_config.specs.declared.config.Config.{Config}
 use Rattle.mur_config.specs.declared.node.Kind.TheVariants.{Backend}
 use Rattle.mur_config.specs.declared.node.Node.{Node}

@@ -8,7 +8,7 @@ use Rattle.std.specs.Ordering.{nat_cmp}
 use Rattle.cluster_core.specs.World.{home_at, master_of}
 use Rattle.cluster_core.specs.declared.world.World.{World}
 use Rattle.feed_core.specs.declared.replica.Replica.{Replica}
-use Rattle.front_core.proofs.OneConnection.Places.{IsPlaced, about, is_about, of_connection, same_about}
+use Rattle.front_core.proofs.OneConnection.Places.{IsPlaced, is_about, of_connection, same_about}
 use Rattle.link_msg.specs.declared.message.LinkMsg.{LinkMsg}
 use Rattle.link_msg.specs.declared.message.LinkMsg.TheVariants.{Answer as answer_of, Ask as ask_of, End}
 use Rattle.link_queue.proofs.Placed.{Carried}

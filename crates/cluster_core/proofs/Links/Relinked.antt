@@ -1,5 +1,5 @@
 -- THE LAW STANDS WHERE OTHER LINKS ARE BROKEN, and where more stands on links that is about nobody: each command is where it was.
-use Rattle.std.proofs.Common.{◌≡◌, ℕ, true, is_some, List, [], Option, Some, refl, sym, ◌∙◌, ap, subst}
+use Rattle.std.proofs.Common.{◌≡◌, ℕ, true, List, [], Option, Some, refl, sym, ◌∙◌, ap, subst}
 use Rattle.std.specs.Cmp.Lexicographic.{slice_cmp}
 use Rattle.std.specs.Ordering.{nat_cmp}
 use Rattle.asking_core.specs.declared.waiting.At.TheVariants.{Home}

@@ -9,7 +9,6 @@ use Rattle.mark_history.proofs.TakenBack.{list_at, list_elsewhere}
 use Rattle.mark_history.specs.Marked.{IsUntold, Tale, last_of, open_ask, taking_back}
 use Rattle.mark_history.specs.declared.mark.Mark.{Mark}
 use Rattle.mark_history.specs.declared.mark.MarkKind.TheVariants.{Home}
-use Rattle.mur_base.specs.declared.point.AskId.{AskId}
 use Rattle.mur_model.specs.declared.setting.Setting.{Setting}
 use Rattle.cluster_core.proofs.Commands.AllReached.{AreMarkedSo, takes_back}
 use Rattle.cluster_core.proofs.Connections.ConnectionLaw.{session_at, session_of_other}

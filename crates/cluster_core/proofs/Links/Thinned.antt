@@ -1,6 +1,6 @@
 -- A world of which messages are gone that were on broken links: each queue has what it had, in its order, but for some messages that stood together, with End
 -- alone behind them, and a link that isn't broken has all.
-use Rattle.std.proofs.Common.{◌≡◌, ℕ, Bool, true, false, cond, List, [], ◌∷◌, ◌++◌, Option, None, Some, filter, refl, sym, ◌∙◌, ap}
+use Rattle.std.proofs.Common.{◌≡◌, ℕ, Bool, true, false, cond, List, [], ◌∷◌, Option, None, Some, filter, refl, sym, ◌∙◌, ap}
 use Rattle.cluster_core.specs.declared.world.World.{World}
 use Rattle.feed_links.proofs.Parts.{IsCutShort, IsPart, cut_part, has_it, is_none, lacks_it, nothing_lost}
 use Rattle.link_queue.proofs.Placed.{Carried, IsFound}

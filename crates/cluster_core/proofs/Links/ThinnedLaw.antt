@@ -1,7 +1,7 @@
--- THE LAW OF A WORLD OF WHICH MESSAGES ON BROKEN LINKS ARE GONE: the links of the master with backends have all, so the names are as they were; a command that was in an
--- ask or in an answer that is gone is dropped, if it still waits, and nowhere otherwise; one whose NOOP or OK is gone waits for the master's End, and a reply whose OK is
--- gone is taken back, as its client wasn't told of it.
-use Rattle.std.proofs.Common.{◌≡◌, ◌⊎◌, inl, inr, ℕ, ◌+◌, ◌≤◌, Bool, true, false, cond, is_some, List, [], ◌∷◌, ◌++◌, length, Option, None, Some, filter, take, refl, sym, ◌∙◌, ap, subst, arith, append-nil}
+-- THE LAW OF A WORLD OF WHICH MESSAGES ON BROKEN LINKS ARE GONE: the links of the master with backends have all, so the names are as they were; a command that was
+-- in an ask or in an answer that is gone is dropped, if it still waits, and nowhere otherwise; one whose NOOP or OK is gone waits for the master's End, and a reply
+-- whose OK is gone is taken back, as its client wasn't told of it.
+use Rattle.std.proofs.Common.{◌≡◌, ◌⊎◌, inl, inr, ℕ, ◌+◌, Bool, true, false, cond, is_some, List, [], ◌∷◌, ◌++◌, length, Some, filter, take, refl, sym, ◌∙◌, ap, subst, arith, append-nil}
 use Rattle.std.proofs.Math.Logic.{⊎_elim}
 use Rattle.std.proofs.lemmas.Option.{same_Some}
 use Rattle.std.specs.Cmp.Lexicographic.{slice_cmp}
@@ -16,7 +16,7 @@ use Rattle.feed_links.proofs.Parts.{part_has}
 use Rattle.feed_links.specs.OneFeed.{IsFed}
 use Rattle.front_core.proofs.OneConnection.Places.{is_about, of_connection}
 use Rattle.front_core.proofs.OneConnection.Readings.{inputs_in, reading_of}
-use Rattle.front_core.specs.Front.{awaited, connection_at}
+use Rattle.front_core.specs.Front.{awaited}
 use Rattle.front_core.specs.Stages.{awaits}
 use Rattle.front_core.specs.Ups.{is_up}
 use Rattle.front_core.specs.declared.connection.Connection.{Connection}
@@ -30,15 +30,14 @@ use Rattle.imap_types.specs.declared.request.Answer.{Answer}
 use Rattle.imap_types.specs.declared.request.Request.{Request}
 use Rattle.imap_wire.specs.Frames.{begun}
 use Rattle.link_msg.specs.declared.counts.Counts.TheVariants.{IfAnswered}
-use Rattle.link_msg.specs.declared.message.LinkMsg.{LinkMsg}
 use Rattle.link_queue.proofs.Wires.{same_itself}
 use Rattle.link_queue.specs.Broken.{Broken, is_broken}
-use Rattle.link_queue.specs.Links.{on_link, same_link}
+use Rattle.link_queue.specs.Links.{on_link}
 use Rattle.many_links.proofs.FrontLaw.{alike_hold}
 use Rattle.many_links.specs.ManyHold.{ManyHold}
 use Rattle.mark_history.proofs.LastMarks.{last_kind}
 use Rattle.mark_history.proofs.TakenBack.{list_at}
-use Rattle.mark_history.specs.Marked.{Tale, last_of, open_ask, taking_back}
+use Rattle.mark_history.specs.Marked.{Tale, last_of, taking_back}
 use Rattle.mark_history.specs.declared.mark.MarkKind.TheVariants.{Home}
 use Rattle.mur_base.proofs.MapLaws.{numbers_apart}
 use Rattle.mur_base.specs.Map.{value_at}
@@ -56,13 +55,12 @@ use Rattle.cluster_core.proofs.Commands.Moving.{IsSeenBy}
 use Rattle.cluster_core.proofs.Commands.Place.{Place, Place as place}
 use Rattle.cluster_core.proofs.Commands.Standing.{Fixed, HasBegunSo, IsLeft, Stands, next_id}
 use Rattle.cluster_core.proofs.Connections.ConnectionLaw.{CanRestore, IsDroppedAt, IsInPlaceOf, IsMarkedAt, IsStanding, client_with, session_at}
-use Rattle.cluster_core.proofs.Connections.KeepsLaw.{ConnectionIs, FeedsHold, IsAt, IsFedAt, IsGone, IsTakenBack, IsUntold, KeepsBehind, KeepsLaw, KeepsOn, KnowsBackends, SaidOn, TellsBackends}
+use Rattle.cluster_core.proofs.Connections.KeepsLaw.{ConnectionIs, FeedsHold, IsAt, IsFedAt, IsGone, IsUntold, KeepsBehind, KeepsLaw, KeepsOn, KnowsBackends, SaidOn, TellsBackends}
 use Rattle.cluster_core.proofs.Connections.KeepsLaw.{fixed_of, murder_of}
 use Rattle.cluster_core.proofs.Connections.KeepsLaw.ConnectionIs.{is_nobody, is_elsewhere, is_open, is_cut_off, is_closed}
-use Rattle.cluster_core.proofs.Connections.Stays.{StaysAt, connection_stays, dropped_stays, fixed_places, same_front}
+use Rattle.cluster_core.proofs.Connections.Stays.{connection_stays, dropped_stays, fixed_places, same_front}
 use Rattle.cluster_core.proofs.Feeds.Backends.{knows_still}
 use Rattle.cluster_core.proofs.Feeds.Beside.{still_feeds}
-use Rattle.cluster_core.proofs.Links.BarriersThin.{first_is}
 use Rattle.cluster_core.proofs.Links.PlacesThin.{BreaksApart, PlaceThen, is_gone, is_still, is_unbarred, none_then, place_then}
 use Rattle.cluster_core.proofs.Links.TakenBack.{CanBack, IsOneOf, SameTale, WentBack, all_back}
 use Rattle.cluster_core.proofs.Links.Thinned.{IsThinned, parts_of}

@@ -1,6 +1,6 @@
 -- What is known of a command whose message is gone with a link: one in an ask or in an answer is dropped, and of a barrier nothing is on its way any more. A reply
 -- whose OK is gone was never told.
-use Rattle.std.proofs.Common.{◌≡◌, ℕ, true, List, [], ◌∷◌, ◌++◌, Option, None, Some, refl, sym, ◌∙◌, ap, subst, arith, append-nil}
+use Rattle.std.proofs.Common.{◌≡◌, ℕ, true, List, [], ◌∷◌, ◌++◌, Option, refl, sym, ◌∙◌, ap, subst, arith, append-nil}
 use Rattle.asking_core.specs.declared.waiting.At.{At}
 use Rattle.asking_core.specs.declared.waiting.At.TheVariants.{Home, Barrier as at_master}
 use Rattle.feed_links.proofs.Names.{same_name}
@@ -18,7 +18,7 @@ use Rattle.mur_model.specs.declared.session.Turn.{Turn}
 use Rattle.node_record.specs.Table.{MailboxTable}
 use Rattle.point_links.specs.Commands.{ClientCommand}
 use Rattle.route_links.specs.Barriers.{Place as Barrier, Place as barrier}
-use Rattle.cluster_core.proofs.Commands.Knows.{Brings, Knows, KnowsNames, listed_by, tells_of_barrier}
+use Rattle.cluster_core.proofs.Commands.Knows.{Knows, KnowsNames, listed_by, tells_of_barrier}
 use Rattle.cluster_core.proofs.Commands.Place.{Place, Place as place}
 use Rattle.cluster_core.proofs.Commands.Standing.{Fixed, IsLeft, Lists, Stands, Waiting, WaitsAt}
 
