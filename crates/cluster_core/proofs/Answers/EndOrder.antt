@@ -83,8 +83,9 @@ module _ (is : LinkMsg → Bool) (node : List ℕ) where
   few_there : (outs : List Out) → length (filter is (messages_to node outs)) ≤ 1
       → filter is (messages_to node (in_ask_order outs)) ≡ filter is (messages_to node outs)
   few_there outs few =
+      let same : length (filter (goes_there is node) outs) ≡ length (filter is (messages_to node outs)) = part_count outs in
       sym (part_is (in_ask_order outs))
-      ∙ ap (messages_to node) (few_stay (goes_there is node) outs (omega (arith, few, part_count outs)))
+      ∙ ap (messages_to node) (few_stay (goes_there is node) outs (subst (λ n. n ≤ 1) (sym same) few))
       ∙ part_is outs
 
 -- ---- what is no ask
@@ -176,8 +177,8 @@ marks_stay step outs =
 -- ---- the worlds
 
 few_by : {X : Type 0} (x : X) (b : Bool) → length (cond b (x ∷ []) []) ≤ 1
-few_by x true = omega arith
-few_by x false = omega arith
+few_by x true = (let one : 1 ≤ 1 = omega arith in one)
+few_by x false = (let none : 0 ≤ 1 = omega arith in none)
 
 module _ (config : Config) (world : World) (to : List ℕ) (next : Stepped) (apart : master_of config ≢ to) (well : AreWellSent (master_of config) next.outs) where
   abbrev me : List ℕ
@@ -229,8 +230,10 @@ module _ (config : Config) (world : World) (to : List ℕ) (next : Stepped) (apa
 
   short_of : (is : LinkMsg → Bool) (found : Option (Carried LinkMsg)) → IsFound is one.links found → (a b : List ℕ)
       → length (filter is (on_link one.links a b)) ≤ 1
-  short_of is None placed a b = omega (arith, ap length (placed a b))
-  short_of is (Some it) placed a b = omega (arith, ap length (placed a b), few_by it.message (same_link a b it.from it.to))
+  short_of is None placed a b =
+      let none : 0 ≤ 1 = omega arith in subst (λ (l : List LinkMsg). length l ≤ 1) (sym (placed a b)) none
+  short_of is (Some it) placed a b =
+      subst (λ (l : List LinkMsg). length l ≤ 1) (sym (placed a b)) (few_by it.message (same_link a b it.from it.to))
 
   found_stays : (is : LinkMsg → Bool) (found : Option (Carried LinkMsg)) → IsFound is one.links found → IsFound is two.links found
   found_stays is None placed = λ a b. kinds_stay is a b (short_of is None placed a b) ∙ placed a b
