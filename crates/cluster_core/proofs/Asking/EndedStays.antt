@@ -80,7 +80,7 @@ module _ (front : Front) (conn : ℕ) (c : Connection) (there : connection_at fr
   read_so : (other : ℕ) (bytes : List ℕ) (found : Connection) → connection_at front other ≡ Some found → found.stage ≢ Ended
       → StaysEnded (with_turned front other
       (inputs_come front.setting (ways_of front) other (having_read front.setting found bytes) (inputs_of_more front.setting found.reader bytes))).front
-  read_so other bytes found at open = a_turn other found at _ (λ e. absurd (open e))
+  read_so other bytes found at lasts = a_turn other found at _ (λ e. absurd (lasts e))
 
   bytes_by_so : (other : ℕ) (bytes : List ℕ) (found : Connection) (stage : Stage) → found.stage ≡ stage → connection_at front other ≡ Some found
       → StaysEnded (bytes_by front other bytes found stage).front
@@ -153,8 +153,8 @@ module _ (front : Front) (conn : ℕ) (c : Connection) (there : connection_at fr
       → StaysEnded (end_from (without_up front from) from).front
   end_so from (stays same) = kept (end_from (without_up front from) from).front same
   end_so from (has_ended b d was asked is stage count) = λ later at. ap (λ (x : Connection). x.stage) (same_connection (sym at ∙ is)) ∙ stage
-  end_so from (goes_on b d was open is more) =
-      absurd (open (ap (λ (x : Connection). x.stage) (same_connection (sym was ∙ there)) ∙ ended))
+  end_so from (goes_on b d was lasts is more) =
+      absurd (lasts (ap (λ (x : Connection). x.stage) (same_connection (sym was ∙ there)) ∙ ended))
 
   message_so : (from : List ℕ) (message : LinkMsg) → StaysEnded (deliver front from message).front
   unfolding deliver

@@ -221,7 +221,7 @@ module _ (front : Front) (conn : ℕ) (c : Connection) (there : connection_at fr
   end_so from (stays same) left = absurd (kept (end_from (without_up front from) from).front same left)
   end_so from (has_ended b later was asked is stage count) left =
       subst (λ (d : Connection). has_asked d.stage from ≡ true) (same_connection (sym was ∙ there)) asked
-  end_so from (goes_on b later was open is more) left =
+  end_so from (goes_on b later was lasts is more) left =
       let old : b ≡ c = same_connection (sym was ∙ there) in
       let its : left.then ≡ later = same_connection (sym left.there ∙ is) in
       absurd (omega (arith, more, left.same, ap (λ (d : Connection). d.answered) old, ap (λ (d : Connection). d.answered) its))

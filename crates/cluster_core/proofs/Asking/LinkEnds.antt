@@ -38,21 +38,21 @@ not_ended node stage asked ended = (let no : false ≡ true = sym (ap (λ s. has
 then_so : (node : List ℕ) (one two three : Option Connection) → EndsOrGoes node one two → EndsOrGoes node two three → EndsOrGoes node one three
 then_so node one two three (stays same) (stays again) = stays (again ∙ same)
 then_so node one two three (stays same) (has_ended b c was asked is stage count) = has_ended b c (sym same ∙ was) asked is stage count
-then_so node one two three (stays same) (goes_on b c was open is more) = goes_on b c (sym same ∙ was) open is more
+then_so node one two three (stays same) (goes_on b c was lasts is more) = goes_on b c (sym same ∙ was) lasts is more
 then_so node one two three (has_ended b c was asked is stage count) (stays again) = has_ended b c was asked (again ∙ is) stage count
 then_so node one two three (has_ended b c was asked is stage count) (has_ended d e was_then asked_then is_then stage_then count_then) =
     let its : c ≡ d = same_connection (sym is ∙ was_then) in
     absurd (not_ended node d.stage asked_then (sym (ap (λ (x : Connection). x.stage) its) ∙ stage))
-then_so node one two three (has_ended b c was asked is stage count) (goes_on d e was_then open is_then more) =
+then_so node one two three (has_ended b c was asked is stage count) (goes_on d e was_then lasts is_then more) =
     let its : c ≡ d = same_connection (sym is ∙ was_then) in
-    absurd (open (sym (ap (λ (x : Connection). x.stage) its) ∙ stage))
-then_so node one two three (goes_on b c was open is more) (stays again) = goes_on b c was open (again ∙ is) more
-then_so node one two three (goes_on b c was open is more) (has_ended d e was_then asked is_then stage count) =
+    absurd (lasts (sym (ap (λ (x : Connection). x.stage) its) ∙ stage))
+then_so node one two three (goes_on b c was lasts is more) (stays again) = goes_on b c was lasts (again ∙ is) more
+then_so node one two three (goes_on b c was lasts is more) (has_ended d e was_then asked is_then stage count) =
     let its : c ≡ d = same_connection (sym is ∙ was_then) in
-    goes_on b e was open is_then (omega (arith, more, count, ap (λ (x : Connection). x.answered) its))
-then_so node one two three (goes_on b c was open is more) (goes_on d e was_then open_then is_then more_then) =
+    goes_on b e was lasts is_then (omega (arith, more, count, ap (λ (x : Connection). x.answered) its))
+then_so node one two three (goes_on b c was lasts is more) (goes_on d e was_then open_then is_then more_then) =
     let its : c ≡ d = same_connection (sym is ∙ was_then) in
-    goes_on b e was open is_then (omega (arith, more, more_then, ap (λ (x : Connection). x.answered) its))
+    goes_on b e was lasts is_then (omega (arith, more, more_then, ap (λ (x : Connection). x.answered) its))
 
 -- ---- one connection
 
@@ -75,9 +75,9 @@ data TurnsSo (node : List ℕ) (c : Connection) (turned : Turned) : Type 0 where
 module _ (front : Front) (node : List ℕ) (conn : ℕ) (c : Connection) where
   refused_so : (tag : Tag) (refused : Refused) → c.stage ≢ Ended
       → TurnsSo node c (refused_behind front.setting (ways_of front) conn c tag refused front.master)
-  refused_so tag refused open =
+  refused_so tag refused lasts =
       let session : Connection = record c { session = refused.session } in
-      reads_on open (omega (arith, (inputs_so (ways_of front) conn front.setting (reading_again session) c.waiting refl).more))
+      reads_on lasts (omega (arith, (inputs_so (ways_of front) conn front.setting (reading_again session) c.waiting refl).more))
 
   at_so : (tag : Tag) (it : Waiting) (at : At) → c.stage ≡ Waits tag it → it.at ≡ at → waits_at front.master at node ≡ true
       → TurnsSo node c (ends_at front.setting (ways_of front) conn c tag it at)
@@ -104,8 +104,8 @@ module _ (front : Front) (node : List ℕ) (conn : ℕ) (c : Connection) where
         has_ended c (released turned.connection) (ap (connection_at front) e ∙ there) asked (ap (connection_at now) e ∙ its)
         (ap (λ s. (released_at turned.connection s).stage) ended ∙ released_end turned.connection)
         (released_count turned.connection turned.connection.stage ∙ count)
-    own_so (reads_on open more) other e =
-        goes_on c (released turned.connection) (ap (connection_at front) e ∙ there) open (ap (connection_at now) e ∙ its)
+    own_so (reads_on lasts more) other e =
+        goes_on c (released turned.connection) (ap (connection_at front) e ∙ there) lasts (ap (connection_at now) e ∙ its)
         (omega (arith, more, released_count turned.connection turned.connection.stage))
 
     turned_so : TurnsSo node c turned → (other : ℕ) → EndsOrGoes node (connection_at front other) (connection_at now other)

@@ -121,7 +121,8 @@ module _ (taken : Option LinkMsg) (ways : Ways) (conn : ℕ) where
   fit_kept : (setting : Setting) (c : Connection) (inputs : List Input) (out : Out) → Fits c out → Fits (inputs_come setting ways conn c inputs).connection out
   fit_kept setting c inputs (Link node (Line bytes)) fits =
       subst (λ (t : Turned). Fits t.connection (Link node (Line bytes)))
-      (sym (held_back setting ways conn c inputs (holds_back c.stage (next_of conn c) fits.needed))) fits
+      (sym (held_back setting ways conn c inputs (holds_back c.stage (next_of conn c) fits.needed)))
+      (record { to = fits.to; is = fits.is; needed = fits.needed; up = fits.up })
   fit_kept setting c inputs out fits = tt
 
   all_kept : (setting : Setting) (c : Connection) (inputs : List Input) (outs : List Out) → AllFit c outs

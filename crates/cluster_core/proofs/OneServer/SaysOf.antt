@@ -116,8 +116,8 @@ module _ (config : Config) (heard : ℕ → Heard) (world : World) (law : KeepsL
 
   none_awaited : (node server : List ℕ) (front : Front) (conn : ℕ) → front_at world node ≡ Some front → is_broken world.broken server node ≡ true
       → awaited (master_of config) (connection_at front conn) server ≡ true → ⊥
-  none_awaited node server front conn at cut waits =
-      none_down (on_link world.links server node) (is_up front.ups server) (empty server node) (links.waits_up node server front conn at waits)
+  none_awaited node server front conn at cut awaiting =
+      none_down (on_link world.links server node) (is_up front.ups server) (empty server node) (links.waits_up node server front conn at awaiting)
       (links.down node server front at cut)
 
   -- its frontend waits for the answer of the server to which it was dropped
@@ -179,8 +179,8 @@ module _ (config : Config) (heard : ℕ → Heard) (world : World) (law : KeepsL
   module _ (node : List ℕ) (front : Front) (conn : ℕ) (connection : Connection) (at : IsAt world conn node front connection) where
     -- nobody waits over a broken link
     waits_over : (server : List ℕ) → is_broken world.broken server node ≡ true → awaited (master_of config) (Some connection) server ≡ true → ⊥
-    waits_over server cut waits =
-        none_awaited node server front conn at.at cut (ap (λ found. awaited (master_of config) found server) at.has ∙ waits)
+    waits_over server cut awaiting =
+        none_awaited node server front conn at.at cut (ap (λ found. awaited (master_of config) found server) at.has ∙ awaiting)
 
     no_waiting : (inputs : List Input) (held : Option (List ℕ)) (told said : List Answer) (session : Sess) (here : Place)
         → IsDroppedAt (master_of config) world node here

@@ -8,6 +8,7 @@ use Rattle.imap_talk.specs.Heard.{Heard}
 use Rattle.imap_talk.specs.Transcript.{Stop}
 use Rattle.link_msg.specs.declared.message.LinkMsg.{LinkMsg}
 use Rattle.link_msg.specs.declared.message.LinkMsg.TheVariants.{Line}
+use Rattle.link_queue.proofs.Placed.{Carried}
 use Rattle.link_queue.specs.Links.{on_link}
 use Rattle.many_links.specs.Murder.{Murder}
 use Rattle.mupdate_codec.specs.Asks.{line_ask}
@@ -35,10 +36,13 @@ module _ (config : Config) (heard : ℕ → Heard) (world : World) (law : KeepsL
   abbrev IsOn : Type 0
   IsOn = is_over id.command message ≡ false
 
+  none_some : (it : Carried LinkMsg) → None ≡ Some it → IsOn
+  none_some it e = absurd (let no : None ≡ Some it = e in cc)
+
   none_first : (from to : List ℕ) → on_link world.links from to ≡ message ∷ rest → IsPlaced 0 (of_connection conn) world.links None → IsOn
   none_first from to first placed =
       let found = (first_of 0 world.links from to message rest (of_connection conn) None first own (none_over message) placed).0 in
-      (let no : None ≡ Some (record { from = from; to = to; message = message }) = found in cc)
+      none_some (record { from = from; to = to; message = message }) found
 
   on_by : (from to : List ℕ) → on_link world.links from to ≡ message ∷ rest → ((node : List ℕ) (replica : Replica) (here : Place) → IsIn murder node replica id here → IsOn)
       → (stop : Stop) (was : Heard) → ConnectionIs (fixed_of config) conn world law.story stop was → IsOn

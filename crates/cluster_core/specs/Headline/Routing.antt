@@ -32,6 +32,7 @@ use Rattle.mur_model.specs.History.{Talk, numbered}
 use Rattle.node_record.specs.Table.{is_mailbox_if, record_at}
 use Rattle.schedule_text.specs.declared.event.Event.{Event}
 use Rattle.schedule_text.specs.declared.event.Event.TheVariants.{Deliver}
+use Rattle.cluster_core.specs.declared.world.World.{World}
 use Rattle.cluster_core.specs.Headline.Backends.{IsBackend}
 use Rattle.cluster_core.specs.World.{master_of, client_at, front_at, start}
 use Rattle.cluster_core.specs.declared.world.World.{World}
