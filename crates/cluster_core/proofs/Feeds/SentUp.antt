@@ -18,8 +18,9 @@ use Rattle.feed_links.proofs.FeedLaw.{both}
 use Rattle.feed_links.proofs.Names.{other_name}
 use Rattle.front_core.specs.Answered.{answer_by, answer_comes, by_then, clears_at, end_by, ends_at, goes_on_by, need_behind, ok_by, ok_comes, reading_again}
 use Rattle.front_core.specs.Answered.{refused_behind, sends_if, waiting_come}
+use Rattle.front_core.proofs.AskOrder.{outs_all}
 use Rattle.front_core.specs.Front.{Stepped, all_end, answer_at, answer_from, awaited, bytes_by, bytes_in, connect, connect_at, connection_at, deliver, end_at, end_from, end_if}
-use Rattle.front_core.specs.Front.{front_bytes_at, front_hang_at, hang, having_read, line_by, line_from, ok_at, one_ends, still, up_from, waits_for, ways_of, with_up, without_up}
+use Rattle.front_core.specs.Front.{front_bytes_at, front_hang_at, hang, having_read, line_by, line_from, ok_at, one_ends, still, up_from, waits_for, with_asks_in_order, ways_of, with_up, without_up}
 use Rattle.front_core.specs.Reading.{inputs_of_more}
 use Rattle.front_core.specs.Taken.{Turned, Ways, answers_last, asks, begins_if, comes_at, input_comes, input_in, inputs_come, list_refused, lists_if, next_of, request_in}
 use Rattle.front_core.specs.Taken.{to_begin, told_now, turned_by_need}
@@ -333,6 +334,10 @@ up_by front from false ne e =
     (stays_up (with_up front from))
 up_by front from true ne e = cc
 
+-- with its asks in their order
+ordered_up : (ups : Ups) (next : Stepped) → SendsUp ups next → SendsUp ups (with_asks_in_order next)
+ordered_up ups next sends = record { same = sends.same; sent = outs_all (IsSentUp ups) next.outs sends.sent }
+
 -- a message of another node
 pub others_keep_link : (front : Front) (from : List ℕ) (message : LinkMsg) → from ≢ front.master → KeepsLink front.master front (deliver front from message)
 unfolding deliver
@@ -343,5 +348,6 @@ others_keep_link front from (Line bytes) ne = line_keeps_link front.master front
 others_keep_link front from Up ne = up_by front from (pointwise nat_eq from front.master) ne (other_name from front.master ne)
 others_keep_link front from End ne =
     keeps_link front.master front (going_down front.ups from) (end_from (without_up front from) from) (others_going front.ups from front.master (λ s. ne (sym s)))
-    (all_end_up (without_up front from) from (keys_of front.connections))
+    (ordered_up (going_down front.ups from) (all_end (without_up front from) from (keys_of front.connections))
+    (all_end_up (without_up front from) from (keys_of front.connections)))
 others_keep_link front from (Ask ask) ne = keeps_link front.master front front.ups (still front) refl (stays_up front)
