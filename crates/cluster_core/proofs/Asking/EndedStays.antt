@@ -4,7 +4,7 @@ use Rattle.std.specs.Ordering.{nat_cmp}
 use Rattle.std.specs.Cmp.Lexicographic.{pointwise}
 use Rattle.std.proofs.Math.Logic.{⊎_elim}
 use Rattle.ask_routes.specs.Barrier.{barrier_answered}
-use Rattle.front_core.specs.Answered.{ok_by, ok_comes}
+use Rattle.front_core.specs.Answered.{answer_comes, ok_by, ok_comes}
 use Rattle.front_core.specs.Ended.{released, released_at}
 use Rattle.front_core.specs.Front.{answer_at, answer_from, bytes_by, bytes_in, connect, connect_at, connection_at, deliver, end_from, front_bytes_at, front_hang_at}
 use Rattle.front_core.specs.Front.{hang, having_read, hung_up, line_by, line_from, ok_at, up_from, waits_for, ways_of, with_turned, with_up, without_up}
@@ -80,7 +80,10 @@ module _ (front : Front) (conn : ℕ) (c : Connection) (there : connection_at fr
   read_so : (other : ℕ) (bytes : List ℕ) (found : Connection) → connection_at front other ≡ Some found → found.stage ≢ Ended
       → StaysEnded (with_turned front other
       (inputs_come front.setting (ways_of front) other (having_read front.setting found bytes) (inputs_of_more front.setting found.reader bytes))).front
-  read_so other bytes found at lasts = a_turn other found at _ (λ e. absurd (lasts e))
+  read_so other bytes found at lasts =
+      a_turn other found at
+      (inputs_come front.setting (ways_of front) other (having_read front.setting found bytes) (inputs_of_more front.setting found.reader bytes))
+      (λ e. absurd (lasts e))
 
   bytes_by_so : (other : ℕ) (bytes : List ℕ) (found : Connection) (stage : Stage) → found.stage ≡ stage → connection_at front other ≡ Some found
       → StaysEnded (bytes_by front other bytes found stage).front
@@ -108,7 +111,9 @@ module _ (front : Front) (conn : ℕ) (c : Connection) (there : connection_at fr
       → StaysEnded (answer_at front answer found).front
   unfolding answer_at waits_for
   answer_at_so from answer None waits at = kept front refl
-  answer_at_so from answer (Some found) waits at = a_turn (answer.id).conn found at _ (λ e. absurd (not_asked found.stage from e waits))
+  answer_at_so from answer (Some found) waits at =
+      a_turn (answer.id).conn found at (answer_comes front.setting (ways_of front) (answer.id).conn found answer)
+      (λ e. absurd (not_asked found.stage from e waits))
 
   answer_so : (from : List ℕ) (answer : BackAnswer) (is_its : Bool) → waits_for (connection_at front (answer.id).conn) from ≡ is_its
       → StaysEnded (answer_from is_its front answer).front
@@ -138,7 +143,7 @@ module _ (front : Front) (conn : ℕ) (c : Connection) (there : connection_at fr
   ok_at_so : (id : AskId) (found : Option Connection) → connection_at front id.conn ≡ found → StaysEnded (ok_at front id found).front
   unfolding ok_at
   ok_at_so id None at = kept front refl
-  ok_at_so id (Some found) at = a_turn id.conn found at _ (ok_comes_still id.conn found id)
+  ok_at_so id (Some found) at = a_turn id.conn found at (ok_comes front.setting (ways_of front) id.conn found id) (ok_comes_still id.conn found id)
 
   line_by_so : (bytes : List ℕ) (found : Option AskId) → StaysEnded (line_by front bytes found).front
   line_by_so bytes None = kept (line_by front bytes None).front refl

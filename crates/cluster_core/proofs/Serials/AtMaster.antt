@@ -229,7 +229,8 @@ module _ (config : Config) (heard : ℕ → Heard) (world : World) (law : KeepsL
               nobodys = law.feeds.nobodys;
               first = record { rest = rest; first = ap (on_link world.links from) law.nodes.me ∙ first };
             }) there
-            (is_fed_front config world law.master law.nodes law.feeds tells.node tells.front id (tells.at).at numbered) whose server
+            (is_fed_front config world law.master law.nodes law.feeds tells.node tells.front id (tells.at).at numbered) whose
+            (up_is_on config heard world law from node there message rest conn whose first) server
             (in_murder fixed world law.master law.nodes.me tells.node (tells.front).replica id sending placed)).1
 
         abbrev reply : Reply

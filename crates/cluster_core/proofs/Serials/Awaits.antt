@@ -87,11 +87,11 @@ module _ (master : List ℕ) (world : World) (conn : ℕ) (is : AwaitsMaster mas
 -- one that reads, or has ended, waits for nothing
 pub ended_awaits : (master : List ℕ) (stage : Stage) → stage ≡ Ended → awaits master stage master ≡ true → ⊥
 unfolding awaits
-ended_awaits master stage is waits = (let no : false ≡ true = sym (ap (λ s. awaits master s master) is) ∙ waits in cc)
+ended_awaits master stage is waiting = (let no : false ≡ true = sym (ap (λ s. awaits master s master) is) ∙ waiting in cc)
 
 reading_awaits : (master : List ℕ) (stage : Stage) → stage ≡ Reading → awaits master stage master ≡ true → ⊥
 unfolding awaits
-reading_awaits master stage is waits = (let no : false ≡ true = sym (ap (λ s. awaits master s master) is) ∙ waits in cc)
+reading_awaits master stage is waiting = (let no : false ≡ true = sym (ap (λ s. awaits master s master) is) ∙ waiting in cc)
 
 -- ---- its place
 
@@ -131,7 +131,7 @@ module _ (config : Config) (heard : ℕ → Heard) (world : World) (law : KeepsL
 
   -- it waits for no backend
   not_home : (asked server : List ℕ) (node : BackNode) → pointwise nat_eq asked name ≡ true → Home asked ≡ Home server → home_at world server ≡ Some node → ⊥
-  not_home asked server node waits same there = no_home server node there (sym (same_at same) ∙ same_text asked name (sym waits))
+  not_home asked server node its same there = no_home server node there (sym (same_at same) ∙ same_text asked name (sym its))
 
   at_barrier : (at : At) (here : Place) → waits_at name at name ≡ true → WaitsAt at here → IsThere (home_at world) here → (b : BarrierPlace) × (here ≡ place.is_barred b)
   at_barrier at place.nowhere w is there = absurd is

@@ -69,8 +69,8 @@ found_is a b message (Some it) among = by (same_link a b it.from it.to) refl amo
         ap (λ f. Some (record { from = f; to = it.to; message = it.message })) (sym at.0)
         ∙ ap (λ t. Some (record { from = a; to = t; message = it.message })) (sym at.1)
         ∙ ap (λ m. Some (record { from = a; to = b; message = m })) is
-    by true h (inr no) = absurd no
-    by false h no = absurd no
+    by true h (inr none) = absurd none
+    by false h none = absurd none
 
 -- what is left on a link was there
 left_among : (event : Event) (one other : List ℕ) (message : LinkMsg) (queue : List LinkMsg) → IsAmong message (leaves_on event one other queue)
@@ -78,7 +78,7 @@ left_among : (event : Event) (one other : List ℕ) (message : LinkMsg) (queue :
 left_among (Deliver from to) one other message queue among = by (same_link one other from to) queue among
   where
     by : (same : Bool) (queue : List LinkMsg) → IsAmong message (cond same (drop 1 queue) queue) → IsAmong message queue
-    by true [] no = no
+    by true [] none = none
     by true (first ∷ rest) later = inr later
     by false queue there = there
 left_among event one other message queue among = among
@@ -91,6 +91,9 @@ same_line e = cc
 
 same_id : {one other : AskId} → Some one ≡ Some other → one ≡ other
 same_id e = cc
+
+none_carried : (it : Carried LinkMsg) → None ≡ Some it → ⊥
+none_carried it e = cc
 
 -- ---- the OK of a command that isn't over is on its way to a frontend
 
@@ -131,7 +134,7 @@ module _ (config : Config) (heard : ℕ → Heard) (world : World) (law : KeepsL
 
   none_there : ((a b : List ℕ) → filter (is_about 0 (of_connection conn)) (on_link world.links a b) ≡ []) → ⊥
   none_there placed =
-      (let no : None ≡ Some (record { from = name; to = to; message = ok_of id }) = found_at 0 None (omega arith) placed in cc)
+      none_carried (record { from = name; to = to; message = ok_of id }) (found_at 0 None (omega arith) placed)
 
   -- its place, and its number
   record IsAtOk (here : Place) : Type 0 where
@@ -286,38 +289,38 @@ module _ (config : Config) (came then : ℕ → Heard) (world next : World) (eve
   -- ---- the OK is on its way behind the step
 
   module _ (table : MailboxTable) (answered : barred.here ≡ barrier.answered table) (same : node ≡ barred.node) where
-    abbrev name : List ℕ
-    name = master_of config
+    abbrev me : List ℕ
+    me = master_of config
 
     -- nor is the frontend the master
-    no_master : barred.node ≢ name
+    no_master : barred.node ≢ me
     no_master = ((law_next.nodes).fronts barred.node barred.front (barred.at).at).no_master
 
     placed : IsInPlaceOf (fixed_of config) next barred.node (barred.front).replica ok_id (place.is_barred (barrier.answered table))
     placed =
         subst (λ b. IsInPlaceOf (fixed_of config) next barred.node (barred.front).replica ok_id (place.is_barred b)) answered barred.placed
 
-    among_next : IsAmong (ok_of ok_id) (on_link next.links name barred.node)
+    among_next : IsAmong (ok_of ok_id) (on_link next.links me barred.node)
     among_next =
-        kept_among (is_about ok_id.command (of_connection conn)) (ok_of ok_id) (on_link next.links name barred.node)
-        (subst (IsAmong (ok_of ok_id)) (sym (placed.message name barred.node))
-        (subst (λ b. IsAmong (ok_of ok_id) (cond b (ok_of ok_id ∷ []) [])) (sym (same_itself name barred.node)) (inl refl)))
+        kept_among (is_about ok_id.command (of_connection conn)) (ok_of ok_id) (on_link next.links me barred.node)
+        (subst (IsAmong (ok_of ok_id)) (sym (placed.message me barred.node))
+        (subst (λ b. IsAmong (ok_of ok_id) (cond b (ok_of ok_id ∷ []) [])) (sym (same_itself me barred.node)) (inl refl)))
 
-    among_world : IsAmong (ok_of ok_id) (on_link world.links name barred.node)
+    among_world : IsAmong (ok_of ok_id) (on_link world.links me barred.node)
     among_world =
-        left_among event name barred.node (ok_of ok_id) (on_link world.links name barred.node)
-        (subst (IsAmong (ok_of ok_id)) (works.stays name barred.node (λ e. no_master (sym same ∙ sym e))) among_next)
+        left_among event me barred.node (ok_of ok_id) (on_link world.links me barred.node)
+        (subst (IsAmong (ok_of ok_id)) (works.stays me barred.node (λ e. no_master (sym same ∙ sym e))) among_next)
 
     was_front : (front : Front) × (front_at world barred.node ≡ Some front)
     was_front =
         some_of (front_at world barred.node)
         ((law.nodes).frontends barred.node ∙ sym ((law_next.nodes).frontends barred.node) ∙ ap is_some (barred.at).at)
 
-    found : IsOkOf name world conn × (ok_id.command ≡ length (law.story.told conn) + 1)
+    found : IsOkOf me world conn × (ok_id.command ≡ length (law.story.told conn) + 1)
     found =
         is_ok config came world law conn barred.node was_front.0 was_front.1 ok_id ok_numbered refl (omega (arith, more)) among_world
 
-    waited_by : IsOkOf name world conn → AwaitsMaster name world conn
+    waited_by : IsOkOf me world conn → AwaitsMaster me world conn
     waited_by (awaits_it before) = before
     waited_by (has_gone at_node front connection at client ended) =
         let there : at_node ≡ barred.node =
@@ -325,7 +328,7 @@ module _ (config : Config) (came then : ℕ → Heard) (world next : World) (eve
         absurd (gone_then front connection (subst (λ n. IsAt world conn n front connection) (there ∙ sym same) at) ended same)
 
     -- ITS CONNECTION WAITED FOR IT BEFORE
-    pub waited : AwaitsMaster name world conn
+    pub waited : AwaitsMaster me world conn
     waited = waited_by found.0
 
     pub told_same : length (law_next.story.told conn) ≡ length (law.story.told conn)

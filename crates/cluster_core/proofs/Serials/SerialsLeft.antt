@@ -170,7 +170,7 @@ module _ (config : Config) (came : ℕ → Heard) (world : World) (quiet : World
       abbrev IsFew : Type 0
       IsFew = times conn reserved ≤ length (on.law.story.told conn)
 
-      barred_then : IsBarred (fixed_of config) conn next on.law.story
+      abbrev barred_then : IsBarred (fixed_of config) conn next on.law.story
       barred_then = is_barred_so config then next on.law conn awaiting
 
       -- it waited so before
@@ -237,7 +237,7 @@ module _ (config : Config) (came : ℕ → Heard) (world : World) (quiet : World
         } in
         replied (omega (arith, none_counted conn awaiting, ap length is.said))
 
-    pub step_on : HasCounted config next on.law.story
+    step_on : HasCounted config next on.law.story
     step_on = record {
       reserved = reserved;
       few = subst (λ (w : World). last_serial config w ≤ length reserved) (sym same) (more.1).few;
