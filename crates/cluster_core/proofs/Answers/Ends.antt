@@ -53,7 +53,7 @@ use Rattle.node_step.specs.declared.node.NodeState.TheVariants as state
 use Rattle.node_step.proofs.NodeKinds.{front_is}
 use Rattle.cluster_core.specs.declared.world.Client.{Client}
 use Rattle.cluster_core.specs.declared.world.World.{World}
-use Rattle.cluster_core.specs.World.{carry_all, client_at, front_at, home_at, master_of, node_at, setting_of, taken_from_link}
+use Rattle.cluster_core.specs.World.{carry_all, client_at, front_at, master_of, node_at, setting_of, taken_from_link}
 use Rattle.std.proofs.lemmas.Option.{same_Some}
 use Rattle.cluster_core.proofs.Commands.Place.{Place, Place as place}
 use Rattle.cluster_core.proofs.Commands.Released.{released_count, stands_last}

@@ -1,6 +1,6 @@
 -- A frontend takes whatever message comes to it first on a link, and the law is kept, where the names and the feeds are; one that tells of its link with the master is
 -- told of beside.
-use Rattle.std.proofs.Common.{◌≡◌, ◌≢◌, ◌⊎◌, inl, inr, ℕ, ◌+◌, Bool, List, [], ◌∷◌, length, Option, None, Some, refl, sym, ap, subst}
+use Rattle.std.proofs.Common.{◌≡◌, ◌≢◌, ◌⊎◌, inl, inr, ℕ, ◌+◌, Bool, List, [], ◌∷◌, length, Option, None, Some, refl, sym, subst}
 use Rattle.std.proofs.Math.Logic.{⊎_elim}
 use Rattle.ask_routes.specs.Barrier.{barrier_answered}
 use Rattle.cluster_core.specs.Numbers.{NumbersFit}

@@ -1,5 +1,5 @@
 -- A frontend takes the OK of a command that is over: it changes nothing, and each command is where it was.
-use Rattle.std.proofs.Common.{◌≡◌, ◌≢◌, ◌⊎◌, inl, inr, ℕ, ◌+◌, ◌≤◌, nat_eq, Bool, true, false, List, ◌∷◌, length, Option, None, Some, refl, sym, ◌∙◌, ap, subst, arith}
+use Rattle.std.proofs.Common.{◌≡◌, ◌≢◌, ◌⊎◌, inl, inr, ℕ, ◌+◌, nat_eq, true, false, List, length, Option, None, Some, refl, sym, ◌∙◌, ap, subst, arith}
 use Rattle.std.proofs.Math.Logic.{⊎_elim}
 use Rattle.std.proofs.lemmas.Bool.Decides.{nat_tests}
 use Rattle.std.proofs.lemmas.Cmp.{nat_list_eq_equiv}
@@ -21,9 +21,7 @@ use Rattle.imap_talk.specs.Transcript.{Stop}
 use Rattle.imap_talk.specs.Transcript.Stop.{is_lost}
 use Rattle.imap_talk.specs.declared.inputs.Input.{Input}
 use Rattle.imap_wire.specs.Frames.{begun}
-use Rattle.link_msg.specs.declared.message.LinkMsg.{LinkMsg}
 use Rattle.link_msg.specs.declared.message.LinkMsg.TheVariants.{Line}
-use Rattle.link_queue.specs.Links.{on_link}
 use Rattle.many_links.specs.ManyHold.{ManyHold}
 use Rattle.mark_history.specs.Marked.{talk_told}
 use Rattle.mur_base.proofs.MapLaws.{numbers_apart, value_at-with_value, value_at-with_value-other}

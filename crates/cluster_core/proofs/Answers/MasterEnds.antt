@@ -1,6 +1,6 @@
 -- A frontend is told that its link with the master has ended. Nothing more is on its way from the master then, so each connection that awaits it isn't decided: its
 -- client is told that the master isn't reached, one connection after another, and all others stay.
-use Rattle.std.proofs.Common.{◌≡◌, ◌≢◌, inl, inr, ℕ, ◌+◌, ◌<◌, ◌^◌, ◌≤◌, Bool, true, false, List, [], ◌∷◌, ◌++◌, length, Option, None, Some, refl, sym, ◌∙◌, ap, subst, append-nil, arith}
+use Rattle.std.proofs.Common.{◌≡◌, ◌≢◌, inr, ℕ, ◌+◌, ◌<◌, ◌^◌, ◌≤◌, Bool, true, false, List, [], ◌∷◌, ◌++◌, length, Option, None, Some, refl, sym, ◌∙◌, ap, subst, append-nil, arith}
 use Rattle.std.proofs.Math.Logic.{⊎_elim}
 use Rattle.std.proofs.lemmas.Bool.{cases_eq}
 use Rattle.std.proofs.lemmas.Option.{same_Some}
@@ -20,7 +20,7 @@ use Rattle.front_core.specs.Ended.{released}
 use Rattle.front_core.specs.Front.{Stepped, all_end, awaited, connection_at, deliver, end_at, end_if, one_ends, still, with_turned, without_up, ways_of}
 use Rattle.front_core.specs.Stages.{awaits}
 use Rattle.front_core.specs.Taken.{Turned, Ways, list_refused}
-use Rattle.front_core.specs.Ups.{Ups, going_down, is_up}
+use Rattle.front_core.specs.Ups.{going_down, is_up}
 use Rattle.front_core.specs.declared.connection.Connection.{Connection}
 use Rattle.front_core.specs.declared.connection.Stage.{Stage}
 use Rattle.front_core.specs.declared.connection.Stage.TheVariants.{Reading, Waits, Lists as lists_names, Ended}
@@ -58,7 +58,7 @@ use Rattle.cluster_core.proofs.Answers.EndOrder.{in_order_keeps}
 use Rattle.cluster_core.proofs.Answers.Ends.{OwnsClients, front_twice, kept_then}
 use Rattle.cluster_core.proofs.Answers.GoesOn.{StandsSo}
 use Rattle.cluster_core.proofs.Answers.Keeps.{before_by, frontend_of, numbers_of}
-use Rattle.cluster_core.proofs.Answers.MasterRefuses.{none_in_middle, refuses_stands}
+use Rattle.cluster_core.proofs.Answers.MasterRefuses.{refuses_stands}
 use Rattle.cluster_core.proofs.Answers.OtherMessages.{moved_keeps}
 use Rattle.cluster_core.proofs.Answers.OwnFeed.{fed_as, moved_homes, own_feeds, parted_with}
 use Rattle.cluster_core.proofs.Answers.Readers.{end_reader}
@@ -67,7 +67,7 @@ use Rattle.cluster_core.proofs.Commands.Standing.{Fixed, HasBegunSo}
 use Rattle.cluster_core.proofs.Connections.ConnectionLaw.{IsStanding, PlacesStay}
 use Rattle.cluster_core.proofs.Connections.FrameLaw.{ways_for}
 use Rattle.cluster_core.proofs.Connections.KeepsData.{standing_released}
-use Rattle.cluster_core.proofs.Connections.KeepsFront.{front_keeps, is_at_after, replicas_stay, standing_after, turned_so, with_connection, world_after}
+use Rattle.cluster_core.proofs.Connections.KeepsFront.{front_keeps, is_at_after, replicas_stay, standing_after, turned_so, with_connection}
 use Rattle.cluster_core.proofs.Connections.KeepsLaw.{ConnectionIs, FeedsHold, IsAt, KeepsLaw, KeepsOn, KnowsBackends, fixed_of}
 use Rattle.cluster_core.proofs.Connections.KeepsLaw.ConnectionIs.{is_nobody, is_elsewhere, is_open, is_cut_off, is_closed}
 use Rattle.cluster_core.proofs.Connections.KeepsStill.{put_kept}

@@ -1,6 +1,6 @@
 -- The link with the master ended while a command of an open connection waited for the master's OK: its client is told that the master isn't reached, and the inputs
 -- that waited come.
-use Rattle.std.proofs.Common.{◌≡◌, ◌≢◌, ℕ, ◌+◌, ◌<◌, ◌^◌, nat_eq, Bool, true, false, List, [], ◌∷◌, ◌++◌, length, Option, None, Some, refl, sym, ◌∙◌, ap, subst, length-append, arith}
+use Rattle.std.proofs.Common.{◌≡◌, ◌≢◌, ℕ, ◌+◌, ◌<◌, ◌^◌, true, List, [], ◌∷◌, ◌++◌, length, Option, None, Some, refl, sym, ◌∙◌, ap, subst, length-append, arith}
 use Rattle.std.specs.Cmp.Lexicographic.{same_text}
 use Rattle.ask_routes.specs.declared.next.Why.{Why}
 use Rattle.asking_core.specs.declared.waiting.At.{At}

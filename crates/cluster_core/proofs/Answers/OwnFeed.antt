@@ -1,11 +1,10 @@
 -- The feeds behind a step of a frontend that says how its own feed stands: those of others are as they were.
-use Rattle.std.proofs.Common.{◌≡◌, ◌≢◌, ℕ, Bool, true, false, is_some, List, [], ◌∷◌, ◌++◌, Some, refl, sym, ◌∙◌, ap, subst, append_assoc}
+use Rattle.std.proofs.Common.{◌≡◌, ◌≢◌, ℕ, Bool, true, false, is_some, List, [], ◌∷◌, ◌++◌, Some, refl, sym, ◌∙◌, ap, subst}
 use Rattle.std.proofs.Math.Logic.{⊎_elim}
 use Rattle.std.proofs.lemmas.Option.{same_Some}
-use Rattle.std.specs.List.{AllByRecursion}
 use Rattle.feed_core.specs.declared.replica.Replica.{Replica}
 use Rattle.feed_links.proofs.FeedLaw.{both}
-use Rattle.feed_links.specs.OneFeed.{AreFrontsOwn, AreNoops, IsFed, IsFrontsOwn, IsNoop}
+use Rattle.feed_links.specs.OneFeed.{AreFrontsOwn, AreNoops, IsFed, IsFrontsOwn}
 use Rattle.feed_links.specs.OneFeed.IsFed.{asks, is_told, comes_up, breaks_early, is_parted}
 use Rattle.feed_links.specs.OneFeed.IsFrontsOwn.{its_noop}
 use Rattle.front_core.specs.Ups.{is_up}

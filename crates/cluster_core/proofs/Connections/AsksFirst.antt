@@ -1,5 +1,5 @@
 -- Whom a frontend asks first for a command: a backend, by the record of the name or by that of the nearest name above; or the master.
-use Rattle.std.proofs.Common.{◌≡◌, ◌≢◌, ℕ, false, List, [], Option, None, Some, refl, sym, ◌∙◌, ap}
+use Rattle.std.proofs.Common.{◌≡◌, ◌≢◌, ℕ, false, List, [], Option, None, Some, refl, ap}
 use Rattle.std.specs.Option.{IsSome}
 use Rattle.ask_routes.specs.Ways.{ask_for, first_step, mailbox_first}
 use Rattle.ask_routes.specs.declared.next.Why.{Why}

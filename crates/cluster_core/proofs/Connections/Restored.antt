@@ -1,5 +1,5 @@
 -- What can be taken back of a connection still can where what it held is let go, since it has ended: then no OK is on its way to it.
-use Rattle.std.proofs.Common.{◌≡◌, ℕ, List, Option, sym, ap, subst}
+use Rattle.std.proofs.Common.{ℕ, List, Option, sym, ap, subst}
 use Rattle.front_core.specs.declared.connection.Connection.{Connection}
 use Rattle.front_core.specs.Ended.{released, released_at}
 use Rattle.imap_talk.specs.declared.inputs.Input.{Input}

@@ -1,5 +1,5 @@
 -- WHAT COMES TO A FRONTEND KEEPS THE LAW, where a server that an answer names is a backend.
-use Rattle.std.proofs.Common.{◌≡◌, ◌≢◌, inl, inr, ℕ, ◌<◌, ◌^◌, Bool, true, false, is_some, nat_eq, List, [], ◌∷◌, length, Option, None, Some, refl, sym, ◌∙◌, ap, subst}
+use Rattle.std.proofs.Common.{◌≡◌, ◌≢◌, inl, inr, ℕ, ◌<◌, ◌^◌, Bool, true, false, is_some, nat_eq, List, [], ◌∷◌, length, Option, Some, refl, sym, ◌∙◌, ap, subst}
 use Rattle.std.proofs.Math.Logic.{⊎_elim}
 use Rattle.std.specs.Cmp.Lexicographic.{pointwise}
 use Rattle.std.specs.List.{AllByRecursion}

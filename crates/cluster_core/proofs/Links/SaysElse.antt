@@ -15,7 +15,7 @@ use Rattle.link_msg.specs.declared.out.Out.{Out}
 use Rattle.link_msg.specs.declared.out.Out.TheVariants.{Client as to_client, Close, Link as to_node, Mark as mark, Told as tell}
 use Rattle.master_core.proofs.OutsideAlone.{bytes_alone, connects_alone}
 use Rattle.master_core.specs.Changes.{change_line, change_outs, node_told, watcher_told}
-use Rattle.master_core.specs.Linked.{node_says, sender_by, sender_of}
+use Rattle.master_core.specs.Linked.{node_says, sender_of}
 use Rattle.master_core.specs.Replies.{bad_reply, reply_to}
 use Rattle.master_core.specs.Step.{Planned, bad_step, line_step, replied}
 use Rattle.master_core.specs.Streams.{stream_step}
