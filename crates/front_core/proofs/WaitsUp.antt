@@ -1,5 +1,4 @@
--- A command waits for a server's answer, or for the master's OK, only while the link to that node is up: nothing is asked where the link isn't, and behind its
--- end nothing waits for it.
+-- A command waits for a server's answer, or for the master's OK, only while the link to that node is up: nothing is asked where the link isn't, and behind its end nothing waits for it.
 use Rattle.std.proofs.Common.{◌≡◌, ◌≢◌, ◌⊎◌, inl, inr, ℕ, nat_eq, Bool, true, false, cond, List, [], ◌∷◌, Option, None, Some, refl, sym, ◌∙◌, ap, subst}
 use Rattle.std.specs.Map.{keys_of}
 use Rattle.std.specs.Ordering.{nat_cmp, is_eq}
